@@ -1,0 +1,6 @@
+pub mod Judging
+pub mod Lines
+pub mod Product
+pub mod Run
+pub mod Words
+pub mod Writing

@@ -1,0 +1,6 @@
+pub mod Outside
+pub mod Entries
+pub mod Counts
+pub mod Calls
+pub mod Streams
+pub mod Host

@@ -1,0 +1,4 @@
+pub mod Literals
+pub mod Names
+pub mod Printed
+pub mod Steps

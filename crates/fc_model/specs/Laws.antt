@@ -1,0 +1,26 @@
+-- What the judgements as functions and the relations by cases have to do with each other.
+use Rattle.std.specs.Prelude.{◌≡◌, ◌↔◌, ℕ, true, List, Result, Ok}
+use Rattle.fc_syntax.specs.Tree.{Kind}
+use Rattle.fc_model.specs.Kinding.{HasHeadKind, head_kind_or_fault, same_type}
+use Rattle.fc_model.specs.Nameless.{NExpr, NModule, NTy}
+use Rattle.fc_model.specs.Typing.{Context, HasType, type_or_fault}
+
+-- the test for sameness of types is their equality
+abbrev pub SamenessIsEquality : Type 0
+SamenessIsEquality = (s t : NTy) → (same_type s t ≡ true) ↔ (s ≡ t)
+
+-- the function gives a kind exactly where the relation does
+abbrev pub KindsAreByCases : Type 0
+KindsAreByCases = (ms : List NModule) (ks : List Kind) (args : ℕ) (t : NTy) (k : Kind) → (head_kind_or_fault ms ks args t ≡ Ok k) ↔ HasHeadKind ms ks args t k
+
+-- a type has at most one kind
+abbrev pub KindsAreUnique : Type 0
+KindsAreUnique = (ms : List NModule) (ks : List Kind) (args : ℕ) (t : NTy) (j k : Kind) → HasHeadKind ms ks args t j → HasHeadKind ms ks args t k → j ≡ k
+
+-- the function gives a type exactly where the relation does
+abbrev pub TypesAreByCases : Type 0
+TypesAreByCases = (ms : List NModule) (c : Context) (e : NExpr) (t : NTy) → (type_or_fault ms c e ≡ Ok t) ↔ HasType ms c e t
+
+-- an expression has at most one type
+abbrev pub TypesAreUnique : Type 0
+TypesAreUnique = (ms : List NModule) (c : Context) (e : NExpr) (s t : NTy) → HasType ms c e s → HasType ms c e t → s ≡ t

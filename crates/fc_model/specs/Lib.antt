@@ -1,0 +1,13 @@
+pub mod Acceptance
+pub mod Canonical
+pub mod Faulting
+pub mod Headers
+pub mod Kinding
+pub mod Laws
+pub mod Linting
+pub mod Nameless
+pub mod ReadFaults
+pub mod Resolution
+pub mod Texts
+pub mod Typing
+pub mod Words

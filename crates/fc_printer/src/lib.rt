@@ -1,0 +1,26 @@
+//! Prints modules in their canonical text.
+#![tactic(auto)]
+
+mod header;
+
+ghost use Rattle.std.specs.Prelude.{◌≡◌, IfOk};
+ghost use Rattle.fc_syntax.specs.View.{module_of};
+ghost use Rattle.fc_model.specs.Canonical.{IsBuilt, IsFormed, canonical};
+ghost use Rattle.fc_model.specs.Texts.{Spells};
+
+use fc_syntax::{Memory, Module};
+pub use header::put_header;
+use std::alloc::Global;
+
+/// The canonical text of a module, which reads back to the module where each of its words is one of its form.
+pub fn print_module(alloc: Global, m: &Module) -> Result<Vec<u8>, Memory>
+    requires { IsBuilt (module_of m.now) }
+    ensures text { IfOk result (λ v. v.items ≡ canonical (module_of m.now)) }
+    ensures reads_back { IfOk result (λ v. IsFormed (module_of m.now) → Spells v.items (module_of m.now)) }
+{
+    let mut text = Vec::new(alloc);
+    text.extend_from_slice(b"(module ")?;
+    put_header(&mut text, m)?;
+    text.extend_from_slice(b")\n")?;
+    Ok(text)
+}

@@ -1,0 +1,9 @@
+pub mod Ascii
+pub mod Ends
+pub mod Follow
+pub mod Formed
+pub mod Forms
+pub mod Laws
+pub mod One
+pub mod Readings
+pub mod Viable

@@ -1,0 +1,212 @@
+-- What the machine has taken can always be gone on with to a text of the grammar.
+use Rattle.std.proofs.Common.{◌≡◌, ℕ, Bool, true, false, List, [], ◌∷◌, ◌++◌, codes, length, Option, Some, None, if◌then◌else◌, refl, sym, ap, ◌∙◌, append_assoc}
+use Rattle.std.specs.Prelude.{IfSome}
+use Rattle.fc_syntax.specs.Tree.{Word, Decl, Module, ModuleOf}
+use Rattle.fc_syntax.specs.Tokens.{is_module_part}
+use Rattle.fc_model.specs.declared.keyword.Keyword.TheVariants as word
+use Rattle.fc_model.specs.Words.{Tok, Open, Close, Key, Lower, Upper}
+use Rattle.fc_model.specs.Texts.{NamesAt, names_end, names_lower, names_upper, DeclsAt, decls_end, BodyAt, body_hidden, body_plain, ModuleAt, module_at}
+use Rattle.fc_model.specs.ReadFaults.{Begins, CannotGoOn}
+use Rattle.fc_reader.specs.Machine.{Want, AModule, AModuleWord, AModuleName, AnImportsWord, AnExportsWord, AName, Names, Body, ABodyForm, Decls, AnOpen, AClose, next, next_name, then_want, stuck}
+use Rattle.fc_reader.specs.Places.{FirstBad}
+use Rattle.fc_reader.specs.Reading.{IsName}
+use Rattle.fc_reader.proofs.Forms.{Token, token}
+use Rattle.fc_reader.proofs.Follow.{module_taken, stuck_on}
+
+pub data Nothing : List Tok → List Tok → Type 0 where
+  nothing : {ts : List Tok} → Nothing ts ts
+
+-- the tokens `ts` begin with what is wanted, and `rest` follows
+abbrev pub Is : Want → List Tok → List Tok → Type 0
+Is AModule ts rest = (m : Module) × ModuleAt ts m rest
+Is AModuleWord ts rest = Token (Key word.Module) ts rest
+Is AModuleName ts rest = (m : Word) × (is_module_part m ≡ true) × Token (Upper m) ts rest
+Is AnImportsWord ts rest = Token (Key word.Imports) ts rest
+Is AnExportsWord ts rest = Token (Key word.Exports) ts rest
+Is AName ts rest = (n : Word) × IsName ts n rest
+Is Names ts rest = (ns : List Word) × NamesAt ts ns rest
+Is Body ts rest = (ns : List Word) × (ds : List Decl) × BodyAt ts ns ds rest
+Is ABodyForm ts rest = (ns : List Word) × (ds : List Decl) × BodyAt (Open ∷ ts) ns ds rest
+Is Decls ts rest = (ds : List Decl) × DeclsAt ts ds rest
+Is AnOpen ts rest = Token Open ts rest
+Is AClose ts rest = Token Close ts rest
+
+abbrev pub Are : List Want → List Tok → List Tok → Type 0
+Are [] ts rest = Nothing ts rest
+Are (w ∷ ws) ts rest = (us : List Tok) × Is w ts us × Are ws us rest
+
+-- what a token leaves to want, and the token before it
+abbrev pub Back : Want → Tok → List Want → Type 0
+Back w t ws = (ts rest : List Tok) → Are ws ts rest → Is w (t ∷ ts) rest
+
+module_back : Back AModule Open (AModuleWord ∷ AModuleName ∷ AnOpen ∷ AnImportsWord ∷ AClose ∷ AnOpen ∷ AnExportsWord ∷ Names ∷ Body ∷ [])
+module_back ts rest (_, token, (_, (m, p, token), (_, token, (_, token, (_, token, (_, token, (_, token, (us, (ns, n), (_, (hs, ds, b), nothing))))))))) = (ModuleOf m [] ns hs ds, module_at p n b)
+
+module_word_back : Back AModuleWord (Key word.Module) []
+module_word_back ts _ nothing = token
+
+module_name_back : (w : Word) (b : Bool) → is_module_part w ≡ b → IfSome (if b then Some [] else None) (Back AModuleName (Upper w))
+module_name_back w true e = λ ts rest d. named w e ts rest d where
+  named : (w : Word) → is_module_part w ≡ true → Back AModuleName (Upper w) []
+  named w e ts _ nothing = (w, e, token)
+module_name_back w false e = tt
+
+imports_word_back : Back AnImportsWord (Key word.Imports) []
+imports_word_back ts _ nothing = token
+
+exports_word_back : Back AnExportsWord (Key word.Exports) []
+exports_word_back ts _ nothing = token
+
+lower_back : (w : Word) → Back AName (Lower w) []
+lower_back w ts _ nothing = (w, λ ns rest d. names_lower d)
+
+upper_back : (w : Word) → Back AName (Upper w) []
+upper_back w ts _ nothing = (w, λ ns rest d. names_upper d)
+
+names_end_back : Back Names Close []
+names_end_back ts _ nothing = ([], names_end)
+
+body_end_back : Back Body Close []
+body_end_back ts _ nothing = ([], [], body_plain decls_end)
+
+body_back : Back Body Open (ABodyForm ∷ [])
+body_back ts rest (_, d, nothing) = d
+
+hidden_back : Back ABodyForm (Key word.Hidden) (Names ∷ Decls ∷ [])
+hidden_back ts rest (us, (ns, n), (_, (ds, d), nothing)) = (ns, ds, body_hidden n d)
+
+decls_end_back : Back Decls Close []
+decls_end_back ts _ nothing = ([], decls_end)
+
+open_back : Back AnOpen Open []
+open_back ts _ nothing = token
+
+close_back : Back AClose Close []
+close_back ts _ nothing = token
+
+-- wants one after the other
+are_last : (ws : List Want) (w : Want) (ts rest : List Tok) → Are (ws ++ w ∷ []) ts rest → (us : List Tok) × Are ws ts us × Is w us rest
+are_last [] w ts _ (rest, d, nothing) = (ts, nothing, d)
+are_last (v ∷ ws) w ts rest (us, a, d) = let p = are_last ws w us rest d in (p.0, (us, a, p.1), p.2)
+
+are_both : (ws vs : List Want) (ts rest : List Tok) → Are (ws ++ vs) ts rest → (us : List Tok) × Are ws ts us × Are vs us rest
+are_both [] vs ts rest d = (ts, nothing, d)
+are_both (v ∷ ws) vs ts rest (us, a, d) = let p = are_both ws vs us rest d in (p.0, (us, a, p.1), p.2)
+
+-- a list goes on as its first member begins
+names_back : (t : Tok) (next_is : Option (List Want)) → IfSome next_is (Back AName t) → IfSome (then_want Names next_is) (Back Names t)
+names_back t None h = tt
+names_back t (Some ws) h = λ ts rest d. (let p = are_last ws Names ts rest d in let a = h ts p.0 p.1 in (a.0 ∷ p.2.0, a.1 _ _ p.2.1))
+
+name_back : (t : Tok) → IfSome (next_name t) (Back AName t)
+name_back (Lower w) = lower_back w
+name_back (Upper w) = upper_back w
+name_back _ = tt
+
+step_back : (w : Want) (t : Tok) → IfSome (next w t) (Back w t)
+step_back AModule Open = module_back
+step_back AModuleWord (Key word.Module) = module_word_back
+step_back AModuleName (Upper w) = module_name_back w (is_module_part w) refl
+step_back AnImportsWord (Key word.Imports) = imports_word_back
+step_back AnExportsWord (Key word.Exports) = exports_word_back
+step_back AName t = name_back t
+step_back Names Close = names_end_back
+step_back Names t = names_back t (next_name t) (name_back t)
+step_back Body Close = body_end_back
+step_back Body Open = body_back
+step_back ABodyForm (Key word.Hidden) = hidden_back
+step_back Decls Close = decls_end_back
+step_back AnOpen Open = open_back
+step_back AClose Close = close_back
+step_back _ _ = tt
+
+-- each want has a shortest answer
+abbrev Filled : Want → Type 0
+Filled w = (q : List Tok) × ((rest : List Tok) → Is w (q ++ rest) rest)
+
+filled : (w : Want) → Filled w
+filled AModule = (
+  Open ∷ Key word.Module ∷ Upper (codes "M") ∷ Open ∷ Key word.Imports ∷ Close ∷ Open ∷ Key word.Exports ∷ Close ∷ Close ∷ [],
+  λ rest. (ModuleOf (codes "M") [] [] [] [], module_at refl names_end (body_plain decls_end)),
+)
+filled AModuleWord = (Key word.Module ∷ [], λ rest. token)
+filled AModuleName = (Upper (codes "M") ∷ [], λ rest. (codes "M", refl, token))
+filled AnImportsWord = (Key word.Imports ∷ [], λ rest. token)
+filled AnExportsWord = (Key word.Exports ∷ [], λ rest. token)
+filled AName = (Lower (codes "x") ∷ [], λ rest. (codes "x", λ ns us d. names_lower d))
+filled Names = (Close ∷ [], λ rest. ([], names_end))
+filled Body = (Close ∷ [], λ rest. ([], [], body_plain decls_end))
+filled ABodyForm = (Key word.Hidden ∷ Close ∷ Close ∷ [], λ rest. ([], [], body_hidden names_end decls_end))
+filled Decls = (Close ∷ [], λ rest. ([], decls_end))
+filled AnOpen = (Open ∷ [], λ rest. token)
+filled AClose = (Close ∷ [], λ rest. token)
+
+all_filled : (ws : List Want) → (q : List Tok) × Are ws q []
+all_filled [] = ([], nothing)
+all_filled (w ∷ ws) = let p = all_filled ws in let q = filled w in (q.0 ++ p.0, (p.0, q.1 p.0, p.1))
+
+-- ---- the machine is stuck where no text goes on
+
+abbrev pub NeverWhole : List Want → List Tok → List Tok → Type 0
+NeverWhole s good [] = stuck s good ≡ None → ⊥
+NeverWhole s good (t ∷ bad) = (after : List Tok) → stuck s (good ++ t ∷ after) ≡ None → ⊥
+
+pub record Parted (s : List Want) (ts : List Tok) (n : ℕ) : Type 0 where
+  pub good : List Tok
+  pub bad : List Tok
+  pub parts : ts ≡ good ++ bad
+  pub left : length bad ≡ n
+  pub goes_on : (q : List Tok) × Are s (good ++ q) []
+  pub stops : NeverWhole s good bad
+
+some-none : {n : ℕ} → Some n ≡ None → ⊥
+some-none e = cc
+
+some_same : (m n : ℕ) → Some m ≡ Some n → m ≡ n
+some_same m n e = cc
+
+never_more : (w : Want) (t : Tok) (vs s : List Want) (good bad : List Tok) → next w t ≡ Some vs → NeverWhole (vs ++ s) good bad → NeverWhole (w ∷ s) (t ∷ good) bad
+never_more w t vs s good [] e h = λ k. h (sym (stuck_on w t (Some vs) s good e) ∙ k)
+never_more w t vs s good (b ∷ bad) e h = λ after k. h after (sym (stuck_on w t (Some vs) s (good ++ b ∷ after) e) ∙ k)
+
+parted_by : (ts : List Tok) (t : Tok) (w : Want) (s : List Want) (n : ℕ) (ih : (r : List Want) → stuck r ts ≡ Some n → Parted r ts n) (o : Option (List Want))
+    → next w t ≡ o → IfSome o (Back w t) → stuck (w ∷ s) (t ∷ ts) ≡ Some n → Parted (w ∷ s) (t ∷ ts) n
+parted_by ts t w s n ih None next_is back e = record {
+  good = [];
+  bad = t ∷ ts;
+  parts = refl;
+  left = some_same _ n (sym (stuck_on w t None s ts next_is) ∙ e);
+  goes_on = all_filled (w ∷ s);
+  stops = λ after h. some-none (sym (stuck_on w t None s after next_is) ∙ h);
+}
+parted_by ts t w s n ih (Some vs) next_is back e =
+    let p = ih (vs ++ s) (sym (stuck_on w t (Some vs) s ts next_is) ∙ e) in
+    let d = are_both vs s (p.good ++ p.goes_on.0) [] p.goes_on.1 in
+    record {
+      good = t ∷ p.good;
+      bad = p.bad;
+      parts = ap (λ (x : List Tok). t ∷ x) p.parts;
+      left = p.left;
+      goes_on = (p.goes_on.0, (d.0, back (p.good ++ p.goes_on.0) d.0 d.1, d.2));
+      stops = never_more w t vs s p.good p.bad next_is p.stops;
+    }
+
+pub parted : (ts : List Tok) (s : List Want) (n : ℕ) → stuck s ts ≡ Some n → Parted s ts n
+parted [] [] n e = absurd cc
+parted [] (w ∷ s) n e = record { good = []; bad = []; parts = refl; left = some_same 0 n e; goes_on = all_filled (w ∷ s); stops = λ h. some-none h }
+parted (t ∷ ts) [] n e = record { good = []; bad = t ∷ ts; parts = refl; left = some_same _ n e; goes_on = ([], nothing); stops = λ after h. some-none h }
+parted (t ∷ ts) (w ∷ s) n e = parted_by ts t w s n (λ r. parted ts r n) (next w t) refl (step_back w t) e
+
+-- ---- a text of a module
+
+begins : (ts : List Tok) → ((q : List Tok) × Are (AModule ∷ []) (ts ++ q) []) → Begins ts
+begins ts (q, (_, d, nothing)) = (q, d)
+
+cannot_go_on : (good bad : List Tok) → NeverWhole (AModule ∷ []) good bad → CannotGoOn good bad
+cannot_go_on good [] h = λ d. h (module_taken d.1 [])
+cannot_go_on good (t ∷ bad) h = λ d. h d.0 (ap (stuck (AModule ∷ [])) (sym (append_assoc good (t ∷ []) d.0)) ∙ module_taken d.1.1 [])
+
+pub is_first_bad : (ts : List Tok) (n : ℕ) → stuck (AModule ∷ []) ts ≡ Some n → FirstBad ts n
+is_first_bad ts n e =
+    let p = parted ts (AModule ∷ []) n e in
+    record { good = p.good; bad = p.bad; parts = p.parts; left = p.left; begins = begins p.good p.goes_on; stops = cannot_go_on p.good p.bad p.stops }

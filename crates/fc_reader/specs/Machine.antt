@@ -1,0 +1,57 @@
+-- The grammar read one token at a time, with a list of what is still wanted. A want stands for a part of the grammar, and a
+-- want `..Form` for a part behind its opening bracket, where the next word decides.
+use Rattle.std.specs.Prelude.{ℕ, suc, List, [], ◌∷◌, ◌++◌, length, Option, Some, None, if◌then◌else◌}
+use Rattle.fc_syntax.specs.Tokens.{is_module_part}
+use Rattle.fc_model.specs.declared.keyword.Keyword.TheVariants as word
+use Rattle.fc_model.specs.Words.{Tok, Open, Close, Key, Lower, Upper}
+
+pub data Want : Type 0 where
+  AModule : Want
+  AModuleWord : Want
+  AModuleName : Want
+  AnImportsWord : Want
+  AnExportsWord : Want
+  AName : Want
+  Names : Want
+  Body : Want
+  ABodyForm : Want
+  Decls : Want
+  AnOpen : Want
+  AClose : Want
+
+-- a list goes on behind one of its members
+abbrev pub then_want : Want → Option (List Want) → Option (List Want)
+then_want w None = None
+then_want w (Some ws) = Some (ws ++ w ∷ [])
+
+abbrev pub next_name : Tok → Option (List Want)
+next_name (Lower w) = Some []
+next_name (Upper w) = Some []
+next_name _ = None
+
+-- what a token leaves to want, or that it cannot stand there
+abbrev pub next : Want → Tok → Option (List Want)
+next AModule Open =
+    Some (AModuleWord ∷ AModuleName ∷ AnOpen ∷ AnImportsWord ∷ AClose ∷ AnOpen ∷ AnExportsWord ∷ Names ∷ Body ∷ [])
+next AModuleWord (Key word.Module) = Some []
+next AModuleName (Upper w) = if is_module_part w then Some [] else None
+next AnImportsWord (Key word.Imports) = Some []
+next AnExportsWord (Key word.Exports) = Some []
+next AName t = next_name t
+next Names Close = Some []
+next Names t = then_want Names (next_name t)
+next Body Close = Some []
+next Body Open = Some (ABodyForm ∷ [])
+next ABodyForm (Key word.Hidden) = Some (Names ∷ Decls ∷ [])
+next Decls Close = Some []
+next AnOpen Open = Some []
+next AClose Close = Some []
+next _ _ = None
+
+-- None where all tokens are taken and nothing more is wanted, else how many tokens are left from the first on that cannot
+-- stand there
+abbrev pub stuck : List Want → List Tok → Option ℕ
+stuck [] [] = None
+stuck (w ∷ ws) [] = Some 0
+stuck [] (t ∷ ts) = Some (suc (length ts))
+stuck (w ∷ ws) (t ∷ ts) = elim (next w t) [ None ↦ Some (suc (length ts)) | Some vs ↦ stuck (vs ++ ws) ts ]

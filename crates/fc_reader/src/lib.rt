@@ -1,0 +1,54 @@
+//! Reads the text of a module.
+#![tactic(auto)]
+
+ghost use Rattle.std.specs.Prelude.{◌≡◌, ◌≤◌, length, IfOk, IfErr};
+ghost use Rattle.fc_syntax.specs.View.{module_of};
+ghost use Rattle.fc_syntax.specs.Tree.{Module as ModuleTree};
+ghost use Rattle.fc_model.specs.Canonical.{IsBuilt, IsFormed};
+ghost use Rattle.fc_model.specs.ReadFaults.{ReadsTo};
+ghost use Rattle.fc_reader.specs.Refusals.{IsReadRefusal, SpellsOne};
+
+mod class;
+mod header;
+mod names;
+mod parts;
+#[cfg(test)]
+mod tests;
+mod whole;
+mod words;
+
+use crate::parts::Stop;
+use crate::whole::{byte_of_left, read_whole, refusal_at, refusal_of};
+use fc_syntax::{FaultKind, Module, Refusal};
+use std::alloc::Global;
+
+/// The module that the bytes of a file spell, within the limits.
+///
+/// A fault has the name of the file as its module, no declaration, and the byte at which the first fault stands: all tokens
+/// are made first (a bad byte, a bad token, a literal out of range), then the form is read (a fault of form stands at the
+/// first token that cannot go on, or at the length of the file).
+pub fn read_module(alloc: Global, file: &str, bytes: &[u8]) -> Result<Module, Refusal>
+    requires { length bytes.now ≤ 4194304 }
+    ensures found { IfOk result (λ m. ReadsTo bytes.now (module_of m)) }
+    ensures formed { IfOk result (λ m. IsFormed (module_of m)) }
+    ensures built { IfOk result (λ m. IsBuilt (module_of m)) }
+    ensures fault { IfErr result (IsReadRefusal file.now bytes.now) }
+{
+    let tokens = match fc_lex::tokens(alloc, bytes) {
+        Err(error) => return Err(refusal_of(alloc, file, error)),
+        Ok(tokens) => tokens,
+    };
+    match read_whole(alloc, bytes, tokens.as_slice()) {
+        Err(Stop::Memory) => Err(Refusal::Memory),
+        Err(Stop::Form(left)) => {
+            let at = byte_of_left(bytes, tokens.as_slice(), left);
+            Err(refusal_at(alloc, file, FaultKind::BadForm, at))
+        }
+        Ok(m) => Ok(m),
+    }
+}
+
+/// Bytes spell at most one module, and where there is a fault they spell none.
+pub fn a_text_has_one_module()
+    ensures one { SpellsOne }
+{}

@@ -1,0 +1,5 @@
+pub mod Leaves
+pub mod Lexing
+pub mod NameWords
+pub mod Snoc
+pub mod View

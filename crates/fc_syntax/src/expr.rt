@@ -1,0 +1,152 @@
+//! Expressions and what stands in them.
+use crate::co::Co;
+use crate::seq::Seq;
+use crate::text::Text;
+use crate::ty::{Kind, Name, Role, Ty};
+
+/// A primitive on two integers of 64 bits.
+#[derive(Clone, Copy, Debug, PartialEq, Eq)]
+pub enum PrimOp {
+    /// `+#`
+    Plus,
+    /// `-#`
+    Minus,
+    /// `*#`
+    Times,
+    /// `quotInt#`
+    Quot,
+    /// `remInt#`
+    Rem,
+    /// `==#`
+    Eq,
+    /// `/=#`
+    Ne,
+    /// `<#`
+    Lt,
+    /// `<=#`
+    Le,
+    /// `>#`
+    Gt,
+    /// `>=#`
+    Ge,
+}
+
+/// A binder with what it binds.
+#[derive(Debug, Drop)]
+pub enum Binder {
+    /// `(x t)`: a value of a type.
+    Value(Text, Ty),
+    /// `(type a kind)`: a type of a kind.
+    OfType(Text, Kind),
+    /// `(co c role left right)`: a coercion between two types.
+    OfCo(Text, Role, Ty, Ty),
+}
+
+/// What an alternative of a case is for.
+#[derive(Debug, Drop)]
+pub enum Head {
+    /// Every head that has no alternative of its own.
+    Default,
+    /// A literal.
+    Lit(i64),
+    /// A constructor.
+    Con(Name),
+}
+
+/// An argument of an application, a constructor or a jump.
+#[cycle(ast)]
+#[derive(Debug, Drop)]
+pub enum Arg {
+    /// A term.
+    Term(Expr),
+    /// A type.
+    OfType(Ty),
+    /// A coercion.
+    OfCo(Co),
+}
+
+/// A binding of a let.
+#[cycle(ast)]
+#[derive(Debug, Drop)]
+pub struct Bind {
+    /// The word that it binds.
+    pub name: Text,
+    /// The type of its right side.
+    pub ty: Ty,
+    /// Its right side.
+    pub rhs: Expr,
+}
+
+/// A join point ("Compiling without continuations").
+#[cycle(ast)]
+#[derive(Debug, Drop)]
+pub struct JoinBind {
+    /// The word that jumps name.
+    pub name: Text,
+    /// Its parameters, the outermost first.
+    pub params: Seq<Binder>,
+    /// Its right side.
+    pub rhs: Expr,
+}
+
+/// An alternative of a case.
+#[cycle(ast)]
+#[derive(Debug, Drop)]
+pub struct Alt {
+    /// What it is for.
+    pub head: Head,
+    /// The binders of a constructor's parts, the outermost first.
+    pub binders: Seq<Binder>,
+    /// What it answers.
+    pub body: Expr,
+}
+
+/// An expression.
+#[cycle(ast)]
+#[derive(Debug)]
+pub enum Expr {
+    /// A variable.
+    Var(Name),
+    /// A literal of type `Int#`.
+    Lit(i64),
+    /// An application to one argument.
+    App(Box<Expr>, Box<Arg>),
+    /// A lambda over one binder.
+    Lam(Box<Binder>, Box<Expr>),
+    /// A let of one binding, or where the truth value is true a recursive group.
+    Let(bool, Seq<Bind>, Box<Expr>),
+    /// A case: scrutinee, case binder and its type, type of the result, alternatives.
+    Case(Box<Expr>, Text, Ty, Ty, Seq<Alt>),
+    /// A cast by a coercion.
+    Cast(Box<Expr>, Co),
+    /// A constructor with all its arguments: universal types, existential types, coercions, terms.
+    Con(Name, Seq<Arg>),
+    /// A primitive with its operands.
+    Prim(PrimOp, Seq<Expr>),
+    /// An error of a type.
+    Fail(Ty),
+    /// A join point, or where the truth value is true a recursive group; the type is that of the whole.
+    Join(bool, Ty, Seq<JoinBind>, Box<Expr>),
+    /// A jump to a join point.
+    Jump(Text, Seq<Arg>),
+}
+
+impl Drop for Expr {
+    #[cycle(ast_drop)]
+    fn drop(self) {
+        match self {
+            Expr::Var(_) => {}
+            Expr::Lit(_) => {}
+            Expr::App(_, _) => {}
+            Expr::Lam(_, _) => {}
+            Expr::Let(_, _, _) => {}
+            Expr::Case(_, _, _, _, _) => {}
+            Expr::Cast(_, _) => {}
+            Expr::Con(_, _) => {}
+            Expr::Prim(_, _) => {}
+            Expr::Fail(_) => {}
+            Expr::Join(_, _, _, _) => {}
+            Expr::Jump(_, _) => {}
+        }
+    }
+}

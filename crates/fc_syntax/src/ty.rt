@@ -1,0 +1,84 @@
+//! Names, kinds, roles and types.
+ghost use Rattle.std.specs.Prelude.{◌≡◌};
+ghost use Rattle.fc_syntax.specs.Roles.{role_below};
+
+use crate::text::Text;
+
+/// A name of a type, a value, a constructor or an axiom.
+#[derive(Debug, Drop)]
+pub struct Name {
+    /// The module before the dot, `None` for a word without a dot.
+    pub module: Option<Text>,
+    /// The word itself.
+    pub text: Text,
+}
+
+/// A kind: the type of a type.
+#[derive(Debug, Drop)]
+pub enum Kind {
+    /// `*`, of lifted types.
+    Star,
+    /// `#`, of `Int#` alone.
+    Hash,
+    /// `(-> from to)`, of type constructors.
+    Arrow(Box<Kind>, Box<Kind>),
+}
+
+/// A role: how much a use of a type distinguishes (GHC's roles, "Safe zero-cost coercions for Haskell").
+#[derive(Clone, Copy, Debug, PartialEq, Eq)]
+pub enum Role {
+    /// Nominal: equal names.
+    N,
+    /// Representational: equal at run time.
+    R,
+    /// Phantom: not used.
+    P,
+}
+
+impl Role {
+    /// Whether this role is `other` or stands before it in the order N, R, P. Takes no memory.
+    pub fn below(self, other: Role) -> bool
+        ensures { result ≡ role_below self other }
+    {
+        match (self, other) {
+            (Role::N, _) => true,
+            (Role::R, Role::N) => false,
+            (Role::R, _) => true,
+            (Role::P, Role::P) => true,
+            (Role::P, _) => false,
+        }
+    }
+}
+
+/// A type.
+#[derive(Debug)]
+pub enum Ty {
+    /// A type variable.
+    Var(Text),
+    /// A data type, newtype or family by its name.
+    Con(Name),
+    /// `Int#`, the machine integer of 64 bits.
+    IntHash,
+    /// `(t u)`: a type applied to one type.
+    App(Box<Ty>, Box<Ty>),
+    /// `(fun t u)`: functions from the first type to the second.
+    Fun(Box<Ty>, Box<Ty>),
+    /// `(forall (a kind) t)`.
+    Forall(Text, Kind, Box<Ty>),
+    /// `(coforall role left right t)`: the type of what takes a coercion between the two ends.
+    CoForall(Role, Box<Ty>, Box<Ty>, Box<Ty>),
+}
+
+impl Drop for Ty {
+    fn drop(self) {
+        match self {
+            Ty::Var(_) => {}
+            Ty::Con(_) => {}
+            Ty::IntHash => {}
+            Ty::App(_, _) => {}
+            Ty::Fun(_, _) => {}
+            Ty::Forall(_, _, _) => {}
+            Ty::CoForall(_, _, _, _) => {}
+        }
+    }
+}
