@@ -1,14 +1,13 @@
 -- What the parts of a judgement come to.
-use Rattle.std.proofs.Common.{◌≡◌, ◌↔◌, ℕ, Bool, true, false, List, [], ◌∷◌, Option, Some, None, IfSome, IsTrue, refl, sym, subst, ◌∙◌}
+use Rattle.std.proofs.Common.{◌≡◌, ◌↔◌, ℕ, Bool, true, List, [], ◌∷◌, Option, Some, None, IfSome, IsTrue, refl, sym, subst}
 use Rattle.std.proofs.lemmas.Bool.{true≢false}
 use Rattle.fc_files.specs.Outside.{FileMap}
-use Rattle.fc_syntax.specs.Tree.{Word, Decl, Module, ModuleOf}
+use Rattle.fc_syntax.specs.Tree.{Word, Decl, ModuleOf}
 use Rattle.fc_syntax.specs.declared.fault.Fault.{Fault}
 use Rattle.fc_syntax.specs.declared.fault.Refusal.{Refusal}
 use Rattle.fc_syntax.specs.declared.fault.Refusal.TheVariants as refusal
 use Rattle.fc_model.specs.Acceptance.{FirstFault, bad_form}
 use Rattle.fc_model.specs.Linting.{exports_are_known}
-use Rattle.fc_model.specs.ReadFaults.{ReadsTo}
 use Rattle.fc_reader.specs.Refusals.{IsFaultOf, IsReadRefusal}
 use Rattle.fc_reader.proofs.Laws.{no_module}
 

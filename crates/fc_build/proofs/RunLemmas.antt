@@ -1,8 +1,8 @@
 -- What the parts of a build come to in the answers of the top call.
-use Rattle.std.proofs.Common.{◌≡◌, ◌≤◌, ◌⊎◌, ◌++◌, ◌∙◌, ℕ, List, [], ◌∷◌, length, Option, Some, None, IfSome, IsSomeAnd, refl, sym, ap, subst, arith}
+use Rattle.std.proofs.Common.{◌≡◌, ◌++◌, ◌∙◌, ℕ, List, [], ◌∷◌, length, Option, Some, None, IfSome, refl, sym, ap, subst, arith}
 use Rattle.std.proofs.lemmas.List.{append-nil}
 use Rattle.std.proofs.Math.Seq.{take-length}
-use Rattle.fc_files.specs.Outside.{FileMap, Rose, Told, put}
+use Rattle.fc_files.specs.Outside.{FileMap, Rose, Told}
 use Rattle.fc_syntax.specs.Tree.{Word, Decl, Module, ModuleOf}
 use Rattle.fc_model.specs.Acceptance.{Accepted, FirstFault, SetFault, missing, bad_form, def_type}
 use Rattle.fc_model.specs.Canonical.{IsBuilt, IsFormed, canonical}

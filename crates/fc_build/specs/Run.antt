@@ -1,5 +1,5 @@
 -- What each answer of the top call says.
-use Rattle.std.specs.Prelude.{◌≡◌, ◌⊎◌, ℕ, List, [], ◌∷◌, ◌++◌, Option, IfSome, IsSomeAnd}
+use Rattle.std.specs.Prelude.{◌≡◌, ℕ, List, [], ◌∷◌, ◌++◌, Option, IfSome}
 use Rattle.fc_files.specs.Outside.{FileMap, Rose, Told}
 use Rattle.fc_syntax.specs.Tree.{Module}
 use Rattle.fc_model.specs.Acceptance.{Accepted, FirstFault, SetFault}

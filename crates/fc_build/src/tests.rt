@@ -1,4 +1,6 @@
 //! The top call over files and streams in memory.
+ghost use Rattle.std.specs.Prelude.{None};
+
 use super::run;
 use fc_files::{Files, MOST, MemFiles, MemSink, ReadAnswer, WriteAnswer, has_distinct_names};
 use std::alloc::Global;

@@ -1,5 +1,4 @@
-use Rattle.std.proofs.Common.{◌≡◌, ◌++◌, rules}
-use Rattle.fc_files.specs.Outside.{Told}
+use Rattle.std.proofs.Common.{rules}
 use Rattle.fc_syntax.specs.View.{module_of}
 use Rattle.fc_model.specs.Acceptance.{bad_form, def_type}
 use Rattle.fc_build.specs.Words.{texts}
