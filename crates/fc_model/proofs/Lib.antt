@@ -1,0 +1,10 @@
+pub mod Behind
+pub mod Building
+pub mod Constructors
+pub mod Declarations
+pub mod KindedIs
+pub mod NamelessView
+pub mod Parts
+pub mod Sameness
+pub mod TypedIs
+pub mod Variables

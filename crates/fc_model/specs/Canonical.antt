@@ -1,7 +1,7 @@
 -- The one printed text of a module, and of the interface that is written beside it.
-use Rattle.std.specs.Prelude.{◌≡◌, ℕ, Bool, true, ◌&&◌, ◌||◌, ◌++◌, List, [], ◌∷◌, codes, is_none}
+use Rattle.std.specs.Prelude.{◌≡◌, ℕ, Bool, true, ◌&&◌, ◌++◌, List, [], ◌∷◌, codes, is_none}
 use Rattle.std.specs.List.{list_all}
-use Rattle.fc_syntax.specs.Tree.{Word, Decl, Module, ModuleOf}
+use Rattle.fc_syntax.specs.Tree.{Word, Module, ModuleOf}
 use Rattle.fc_syntax.specs.Tokens.{is_module_part, is_plain_name}
 use Rattle.fc_model.specs.Words.{keyword_of}
 

@@ -1,8 +1,8 @@
 -- The header of what is written.
-use Rattle.std.specs.Prelude.{ℕ, Bool, List, [], ◌∷◌, ◌++◌, map, if◌then◌else◌}
-use Rattle.std.specs.List.{list_any, flat_map}
-use Rattle.std.specs.Str.{bytes_eq}
+use Rattle.std.specs.Prelude.{List, [], ◌∷◌, ◌++◌, map, if◌then◌else◌}
+use Rattle.std.specs.List.{flat_map}
 use Rattle.fc_syntax.specs.Tree.{Word, ConDecl, ConOf, Decl, DData, DNew, DFamily, DAxiom, DDef, DWrap, Module, ModuleOf}
+use Rattle.fc_model.specs.Resolution.{WordSet, no_word, plus, plus_all}
 
 abbrev pub name_of : Module → Word
 name_of (ModuleOf m imports exports hidden ds) = m
@@ -28,16 +28,13 @@ decl_words (DWrap n t e) = n ∷ []
 abbrev pub declared_words : List Decl → List Word
 declared_words ds = flat_map decl_words ds
 
-abbrev pub has_word : List Word → Word → Bool
-has_word ws w = list_any (λ v. bytes_eq v w) ws
-
--- the words that are not among those seen, each once, in their order
-abbrev pub others : List Word → List Word → List Word
+-- the words that are not in the set, each once, in their order
+abbrev pub others : WordSet → List Word → List Word
 others seen [] = []
-others seen (w ∷ ws) = if has_word seen w then others seen ws else w ∷ others (w ∷ seen) ws
+others seen (w ∷ ws) = if seen w then others seen ws else w ∷ others (plus w seen) ws
 
 -- the module under the written header: its hidden names are the read ones and then every other declared word that is not
 -- exported, in declared order
 abbrev pub written_of : Module → Module
 written_of (ModuleOf m imports exports hidden ds) =
-    ModuleOf m imports exports (hidden ++ others (exports ++ hidden) (declared_words ds)) ds
+    ModuleOf m imports exports (hidden ++ others (plus_all hidden (plus_all exports no_word)) (declared_words ds)) ds

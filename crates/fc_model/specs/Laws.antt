@@ -1,5 +1,5 @@
 -- What the judgements as functions and the relations by cases have to do with each other.
-use Rattle.std.specs.Prelude.{◌≡◌, ◌↔◌, ℕ, true, List, Result, Ok}
+use Rattle.std.specs.Prelude.{◌≡◌, ◌↔◌, ℕ, true, List, Ok}
 use Rattle.fc_syntax.specs.Tree.{Kind}
 use Rattle.fc_model.specs.Kinding.{HasHeadKind, head_kind_or_fault, same_type}
 use Rattle.fc_model.specs.Nameless.{NExpr, NModule, NTy}

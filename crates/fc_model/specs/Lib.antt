@@ -1,4 +1,6 @@
 pub mod Acceptance
+pub mod Building
+pub mod BuiltForms
 pub mod Canonical
 pub mod Faulting
 pub mod Headers
@@ -6,8 +8,11 @@ pub mod Kinding
 pub mod Laws
 pub mod Linting
 pub mod Nameless
+pub mod NamelessView
 pub mod ReadFaults
 pub mod Resolution
+pub mod Says
 pub mod Texts
 pub mod Typing
+pub mod WordSets
 pub mod Words

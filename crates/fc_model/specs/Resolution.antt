@@ -12,7 +12,6 @@ use Rattle.fc_syntax.specs.Tree.{Binder, BValue, BType, BCo, Arg, ATerm, AType, 
 use Rattle.fc_syntax.specs.Tree.{Expr, EVar, ELit, EApp, ELam, ELet, ECase, ECast, ECon, EPrim, EFail, EJoin, EJump}
 use Rattle.fc_syntax.specs.Tree.{Exprs, NoExprs, MoreExprs, Args, NoArgs, MoreArgs, Binds, NoBinds, MoreBinds, Joins, NoJoins, MoreJoins, Alts, NoAlts, MoreAlts}
 use Rattle.fc_syntax.specs.Tree.{Param, ParamOf, Plain, PlainOf, ConDecl, ConOf, Decl, DData, DNew, DFamily, DAxiom, DDef, DWrap, Module, ModuleOf}
-use Rattle.fc_model.specs.Headers.{has_word}
 use Rattle.fc_model.specs.Faulting.{F, At, need, under, within, and_then}
 use Rattle.fc_model.specs.Nameless.{NTy, NTVar, NTCon, NTInt, NTApp, NTFun, NTForall, NTCoForall}
 use Rattle.fc_model.specs.Nameless.{NCo, NGVar, NGRefl, NGSym, NGTrans, NGTc, NGCapp, NGFun, NGAll, NGCoAll, NGInst, NGNth, NGLeft, NGRight, NGSub, NGAx, NGUniv, NCos, NoNCos, MoreNCos}
@@ -21,16 +20,40 @@ use Rattle.fc_model.specs.Nameless.{NExpr, NLocal, NVar, NLit, NApp, NLam, NLet,
 use Rattle.fc_model.specs.Nameless.{NExprs, NoNExprs, MoreNExprs, NArgs, NoNArgs, MoreNArgs, NBinds, NoNBinds, MoreNBinds, NJoins, NoNJoins, MoreNJoins, NAlts, NoNAlts, MoreNAlts}
 use Rattle.fc_model.specs.Nameless.{NParam, NParamOf, NConDecl, NConOf, NDecl, NData, NNew, NFamily, NAxiom, NDef, NWrap, NModule, NModuleOf}
 
+-- SETS OF WORDS
+
+-- whether each word is one of them
+abbrev pub WordSet : Type 0
+WordSet = Word → Bool
+
+abbrev pub no_word : WordSet
+no_word w = false
+
+-- one word more
+abbrev pub plus : Word → WordSet → WordSet
+plus v s w = if bytes_eq v w then true else s w
+
+abbrev pub plus_all : List Word → WordSet → WordSet
+plus_all [] s = s
+plus_all (v ∷ vs) s = plus_all vs (plus v s)
+
+-- LISTS
+
+-- one answer before those that follow
+abbrev pub then_item : {Y : Type 0} → Y → Result (List Y) F → Result (List Y) F
+then_item y (Ok ys) = Ok (y ∷ ys)
+then_item y (Err f) = Err f
+
 -- THE WORDS IN SCOPE
 
 -- what a module declares and imports: its name, the modules imported, and the declared words of the three spaces (types;
 -- terms, with constructors; coercions, with axioms)
 pub record Top : Type 0 where
   pub own : Word
-  pub imports : List Word
-  pub types : List Word
-  pub terms : List Word
-  pub coercions : List Word
+  pub imports : WordSet
+  pub types : WordSet
+  pub terms : WordSet
+  pub coercions : WordSet
 
 -- values and join points share one space of words
 pub data TermWord : Type 0 where
@@ -82,9 +105,9 @@ found_term (Value v ∷ xs) w = if bytes_eq v w then IsValue 0 else past_value (
 found_term (Join v ∷ xs) w = if bytes_eq v w then IsJoin 0 else past_join (found_term xs w)
 
 -- a name of a declaration: a word without a dot is declared here, a module before a dot is imported
-abbrev pub declared_name : Top → List Word → Option Word → Word → Result Name F
-declared_name top words None w = need (has_word words w) Unbound (Ok (record { «module» = Some top.own; text = w }))
-declared_name top words (Some m) w = need (has_word top.imports m) Unbound (Ok (record { «module» = Some m; text = w }))
+abbrev pub declared_name : Top → WordSet → Option Word → Word → Result Name F
+declared_name top words None w = need (words w) Unbound (Ok (record { «module» = Some top.own; text = w }))
+declared_name top words (Some m) w = need (top.imports m) Unbound (Ok (record { «module» = Some m; text = w }))
 
 -- TYPES
 
@@ -105,14 +128,10 @@ resolved_ty top tys (TCoForall r t u v) =
     and_then (under 0 (resolved_ty top tys t)) (λ a. and_then (under 1 (resolved_ty top tys u)) (λ b.
     and_then (under 2 (resolved_ty top tys v)) (λ c. Ok (NTCoForall r a b c))))
 
-abbrev pub then_ty : NTy → Result (List NTy) F → Result (List NTy) F
-then_ty t (Ok ts) = Ok (t ∷ ts)
-then_ty t (Err f) = Err f
-
 -- types from part i on
 abbrev pub resolved_tys : Top → List Word → ℕ → List Ty → Result (List NTy) F
 resolved_tys top tys i [] = Ok []
-resolved_tys top tys i (t ∷ ts) = and_then (under i (resolved_ty top tys t)) (λ a. then_ty a (resolved_tys top tys (i + 1) ts))
+resolved_tys top tys i (t ∷ ts) = and_then (under i (resolved_ty top tys t)) (λ a. then_item a (resolved_tys top tys (i + 1) ts))
 
 -- COERCIONS
 
@@ -171,34 +190,30 @@ enter_all (b ∷ bs) s = enter_all bs (enter b s)
 
 -- the words that binders bind, by their space
 pub record Words : Type 0 where
-  pub types : List Word
-  pub terms : List Word
-  pub coercions : List Word
+  pub types : WordSet
+  pub terms : WordSet
+  pub coercions : WordSet
 
 abbrev pub no_words : Words
-no_words = record { types = []; terms = []; coercions = [] }
+no_words = record { types = no_word; terms = no_word; coercions = no_word }
 
 -- the binder's word is new in its space
 abbrev pub is_new : Binder → Words → Bool
-is_new (BValue x t) ws = not (has_word ws.terms x)
-is_new (BType a k) ws = not (has_word ws.types a)
-is_new (BCo c r t u) ws = not (has_word ws.coercions c)
+is_new (BValue x t) ws = not (ws.terms x)
+is_new (BType a k) ws = not (ws.types a)
+is_new (BCo c r t u) ws = not (ws.coercions c)
 
 abbrev pub with_binder : Binder → Words → Words
-with_binder (BValue x t) ws = record ws { terms = x ∷ ws.terms }
-with_binder (BType a k) ws = record ws { types = a ∷ ws.types }
-with_binder (BCo c r t u) ws = record ws { coercions = c ∷ ws.coercions }
-
-abbrev pub then_binder : NBinder → Result (List NBinder) F → Result (List NBinder) F
-then_binder b (Ok bs) = Ok (b ∷ bs)
-then_binder b (Err f) = Err f
+with_binder (BValue x t) ws = record ws { terms = plus x ws.terms }
+with_binder (BType a k) ws = record ws { types = plus a ws.types }
+with_binder (BCo c r t u) ws = record ws { coercions = plus c ws.coercions }
 
 -- binders from part i on, each in the scope of those before it, behind the words of those before it
 abbrev pub resolved_binders : Top → Locals → Words → ℕ → List Binder → Result (List NBinder) F
 resolved_binders top s ws i [] = Ok []
 resolved_binders top s ws i (b ∷ bs) =
     and_then (under i (need (is_new b ws) Duplicate (resolved_binder top s b))) (λ a.
-    then_binder a (resolved_binders top (enter b s) (with_binder b ws) (i + 1) bs))
+    then_item a (resolved_binders top (enter b s) (with_binder b ws) (i + 1) bs))
 
 -- EXPRESSIONS
 
@@ -267,7 +282,7 @@ abbrev mutual
   resolved_expr top s (ELam b e) = and_then (under 0 (resolved_binder top s b)) (λ c. and_then (under 1 (resolved_expr top (enter b s) e)) (λ f. Ok (NLam c f)))
   resolved_expr top s (ELet r bs e) =
       let inner = enter_values (bind_words bs) s in
-      and_then (resolved_binds top (if r then inner else s) [] 0 bs) (λ cs.
+      and_then (resolved_binds top (if r then inner else s) no_word 0 bs) (λ cs.
       and_then (under (length (bind_words bs)) (resolved_expr top inner e)) (λ f. Ok (NLet r cs f)))
   resolved_expr top s (ECase e x t u alts) =
       and_then (under 0 (resolved_expr top s e)) (λ f. and_then (under 1 (resolved_ty top s.types t)) (λ a.
@@ -278,7 +293,7 @@ abbrev mutual
   resolved_expr top s (EFail t) = and_then (under 0 (resolved_ty top s.types t)) (λ a. Ok (NFail a))
   resolved_expr top s (EJoin r t js e) =
       let inner = enter_joins (join_words js) s in
-      and_then (under 0 (resolved_ty top s.types t)) (λ a. and_then (resolved_joins top (if r then inner else s) [] 1 js) (λ ks.
+      and_then (under 0 (resolved_ty top s.types t)) (λ a. and_then (resolved_joins top (if r then inner else s) no_word 1 js) (λ ks.
       and_then (under (1 + length (join_words js)) (resolved_expr top inner e)) (λ f. Ok (NJoin r a ks f))))
   resolved_expr top s (EJump j args) = and_then (join_index (found_term s.terms j)) (λ i. and_then (resolved_args top s 0 args) (λ xs. Ok (NJump i xs)))
 
@@ -300,21 +315,21 @@ abbrev mutual
   resolved_bind top s (Bound x t e) = and_then (under 0 (resolved_ty top s.types t)) (λ a. and_then (under 1 (resolved_expr top s e)) (λ f. Ok (NBound a f)))
 
   -- binds from part i on, behind the words of those before
-  pub resolved_binds : Top → Locals → List Word → ℕ → Binds → Result NBinds F
+  pub resolved_binds : Top → Locals → WordSet → ℕ → Binds → Result NBinds F
   resolved_binds top s earlier i NoBinds = Ok NoNBinds
   resolved_binds top s earlier i (MoreBinds (Bound x t e) rest) =
-      and_then (under i (need (not (has_word earlier x)) Duplicate (resolved_bind top s (Bound x t e)))) (λ c.
-      then_bind c (resolved_binds top s (x ∷ earlier) (i + 1) rest))
+      and_then (under i (need (not (earlier x)) Duplicate (resolved_bind top s (Bound x t e)))) (λ c.
+      then_bind c (resolved_binds top s (plus x earlier) (i + 1) rest))
 
   pub resolved_join : Top → Locals → JoinBind → Result NJoinBind F
   resolved_join top s (Joined j ps e) =
       and_then (resolved_binders top s no_words 0 ps) (λ qs. and_then (under (length ps) (resolved_expr top (enter_all ps s) e)) (λ f. Ok (NJoined qs f)))
 
-  pub resolved_joins : Top → Locals → List Word → ℕ → Joins → Result NJoins F
+  pub resolved_joins : Top → Locals → WordSet → ℕ → Joins → Result NJoins F
   resolved_joins top s earlier i NoJoins = Ok NoNJoins
   resolved_joins top s earlier i (MoreJoins (Joined j ps e) rest) =
-      and_then (under i (need (not (has_word earlier j)) Duplicate (resolved_join top s (Joined j ps e)))) (λ c.
-      then_join c (resolved_joins top s (j ∷ earlier) (i + 1) rest))
+      and_then (under i (need (not (earlier j)) Duplicate (resolved_join top s (Joined j ps e)))) (λ c.
+      then_join c (resolved_joins top s (plus j earlier) (i + 1) rest))
 
   pub resolved_alt : Top → Locals → Alt → Result NAlt F
   resolved_alt top s (Branch h bs e) =
@@ -364,15 +379,15 @@ words_by words (d ∷ ds) = words d ++ words_by words ds
 abbrev pub top_of : Module → Top
 top_of (ModuleOf m imports exports hidden ds) = record {
   own = m;
-  imports = imports;
-  types = words_by type_words ds;
-  terms = words_by term_words ds;
-  coercions = words_by coercion_words ds;
+  imports = plus_all imports no_word;
+  types = plus_all (words_by type_words ds) no_word;
+  terms = plus_all (words_by term_words ds) no_word;
+  coercions = plus_all (words_by coercion_words ds) no_word;
 }
 
 -- the words of the declarations before
 abbrev pub behind : Decl → Words → Words
-behind d ws = record { types = type_words d ++ ws.types; terms = term_words d ++ ws.terms; coercions = coercion_words d ++ ws.coercions }
+behind d ws = record { types = plus_all (type_words d) ws.types; terms = plus_all (term_words d) ws.terms; coercions = plus_all (coercion_words d) ws.coercions }
 
 abbrev pub nparam : Param → NParam
 nparam (ParamOf a k r) = NParamOf k r
@@ -387,24 +402,20 @@ abbrev pub plain_kind : Plain → Kind
 plain_kind (PlainOf a k) = k
 
 -- parameters from part i on have words of their own
-abbrev pub distinct_params : List Word → ℕ → List Word → Result ℕ F
+abbrev pub distinct_params : WordSet → ℕ → List Word → Result ℕ F
 distinct_params earlier i [] = Ok i
-distinct_params earlier i (a ∷ rest) = and_then (under i (need (not (has_word earlier a)) Duplicate (Ok i))) (λ _. distinct_params (a ∷ earlier) (i + 1) rest)
+distinct_params earlier i (a ∷ rest) = and_then (under i (need (not (earlier a)) Duplicate (Ok i))) (λ _. distinct_params (plus a earlier) (i + 1) rest)
 
 abbrev pub resolved_con : Top → Locals → ConDecl → Result NConDecl F
 resolved_con top s (ConOf n bs fields) =
     and_then (resolved_binders top s no_words 0 bs) (λ cs. and_then (resolved_tys top (enter_all bs s).types (length bs) fields) (λ ts. Ok (NConOf n cs ts)))
 
-abbrev pub then_con : NConDecl → Result (List NConDecl) F → Result (List NConDecl) F
-then_con c (Ok cs) = Ok (c ∷ cs)
-then_con c (Err f) = Err f
-
 -- constructors from part i on, behind the term words before
-abbrev pub resolved_cons : Top → Locals → List Word → ℕ → List ConDecl → Result (List NConDecl) F
+abbrev pub resolved_cons : Top → Locals → WordSet → ℕ → List ConDecl → Result (List NConDecl) F
 resolved_cons top s earlier i [] = Ok []
 resolved_cons top s earlier i (ConOf n bs fields ∷ cs) =
-    and_then (under i (need (not (has_word earlier n)) Duplicate (resolved_con top s (ConOf n bs fields)))) (λ c.
-    then_con c (resolved_cons top s (n ∷ earlier) (i + 1) cs))
+    and_then (under i (need (not (earlier n)) Duplicate (resolved_con top s (ConOf n bs fields)))) (λ c.
+    then_item c (resolved_cons top s (plus n earlier) (i + 1) cs))
 
 -- the scope of the parameters, the last one innermost
 abbrev pub in_params : List Word → Locals
@@ -412,23 +423,23 @@ in_params ps = record no_locals { types = reverse ps }
 
 abbrev pub resolved_decl : Top → Words → Decl → Result NDecl F
 resolved_decl top ws (DData n ps cs) =
-    need (not (has_word ws.types n)) Duplicate (and_then (distinct_params [] 0 (map param_word ps)) (λ i.
+    need (not (ws.types n)) Duplicate (and_then (distinct_params no_word 0 (map param_word ps)) (λ i.
     and_then (resolved_cons top (in_params (map param_word ps)) ws.terms i cs) (λ ds. Ok (NData n (map nparam ps) ds))))
 resolved_decl top ws (DNew n ps t con) =
-    need (not (has_word ws.types n)) Duplicate (and_then (distinct_params [] 0 (map param_word ps)) (λ i.
+    need (not (ws.types n)) Duplicate (and_then (distinct_params no_word 0 (map param_word ps)) (λ i.
     and_then (under i (resolved_ty top (in_params (map param_word ps)).types t)) (λ a.
-    need (not (has_word ws.coercions con)) Duplicate (Ok (NNew n (map nparam ps) a con)))))
+    need (not (ws.coercions con)) Duplicate (Ok (NNew n (map nparam ps) a con)))))
 resolved_decl top ws (DFamily n ps k) =
-    need (not (has_word ws.types n)) Duplicate (and_then (distinct_params [] 0 (map plain_word ps)) (λ i. Ok (NFamily n (map plain_kind ps) k)))
+    need (not (ws.types n)) Duplicate (and_then (distinct_params no_word 0 (map plain_word ps)) (λ i. Ok (NFamily n (map plain_kind ps) k)))
 resolved_decl top ws (DAxiom n ps t u) =
-    need (not (has_word ws.coercions n)) Duplicate (and_then (distinct_params [] 0 (map plain_word ps)) (λ i.
+    need (not (ws.coercions n)) Duplicate (and_then (distinct_params no_word 0 (map plain_word ps)) (λ i.
     and_then (under i (resolved_ty top (in_params (map plain_word ps)).types t)) (λ a.
     and_then (under (i + 1) (resolved_ty top (in_params (map plain_word ps)).types u)) (λ b. Ok (NAxiom n (map plain_kind ps) a b)))))
 resolved_decl top ws (DDef n t e) =
-    need (not (has_word ws.terms n)) Duplicate (and_then (under 0 (resolved_ty top [] t)) (λ a.
+    need (not (ws.terms n)) Duplicate (and_then (under 0 (resolved_ty top [] t)) (λ a.
     and_then (under 1 (resolved_expr top no_locals e)) (λ f. Ok (NDef n a f))))
 resolved_decl top ws (DWrap n t e) =
-    need (not (has_word ws.terms n)) Duplicate (and_then (under 0 (resolved_ty top [] t)) (λ a.
+    need (not (ws.terms n)) Duplicate (and_then (under 0 (resolved_ty top [] t)) (λ a.
     and_then (under 1 (resolved_expr top no_locals e)) (λ f. Ok (NWrap n a f))))
 
 abbrev pub decl_word : Decl → Word
@@ -439,14 +450,10 @@ decl_word (DAxiom n ps t u) = n
 decl_word (DDef n t e) = n
 decl_word (DWrap n t e) = n
 
-abbrev pub then_decl : NDecl → Result (List NDecl) F → Result (List NDecl) F
-then_decl d (Ok ds) = Ok (d ∷ ds)
-then_decl d (Err f) = Err f
-
 -- declarations behind the words of those before
 abbrev pub resolved_decls : Top → Words → List Decl → Result (List NDecl) F
 resolved_decls top ws [] = Ok []
-resolved_decls top ws (d ∷ ds) = and_then (within (decl_word d) (resolved_decl top ws d)) (λ c. then_decl c (resolved_decls top (behind d ws) ds))
+resolved_decls top ws (d ∷ ds) = and_then (within (decl_word d) (resolved_decl top ws d)) (λ c. then_item c (resolved_decls top (behind d ws) ds))
 
 -- the nameless form of a module, or its first fault of names
 abbrev pub resolved_or_fault : Module → Result NModule F

@@ -1,7 +1,7 @@
 -- The grammar of the text form, as a relation between tokens and trees, one case for each of its lines. `NamesAt ts ns rest`
 -- says that the tokens `ts` begin with a text of the names `ns`, and that `rest` follows it; the others read likewise.
 -- Nested and flattened spellings give one tree. White space, comments and leading zeros are not seen here.
-use Rattle.std.specs.Prelude.{◌≡◌, ◌≤◌, ℕ, true, List, [], ◌∷◌, ◌++◌, length, map, Ok}
+use Rattle.std.specs.Prelude.{◌≡◌, ℕ, true, List, [], ◌∷◌, map, Ok}
 use Rattle.fc_syntax.specs.Tree.{Word, Decl, Module, ModuleOf}
 use Rattle.fc_syntax.specs.Tokens.{Lexeme, is_module_part, tokens_of}
 use Rattle.fc_model.specs.declared.keyword.Keyword.TheVariants as word

@@ -1,11 +1,10 @@
 -- What a token is to the grammar: a bracket, a word of a form, a name, or a number.
-use Rattle.std.specs.Prelude.{ℕ, ℤ, Bool, true, false, List, [], ◌∷◌, codes, map, Option, Some, None, if◌then◌else◌}
-use Rattle.std.specs.List.{list_any}
+use Rattle.std.specs.Prelude.{ℕ, ℤ, List, codes, map, Option, Some, None, if◌then◌else◌}
 use Rattle.std.specs.Str.{bytes_eq}
 use Rattle.fc_syntax.specs.declared.token.Token.{Token}
 use Rattle.fc_syntax.specs.declared.token.TokenKind.{TokenKind}
 use Rattle.fc_syntax.specs.declared.token.TokenKind.TheVariants as kind
-use Rattle.fc_syntax.specs.Tokens.{Lexeme, is_dot, is_lower_name, is_upper_name, lexeme_of}
+use Rattle.fc_syntax.specs.Tokens.{Lexeme, is_lower_name, is_upper_name, lexeme_of}
 use Rattle.fc_model.specs.declared.keyword.Keyword.{Keyword}
 use Rattle.fc_model.specs.declared.keyword.Keyword.TheVariants as word
 

@@ -1,0 +1,20 @@
+-- One constructor more.
+use Rattle.std.proofs.Common.{◌≡◌, ℕ, ◌+◌, ◌++◌, List, [], ◌∷◌, not, Ok, sym, ap, ◌∙◌}
+use Rattle.fc_syntax.specs.declared.fault.FaultKind.TheVariants.{Duplicate}
+use Rattle.fc_syntax.specs.View.{con_of, cons_of}
+use Rattle.fc_syntax.specs.declared.module.ConDecl.{ConDecl}
+use Rattle.fc_model.specs.Faulting.{need, under, and_then}
+use Rattle.fc_model.specs.NamelessView.{ncon_of}
+use Rattle.fc_model.specs.Resolution.{Top, Locals, WordSet, plus, then_item, resolved_con, resolved_cons}
+use Rattle.fc_model.specs.Building.{with_items}
+use Rattle.fc_model.specs.declared.nameless.NConDecl.{NConDecl}
+use Rattle.fc_model.proofs.Building.{with_items_more}
+
+pub constructor_more : (top : Top) (s : Locals) (earlier earlier' : WordSet) (out out' : List NConDecl) (at at' : ℕ) (con : ConDecl) (rest : List ConDecl) (next : NConDecl)
+    → under at (need (not (earlier con.name)) Duplicate (resolved_con top s (con_of con))) ≡ Ok (ncon_of next)
+    → earlier' ≡ plus con.name earlier → out' ≡ out ++ next ∷ [] → at' ≡ at + 1
+    → with_items ncon_of out (resolved_cons top s earlier at (cons_of (con ∷ rest))) ≡ with_items ncon_of out' (resolved_cons top s earlier' at' (cons_of rest))
+constructor_more top s earlier earlier' out out' at at' con rest next resolved words items part =
+    ap (λ r. with_items ncon_of out (and_then r (λ c. then_item c (resolved_cons top s (plus con.name earlier) (at + 1) (cons_of rest))))) resolved
+    ∙ with_items_more ncon_of out next (resolved_cons top s (plus con.name earlier) (at + 1) (cons_of rest))
+    ∙ (λ i. with_items ncon_of (sym items i) (resolved_cons top s (sym words i) (sym part i) (cons_of rest)))

@@ -1,0 +1,19 @@
+use Rattle.fc_model.proofs.KindedIs.{kind_is, kind_is_one}
+use Rattle.fc_model.proofs.Sameness.{same_type_is}
+use Rattle.fc_model.proofs.TypedIs.{type_is, type_is_one}
+use Rattle.fc_model.proofs.laws.judgements_agree.Goals as goal
+
+pub returns-clause-sameness : goal.returns-clause-sameness
+returns-clause-sameness c = same_type_is
+
+pub returns-clause-kinds : goal.returns-clause-kinds
+returns-clause-kinds c = kind_is
+
+pub returns-clause-one_kind : goal.returns-clause-one_kind
+returns-clause-one_kind c = kind_is_one
+
+pub returns-clause-types : goal.returns-clause-types
+returns-clause-types c = type_is
+
+pub returns-clause-one_type : goal.returns-clause-one_type
+returns-clause-one_type c = type_is_one

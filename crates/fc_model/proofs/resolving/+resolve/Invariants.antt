@@ -1,0 +1,10 @@
+use Rattle.std.proofs.Common.{◌≡◌, drop}
+use Rattle.fc_syntax.specs.View.{args_of}
+use Rattle.fc_model.specs.Resolution.{no_locals, resolved_args}
+use Rattle.fc_model.specs.Building.{with_args}
+use Rattle.fc_model.specs.WordSets.{top_by}
+use Rattle.fc_model.proofs.resolving.+resolve.Given as goal
+
+-- what is resolved, with what is still to come, answers as the whole
+abbrev pub invariant-resolved_args-loop-a : goal.invariant-resolved_args-loop-a
+invariant-resolved_args-loop-a l = resolved_args (top_by l.top) no_locals 0 (args_of l.args) ≡ with_args l.out (resolved_args (top_by l.top) no_locals l.at (args_of (drop l.a-index l.args)))

@@ -1,0 +1,421 @@
+//! From names to distances. Forms that are not built yet never come here, since the reader lets none through; one of them would
+//! be answered with want of memory, which says nothing of the module.
+ghost use Rattle.std.specs.Prelude.{◌≡◌, ◌+◌, [], not, Ok, OnOk, IfOk};
+ghost use Rattle.fc_syntax.specs.declared.fault.FaultKind.TheVariants.{Duplicate};
+ghost use Rattle.fc_syntax.specs.Tree.{DData, DDef};
+ghost use Rattle.fc_syntax.specs.View.{ty_of, tys_of, expr_of, arg_of, args_of, con_of, cons_of, decl_of, decls_of, module_of};
+ghost use Rattle.fc_model.specs.Faulting.{and_then, need, under, within};
+ghost use Rattle.fc_model.specs.Nameless.{NModuleOf};
+ghost use Rattle.fc_model.specs.NamelessView.{nty_of, ntys_of, nexpr_of, narg_of, nargs_of, ncon_of, ncons_of, ndecl_of, ndecls_of, nmodule_of};
+ghost use Rattle.fc_model.specs.Resolution.{behind, con_words, no_locals, no_words, plus_all, declared_name, resolved_ty as ty_resolved, resolved_tys as tys_resolved, resolved_var, resolved_expr as expr_resolved, resolved_arg as arg_resolved, resolved_args as args_resolved, resolved_con as con_resolved, resolved_cons as cons_resolved, resolved_decl as decl_resolved, resolved_decls as decls_resolved, resolved_or_fault, decl_word};
+ghost use Rattle.fc_model.specs.Says.{Says};
+ghost use Rattle.fc_model.specs.WordSets.{set_of, top_by, words_by_space};
+
+use crate::declared::{Declared, Spaces};
+use crate::flaw::{Flawed, deeper, flaw_here, in_declaration};
+use crate::nameless::{NArg, NConDecl, NDecl, NExpr, NModule, NTy};
+use crate::word_set::WordSet;
+use fc_syntax::{Arg, ConDecl, Decl, Expr, FaultKind, Memory, Module, Name, Seq, Text, Ty};
+use std::alloc::Global;
+
+fn next_part(part: u32) -> Result<u32, Memory>
+    ensures { IfOk result (λ n. n ≡ part + 1) }
+{
+    match part.checked_add(1) {
+        Some(next) => Ok(next),
+        None => Err(Memory),
+    }
+}
+
+fn copied(alloc: Global, words: &[Text]) -> Result<Seq<Text>, Memory>
+    ensures { IfOk result (λ s. s ≡ words.now) }
+{
+    let mut all = Seq::new(alloc);
+    for word in words {
+        all.push(word.copy(alloc)?)?;
+    }
+    Ok(all)
+}
+
+// NAMES
+
+/// The name of what a word of these declares, here or in a module that is imported.
+fn declared(alloc: Global, top: &Declared, words: &WordSet, name: &Name) -> Result<Name, Flawed>
+    ensures { Says (λ n. n) result (declared_name (top_by top.now) (set_of words.now) name.now.module name.now.text) }
+{
+    match &name.module {
+        None => {
+            if !words.has(&name.text) {
+                return Err(flaw_here(alloc, FaultKind::Unbound));
+            }
+            let module = top.own.copy(alloc)?;
+            let text = name.text.copy(alloc)?;
+            Ok(Name {
+                module: Some(module),
+                text,
+            })
+        }
+        Some(module) => {
+            if !top.imports.has(module) {
+                return Err(flaw_here(alloc, FaultKind::Unbound));
+            }
+            let module = module.copy(alloc)?;
+            let text = name.text.copy(alloc)?;
+            Ok(Name {
+                module: Some(module),
+                text,
+            })
+        }
+    }
+}
+
+// TYPES
+
+#[tactic(auto, using(fc_syntax::proofs::View::view_rules, crate::proofs::NamelessView::nview_rules))]
+fn resolved_ty(alloc: Global, top: &Declared, t: &Ty) -> Result<NTy, Flawed>
+    ensures { Says nty_of result (ty_resolved (top_by top.now) [] (ty_of t.now)) }
+{
+    match t {
+        Ty::Con(name) => Ok(NTy::Con(declared(alloc, top, &top.spaces.types, name)?)),
+        Ty::IntHash => Ok(NTy::IntHash),
+        Ty::Var(_) => Err(Flawed::Memory),
+        Ty::App(_, _) => Err(Flawed::Memory),
+        Ty::Fun(_, _) => Err(Flawed::Memory),
+        Ty::Forall(_, _, _) => Err(Flawed::Memory),
+        Ty::CoForall(_, _, _, _) => Err(Flawed::Memory),
+    }
+}
+
+fn ty_part(alloc: Global, top: &Declared, t: &Ty, part: u32) -> Result<NTy, Flawed>
+    ensures { Says nty_of result (under part (ty_resolved (top_by top.now) [] (ty_of t.now))) }
+{
+    match resolved_ty(alloc, top, t) {
+        Ok(n) => Ok(n),
+        Err(flawed) => Err(deeper(flawed, part)),
+    }
+}
+
+#[tactic(auto, using(crate::proofs::Building::building_rules, std::proofs::lemmas::Grind::common_steps))]
+fn resolved_tys(alloc: Global, top: &Declared, types: &[Ty]) -> Result<Seq<NTy>, Flawed>
+    ensures { Says ntys_of result (tys_resolved (top_by top.now) [] 0 (tys_of types.now)) }
+{
+    let mut out = Seq::new(alloc);
+    let mut at = 0u32;
+    for t in types {
+        let next = ty_part(alloc, top, t, at)?;
+        out.push(next)?;
+        at = next_part(at)?;
+    }
+    Ok(out)
+}
+
+// EXPRESSIONS
+
+#[tactic(auto, using(crate::proofs::NamelessView::nview_rules, crate::proofs::Variables::variable_declared))]
+fn variable(alloc: Global, top: &Declared, name: &Name) -> Result<NExpr, Flawed>
+    ensures { Says nexpr_of result (resolved_var (top_by top.now) no_locals name.now.module name.now.text) }
+{
+    let name = declared(alloc, top, &top.spaces.terms, name)?;
+    Ok(NExpr::Var(name))
+}
+
+#[cycle(resolve)]
+#[tactic(auto, using(fc_syntax::proofs::View::view_rules, crate::proofs::NamelessView::nview_rules))]
+fn resolved_expr(alloc: Global, top: &Declared, e: &Expr) -> Result<NExpr, Flawed>
+    ensures { Says nexpr_of result (expr_resolved (top_by top.now) no_locals (expr_of e.now)) }
+{
+    match e {
+        Expr::Var(name) => variable(alloc, top, name),
+        Expr::Lit(n) => Ok(NExpr::Lit(*n)),
+        Expr::Con(name, args) => {
+            let name = declared(alloc, top, &top.spaces.terms, name)?;
+            let args = resolved_args(alloc, top, args.as_slice())?;
+            Ok(NExpr::Con(name, args))
+        }
+        Expr::App(_, _) => Err(Flawed::Memory),
+        Expr::Lam(_, _) => Err(Flawed::Memory),
+        Expr::Let(_, _, _) => Err(Flawed::Memory),
+        Expr::Case(_, _, _, _, _) => Err(Flawed::Memory),
+        Expr::Cast(_, _) => Err(Flawed::Memory),
+        Expr::Prim(_, _) => Err(Flawed::Memory),
+        Expr::Fail(_) => Err(Flawed::Memory),
+        Expr::Join(_, _, _, _) => Err(Flawed::Memory),
+        Expr::Jump(_, _) => Err(Flawed::Memory),
+    }
+}
+
+fn expr_part(alloc: Global, top: &Declared, e: &Expr, part: u32) -> Result<NExpr, Flawed>
+    ensures { Says nexpr_of result (under part (expr_resolved (top_by top.now) no_locals (expr_of e.now))) }
+{
+    match resolved_expr(alloc, top, e) {
+        Ok(n) => Ok(n),
+        Err(flawed) => Err(deeper(flawed, part)),
+    }
+}
+
+#[cycle(resolve)]
+fn resolved_arg(alloc: Global, top: &Declared, arg: &Arg) -> Result<NArg, Flawed>
+    ensures { Says narg_of result (arg_resolved (top_by top.now) no_locals (arg_of arg.now)) }
+{
+    match arg {
+        Arg::Term(e) => {
+            let e = resolved_expr(alloc, top, e)?;
+            Ok(NArg::Term(e))
+        }
+        Arg::OfType(_) => Err(Flawed::Memory),
+        Arg::OfCo(_) => Err(Flawed::Memory),
+    }
+}
+
+#[cycle(resolve)]
+fn arg_part(alloc: Global, top: &Declared, arg: &Arg, part: u32) -> Result<NArg, Flawed>
+    ensures { Says narg_of result (under part (arg_resolved (top_by top.now) no_locals (arg_of arg.now))) }
+{
+    match resolved_arg(alloc, top, arg) {
+        Ok(n) => Ok(n),
+        Err(flawed) => Err(deeper(flawed, part)),
+    }
+}
+
+#[cycle(resolve)]
+#[tactic(auto, using(crate::proofs::Building::building_rules, std::proofs::lemmas::Grind::common_steps))]
+fn resolved_args(alloc: Global, top: &Declared, args: &[Arg]) -> Result<Seq<NArg>, Flawed>
+    ensures { Says nargs_of result (args_resolved (top_by top.now) no_locals 0 (args_of args.now)) }
+{
+    let mut out = Seq::new(alloc);
+    let mut at = 0u32;
+    for a in args {
+        let next = arg_part(alloc, top, a, at)?;
+        out.push(next)?;
+        at = next_part(at)?;
+    }
+    Ok(out)
+}
+
+// DECLARATIONS
+
+/// A constructor without binders of its own.
+fn constructor(alloc: Global, top: &Declared, con: &ConDecl) -> Result<NConDecl, Flawed>
+    ensures { Says ncon_of result (con_resolved (top_by top.now) no_locals (con_of con.now)) }
+{
+    match con.binders.as_slice() {
+        [] => {
+            let fields = resolved_tys(alloc, top, con.fields.as_slice())?;
+            let name = con.name.copy(alloc)?;
+            Ok(NConDecl {
+                name,
+                binders: Seq::new(alloc),
+                fields,
+            })
+        }
+        _ => Err(Flawed::Memory),
+    }
+}
+
+/// A constructor behind the words of terms before.
+fn new_constructor(
+    alloc: Global,
+    top: &Declared,
+    earlier: &WordSet,
+    con: &ConDecl,
+) -> Result<NConDecl, Flawed>
+    ensures { Says ncon_of result (need (not (set_of earlier.now con.now.name)) Duplicate (con_resolved (top_by top.now) no_locals (con_of con.now))) }
+{
+    if earlier.has(&con.name) {
+        return Err(flaw_here(alloc, FaultKind::Duplicate));
+    }
+    constructor(alloc, top, con)
+}
+
+fn constructor_part(
+    alloc: Global,
+    top: &Declared,
+    earlier: &WordSet,
+    con: &ConDecl,
+    part: u32,
+) -> Result<NConDecl, Flawed>
+    ensures { Says ncon_of result (under part (need (not (set_of earlier.now con.now.name)) Duplicate (con_resolved (top_by top.now) no_locals (con_of con.now)))) }
+{
+    match new_constructor(alloc, top, earlier, con) {
+        Ok(n) => Ok(n),
+        Err(flawed) => Err(deeper(flawed, part)),
+    }
+}
+
+/// The constructors of a data type, whose words come behind those of terms before.
+#[tactic(auto, using(crate::proofs::Building::building_rules, std::proofs::lemmas::Grind::common_steps))]
+fn constructors(
+    alloc: Global,
+    top: &Declared,
+    earlier: &mut WordSet,
+    cons: &[ConDecl],
+) -> Result<Seq<NConDecl>, Flawed>
+    ensures says { Says ncons_of result (cons_resolved (top_by top.now) no_locals (set_of earlier.old) 0 (cons_of cons.now)) }
+    ensures behind { OnOk result (set_of earlier.new ≡ plus_all (con_words (cons_of cons.now)) (set_of earlier.old)) }
+{
+    let mut out = Seq::new(alloc);
+    let mut at = 0u32;
+    for con in cons {
+        let next = constructor_part(alloc, top, earlier, con, at)?;
+        earlier.add(alloc, &con.name)?;
+        out.push(next)?;
+        at = next_part(at)?;
+    }
+    Ok(out)
+}
+
+/// A data type without parameters.
+#[tactic(auto, unfolding(crate::specs::WordSets::words_by_space))]
+fn data_type(
+    alloc: Global,
+    top: &Declared,
+    earlier: &mut Spaces,
+    name: &Text,
+    cons: &[ConDecl],
+) -> Result<NDecl, Flawed>
+    ensures says { Says ndecl_of result (decl_resolved (top_by top.now) (words_by_space earlier.old) (DData name.now [] (cons_of cons.now))) }
+    ensures behind { OnOk result (words_by_space earlier.new ≡ behind (DData name.now [] (cons_of cons.now)) (words_by_space earlier.old)) }
+{
+    if earlier.types.has(name) {
+        return Err(flaw_here(alloc, FaultKind::Duplicate));
+    }
+    let cons = constructors(alloc, top, &mut earlier.terms, cons)?;
+    earlier.types.add(alloc, name)?;
+    let name = name.copy(alloc)?;
+    Ok(NDecl::DataType(name, Seq::new(alloc), cons))
+}
+
+#[tactic(auto, unfolding(crate::specs::WordSets::words_by_space))]
+fn definition(
+    alloc: Global,
+    top: &Declared,
+    earlier: &mut Spaces,
+    name: &Text,
+    t: &Ty,
+    e: &Expr,
+) -> Result<NDecl, Flawed>
+    ensures says { Says ndecl_of result (decl_resolved (top_by top.now) (words_by_space earlier.old) (DDef name.now (ty_of t.now) (expr_of e.now))) }
+    ensures behind { OnOk result (words_by_space earlier.new ≡ behind (DDef name.now (ty_of t.now) (expr_of e.now)) (words_by_space earlier.old)) }
+{
+    if earlier.terms.has(name) {
+        return Err(flaw_here(alloc, FaultKind::Duplicate));
+    }
+    let t = ty_part(alloc, top, t, 0)?;
+    let e = expr_part(alloc, top, e, 1)?;
+    earlier.terms.add(alloc, name)?;
+    let name = name.copy(alloc)?;
+    Ok(NDecl::Def(name, t, e))
+}
+
+/// A declaration behind the words of those before, to which it adds its own.
+fn declaration(
+    alloc: Global,
+    top: &Declared,
+    earlier: &mut Spaces,
+    decl: &Decl,
+) -> Result<NDecl, Flawed>
+    ensures says { Says ndecl_of result (decl_resolved (top_by top.now) (words_by_space earlier.old) (decl_of decl.now)) }
+    ensures behind { OnOk result (words_by_space earlier.new ≡ behind (decl_of decl.now) (words_by_space earlier.old)) }
+{
+    match decl {
+        Decl::DataType(name, params, cons) => match params.as_slice() {
+            [] => data_type(alloc, top, earlier, name, cons.as_slice()),
+            _ => Err(Flawed::Memory),
+        },
+        Decl::Def(name, t, e) => definition(alloc, top, earlier, name, t, e),
+        Decl::NewType(_, _, _, _) => Err(Flawed::Memory),
+        Decl::Family(_, _, _) => Err(Flawed::Memory),
+        Decl::Axiom(_, _, _, _) => Err(Flawed::Memory),
+        Decl::Wrap(_, _, _) => Err(Flawed::Memory),
+    }
+}
+
+fn word_of(decl: &Decl) -> &Text
+    ensures { result.now ≡ decl_word (decl_of decl.now) }
+{
+    match decl {
+        Decl::DataType(name, _, _) => name,
+        Decl::NewType(name, _, _, _) => name,
+        Decl::Family(name, _, _) => name,
+        Decl::Axiom(name, _, _, _) => name,
+        Decl::Def(name, _, _) => name,
+        Decl::Wrap(name, _, _) => name,
+    }
+}
+
+fn declaration_within(
+    alloc: Global,
+    top: &Declared,
+    earlier: &mut Spaces,
+    decl: &Decl,
+) -> Result<NDecl, Flawed>
+    ensures says { Says ndecl_of result (within (decl_word (decl_of decl.now)) (decl_resolved (top_by top.now) (words_by_space earlier.old) (decl_of decl.now))) }
+    ensures behind { OnOk result (words_by_space earlier.new ≡ behind (decl_of decl.now) (words_by_space earlier.old)) }
+{
+    match declaration(alloc, top, earlier, decl) {
+        Ok(n) => Ok(n),
+        Err(flawed) => Err(in_declaration(alloc, flawed, word_of(decl))),
+    }
+}
+
+/// Declarations behind the words of those before, to which they add their own.
+#[tactic(auto, using(crate::proofs::Building::building_rules, std::proofs::lemmas::Grind::common_steps))]
+fn declarations(
+    alloc: Global,
+    top: &Declared,
+    earlier: &mut Spaces,
+    decls: &[Decl],
+) -> Result<Seq<NDecl>, Flawed>
+    ensures { Says ndecls_of result (decls_resolved (top_by top.now) (words_by_space earlier.old) (decls_of decls.now)) }
+{
+    let mut out = Seq::new(alloc);
+    for decl in decls {
+        let next = declaration_within(alloc, top, earlier, decl)?;
+        out.push(next)?;
+    }
+    Ok(out)
+}
+
+// MODULES
+
+/// A module's header before declarations.
+fn assembled(alloc: Global, m: &Module, decls: Seq<NDecl>) -> Result<NModule, Memory>
+    ensures { IfOk result (λ n. nmodule_of n ≡ NModuleOf m.now.name m.now.imports m.now.exports m.now.hidden (ndecls_of decls)) }
+{
+    let name = m.name.copy(alloc)?;
+    let imports = copied(alloc, m.imports.as_slice())?;
+    let exports = copied(alloc, m.exports.as_slice())?;
+    let hidden = copied(alloc, m.hidden.as_slice())?;
+    Ok(NModule {
+        name,
+        imports,
+        exports,
+        hidden,
+        decls,
+    })
+}
+
+/// The nameless form of a module over what it declares and imports, behind the words of declarations before.
+fn resolved_over(
+    alloc: Global,
+    top: &Declared,
+    earlier: &mut Spaces,
+    m: &Module,
+) -> Result<NModule, Flawed>
+    ensures { Says nmodule_of result (and_then (decls_resolved (top_by top.now) (words_by_space earlier.old) (decls_of m.now.decls)) (λ ds. Ok (NModuleOf m.now.name m.now.imports m.now.exports m.now.hidden ds))) }
+{
+    let decls = declarations(alloc, top, earlier, m.decls.as_slice())?;
+    let whole = assembled(alloc, m, decls)?;
+    Ok(whole)
+}
+
+/// The nameless form of a module. A word that is not in scope is `Unbound`, one that is bound twice in its space `Duplicate`: the
+/// first of them in the order of the text is answered, with its declaration and the numbers of the parts on the way to it. After
+/// want of memory nothing is known of the module.
+pub fn resolve(alloc: Global, m: &Module) -> Result<NModule, Flawed>
+    ensures { Says nmodule_of result (resolved_or_fault (module_of m.now)) }
+{
+    let top = Declared::of_module(alloc, m)?;
+    let mut earlier = Spaces::new(alloc);
+    resolved_over(alloc, &top, &mut earlier, m)
+}

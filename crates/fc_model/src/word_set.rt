@@ -1,0 +1,46 @@
+//! Sets of words.
+ghost use Rattle.std.specs.Prelude.{◌≡◌, OnOk, OnErr};
+ghost use Rattle.fc_model.specs.Resolution.{no_word, plus};
+
+use fc_syntax::{Memory, Text};
+use indexmap::IndexSet;
+use std::alloc::Global;
+
+/// A set of words, in which a word is found in constant time.
+#[derive(Drop)]
+pub struct WordSet {
+    words: IndexSet<String>,
+}
+
+impl WordSet {
+    ghost use Rattle.fc_model.specs.WordSets.{set_of};
+
+    /// No words.
+    #[tactic(auto, unfolding(crate::specs::WordSets::set_of))]
+    pub fn new(alloc: Global) -> WordSet
+        ensures { set_of result ≡ no_word }
+    {
+        WordSet {
+            words: IndexSet::new(alloc),
+        }
+    }
+
+    /// Whether a word is one of them. Takes no memory.
+    #[tactic(auto, unfolding(crate::specs::WordSets::set_of))]
+    pub fn has(&self, word: &Text) -> bool
+        ensures { result ≡ set_of self.now word.now }
+    {
+        self.words.contains(word.as_str())
+    }
+
+    /// Puts a word in. Where memory is wanting, the set is as before.
+    #[tactic(auto, unfolding(crate::specs::WordSets::set_of))]
+    pub fn add(&mut self, alloc: Global, word: &Text) -> Result<(), Memory>
+        ensures ok { OnOk result (set_of self.new ≡ plus word.now (set_of self.old)) }
+        ensures err { OnErr result (set_of self.new ≡ set_of self.old) }
+    {
+        let word = String::from_str(alloc, word.as_str())?;
+        self.words.insert(word)?;
+        Ok(())
+    }
+}
