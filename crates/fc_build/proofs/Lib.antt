@@ -1,3 +1,4 @@
 pub mod JudgeLemmas
 pub mod LineLemmas
+pub mod MeaningLemmas
 pub mod RunLemmas

@@ -1,19 +1,20 @@
 -- What the parts of a build come to in the answers of the top call.
 use Rattle.std.proofs.Common.{◌≡◌, ◌++◌, ◌∙◌, ℕ, List, [], ◌∷◌, length, Option, Some, None, IfSome, refl, sym, ap, subst, arith}
-use Rattle.std.proofs.lemmas.List.{append-nil}
 use Rattle.std.proofs.Math.Seq.{take-length}
 use Rattle.fc_files.specs.Outside.{FileMap, Rose, Told}
-use Rattle.fc_syntax.specs.Tree.{Word, Decl, Module, ModuleOf}
+use Rattle.fc_syntax.specs.Tree.{Module, ModuleOf}
 use Rattle.fc_model.specs.Acceptance.{Accepted, FirstFault, SetFault, missing, bad_form, def_type}
-use Rattle.fc_model.specs.Canonical.{IsBuilt, IsFormed, canonical}
+use Rattle.fc_model.specs.Canonical.{IsBuilt, IsFormed}
 use Rattle.fc_model.specs.Headers.{written_of}
 use Rattle.fc_model.specs.Linting.{Lints}
-use Rattle.fc_model.specs.Texts.{Spells}
+use Rattle.fc_model.proofs.UnderHeader.{written_is_built, written_is_formed, written_lints}
 use Rattle.fc_printer.proofs.ReadBack.{canonical_spells}
 use Rattle.fc_reader.proofs.Laws.{one_module}
+use Rattle.fc_build.proofs.MeaningLemmas.{keeps_meaning}
 use Rattle.fc_build.specs.Words.{AsksBuild}
 use Rattle.fc_build.specs.Lines.{Gets, Says, whole, cut, memory_line, refused_line, write_fault_line}
-use Rattle.fc_build.specs.Product.{IsNameAmong, Output, StopsAt, TakesSome, WritesSome, built_line, outputs_of, put_all}
+use Rattle.fc_build.specs.Meaning.{KeepsMeaning}
+use Rattle.fc_build.specs.Product.{IsNameAmong, Output, StopsAt, TakesSome, WritesSome, built_line, core_name, outputs_of, put_all}
 use Rattle.fc_build.specs.Run.{IsDone, IsFaithful, IsMemoryEnd, IsRefused, IsWriteFault, at_a_file, at_file, at_out}
 
 -- the words ask for at most one file
@@ -79,22 +80,24 @@ put_failed ws file unit held mid held' os w w' out out' o o' err err' e e' asked
     at_out file unit asked is rose (told_at held mid held' os (outputs_of unit) (λ x m m'. m' ≡ put_all x m) m f told)
     (some_of_gets (built_line unit) o o' out out' gets) line
 
--- a module without declarations has the header that it was read with
-written_same : (m : Word) (imports exports hidden : List Word) (ds : List Decl) → ds ≡ [] → written_of (ModuleOf m imports exports hidden ds) ≡ ModuleOf m imports exports hidden ds
-written_same m imports exports hidden ds d =
-    subst (λ x. written_of (ModuleOf m imports exports hidden x) ≡ ModuleOf m imports exports hidden x) (sym d)
-    (ap (λ (h : List Word). ModuleOf m imports exports h []) (append-nil hidden))
-
+-- the text under the written header spells a module that lints, with the same exports and the same declarations
 faithful : (m : Module) → IsBuilt m → IsFormed m → Lints m → IsFaithful m
 faithful (ModuleOf m imports exports hidden ds) built formed lint =
-    let same = written_same m imports exports hidden ds built.1 in
+    let read = ModuleOf m imports exports hidden ds in
     record {
-      spells = subst (λ (x : Module). Spells (canonical x) x) (sym same) (canonical_spells (ModuleOf m imports exports hidden ds) built formed);
-      lints = subst Lints (sym same) lint;
+      spells = canonical_spells (written_of read) (written_is_built read built) (written_is_formed read formed);
+      lints = written_lints read lint;
       name = refl;
       exports = refl;
       declarations = refl;
     }
+
+-- what stands at the name of the core means what was read
+means : (unit : Module) (held held' : Option FileMap) → IsBuilt unit × IsFormed unit × Lints unit → Told held held' (λ m m'. m' ≡ put_all (outputs_of unit) m)
+    → Told held held' (λ m m'. KeepsMeaning unit (m' (core_name unit)))
+means unit None held' ready told = tt
+means unit (Some m) None ready told = told
+means unit (Some m) (Some m') ready told = keeps_meaning unit ready.2 (faithful unit ready.0 ready.1 ready.2).spells m m' told
 
 pub done : (ws : List (List ℕ)) (file : List ℕ) (unit : Module) (held mid held' : Option FileMap) (os : List Output) (out out' : Option (List ℕ))
     → AsksBuild ws file → IfSome held (λ m. Accepted (m file) unit) → IsBuilt unit × IsFormed unit × Lints unit → mid ≡ held → os ≡ outputs_of unit
@@ -107,4 +110,5 @@ done ws file unit held mid held' os out out' asked is ready m f told line = reco
   faithful = faithful unit ready.0 ready.1 ready.2;
   files = told_at held mid held' os (outputs_of unit) (λ x m m'. m' ≡ put_all x m) m f told;
   line = line;
+  meaning = means unit held held' ready (told_at held mid held' os (outputs_of unit) (λ x m m'. m' ≡ put_all x m) m f told);
 }

@@ -10,16 +10,23 @@ pub record Output : Type 0 where
   pub name : List ℕ
   pub text : List ℕ
 
--- the canonical text of the module under the written header
+abbrev pub core_name : Module → List ℕ
+core_name m = codes "./" ++ (name_of m ++ codes ".opt.fc")
+
+abbrev pub interface_name : Module → List ℕ
+interface_name m = codes "./" ++ (name_of m ++ codes ".fci")
+
+-- the canonical text of a module
 abbrev pub core_output : Module → Output
-core_output m = record { name = codes "./" ++ (name_of m ++ codes ".opt.fc"); text = canonical (written_of m) }
+core_output m = record { name = core_name m; text = canonical m }
 
 -- its interface
 abbrev pub interface_output : Module → Output
-interface_output m = record { name = codes "./" ++ (name_of m ++ codes ".fci"); text = interface_text (written_of m) }
+interface_output m = record { name = interface_name m; text = interface_text m }
 
+-- both, of the module under the written header
 abbrev pub outputs_of : Module → List Output
-outputs_of m = core_output m ∷ interface_output m ∷ []
+outputs_of m = core_output (written_of m) ∷ interface_output (written_of m) ∷ []
 
 abbrev pub built_line : Module → List ℕ
 built_line m = codes "built " ++ (name_of m ++ codes "\n")

@@ -9,7 +9,8 @@ use Rattle.fc_model.specs.Linting.{Lints}
 use Rattle.fc_model.specs.Texts.{Spells}
 use Rattle.fc_build.specs.Words.{AsksBuild}
 use Rattle.fc_build.specs.Lines.{Gets, memory_line, read_fault_line, refused_line, write_fault_line}
-use Rattle.fc_build.specs.Product.{IsNameAmong, StopsAt, TakesSome, WritesSome, built_line, outputs_of, put_all}
+use Rattle.fc_build.specs.Meaning.{KeepsMeaning}
+use Rattle.fc_build.specs.Product.{IsNameAmong, StopsAt, TakesSome, WritesSome, built_line, core_name, outputs_of, put_all}
 
 -- The text written spells a module that lints, of the same name, with the same exports at the same types: each declaration
 -- is unchanged.
@@ -21,7 +22,7 @@ pub record IsFaithful (m : Module) : Type 0 where
   pub declarations : decls_in (written_of m) ≡ decls_in m
 
 -- The work is done: the set is accepted, the files held are those before with the outputs put in, the stream got the line,
--- and what was written is faithful to what was read.
+-- what was written is faithful to what was read, and it means the same.
 pub record IsDone (words : List (List ℕ)) (held held' : Option FileMap) (out out' : Option (List ℕ)) : Type 0 where
   pub input : List ℕ
   pub unit : Module
@@ -30,6 +31,7 @@ pub record IsDone (words : List (List ℕ)) (held held' : Option FileMap) (out o
   pub faithful : IsFaithful unit
   pub files : Told held held' (λ m m'. m' ≡ put_all (outputs_of unit) m)
   pub line : Told out out' (λ a b. b ≡ a ++ built_line unit)
+  pub meaning : Told held held' (λ m m'. KeepsMeaning unit (m' (core_name unit)))
 
 -- The set is refused: the line names its first fault.
 pub record IsRefused (words : List (List ℕ)) (held : Option FileMap) (err err' : Option (List ℕ)) (faults faults' : ℕ) : Type 0 where

@@ -1,12 +1,15 @@
 //! Reads a file and judges it.
-ghost use Rattle.std.specs.Prelude.{◌≡◌, ◌≤◌, ◌↔◌, IfSome, IsTrue};
+ghost use Rattle.std.specs.Prelude.{◌≡◌, ◌≤◌, IfSome};
 ghost use Rattle.fc_files.specs.Outside.{Rose};
 ghost use Rattle.fc_syntax.specs.View.{module_of};
 ghost use Rattle.fc_model.specs.Canonical.{IsBuilt};
-ghost use Rattle.fc_model.specs.Linting.{Lints};
+ghost use Rattle.fc_model.specs.Linting.{done, module_lint};
+ghost use Rattle.fc_model.specs.Says.{Says};
 ghost use Rattle.fc_build.specs.Judging.{IsReady, Judges};
 
 use fc_files::{Files, MOST, ReadAnswer};
+use fc_lint_set::lint_module;
+use fc_model::{Flawed, resolve};
 use fc_reader::read_module;
 use fc_syntax::{Module, Refusal};
 use std::alloc::Global;
@@ -28,13 +31,13 @@ pub enum Judged {
     Memory,
 }
 
-// Whether every premise of Lint holds: each exported and each hidden word has a declaration. A module of the grammar so far
-// has no declarations.
-fn lints(m: &Module) -> bool
+/// Whether every premise of names, declarations and types holds of a module, or the first that fails.
+fn lint(alloc: Global, m: &Module) -> Result<(), Flawed>
     requires { IsBuilt (module_of m.now) }
-    ensures { IsTrue result ↔ Lints (module_of m.now) }
+    ensures { Says (λ _. done) result (module_lint (module_of m.now)) }
 {
-    m.exports.is_empty() && m.hidden.is_empty()
+    let nameless = resolve(alloc, m)?;
+    lint_module(alloc, &nameless)
 }
 
 /// Reads the file of a name and judges what it holds.
@@ -54,13 +57,11 @@ pub(crate) fn judge<F: Files>(alloc: Global, files: &mut F, file: &str) -> Judge
         ReadAnswer::Memory => return Judged::Memory,
     };
     match read_module(alloc, file, &bytes) {
-        Ok(m) => {
-            if lints(&m) {
-                Judged::Accepted(m)
-            } else {
-                Judged::DefType(m)
-            }
-        }
+        Ok(m) => match lint(alloc, &m) {
+            Ok(()) => Judged::Accepted(m),
+            Err(Flawed::Flaw(_flaw)) => Judged::DefType(m),
+            Err(Flawed::Memory) => Judged::Memory,
+        },
         Err(Refusal::Fault(_fault)) => Judged::BadForm,
         Err(Refusal::Memory) => Judged::Memory,
     }

@@ -7,6 +7,7 @@ ghost use Rattle.fc_build.specs.Writing.{WritesAll, outputs};
 
 use fc_files::{Files, WriteAnswer};
 use fc_iface::print_interface;
+use fc_model::written;
 use fc_printer::print_module;
 use fc_syntax::{Memory, Module};
 use std::alloc::{AllocError, Global};
@@ -31,6 +32,7 @@ pub enum Written<'a> {
     Memory,
 }
 
+/// The name of a module's file in the folder of the run.
 fn file_name(alloc: Global, name: &str, ending: &str) -> Result<String, AllocError>
     ensures { IfOk result (λ s. string_bytes s ≡ codes "./" ++ (name.now ++ ending.now)) }
 {
@@ -40,6 +42,7 @@ fn file_name(alloc: Global, name: &str, ending: &str) -> Result<String, AllocErr
     Ok(text)
 }
 
+/// The canonical text of a module, under its name.
 fn core_file(alloc: Global, m: &Module) -> Result<File, Memory>
     requires { IsBuilt (module_of m.now) }
     ensures { IfOk result (λ f. outputs (f ∷ []) ≡ core_output (module_of m.now) ∷ []) }
@@ -49,6 +52,7 @@ fn core_file(alloc: Global, m: &Module) -> Result<File, Memory>
     Ok(File { name, text })
 }
 
+/// The interface of a module, under its name.
 fn interface_file(alloc: Global, m: &Module) -> Result<File, Memory>
     requires { IsBuilt (module_of m.now) }
     ensures { IfOk result (λ f. outputs (f ∷ []) ≡ interface_output (module_of m.now) ∷ []) }
@@ -58,13 +62,15 @@ fn interface_file(alloc: Global, m: &Module) -> Result<File, Memory>
     Ok(File { name, text })
 }
 
-/// The files of a module, in the order in which they are written.
+/// The files of a module under the written header, in the order in which they are written.
+#[tactic(auto, using(fc_model::proofs::UnderHeader::written_is_built))]
 pub(crate) fn files_of(alloc: Global, m: &Module) -> Result<[File; 2], Memory>
     requires { IsBuilt (module_of m.now) }
     ensures { IfOk result (λ files. outputs files ≡ outputs_of (module_of m.now)) }
 {
-    let core = core_file(alloc, m)?;
-    let interface = interface_file(alloc, m)?;
+    let whole = written(alloc, m)?;
+    let core = core_file(alloc, &whole)?;
+    let interface = interface_file(alloc, &whole)?;
     Ok([core, interface])
 }
 

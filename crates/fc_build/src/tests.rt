@@ -148,6 +148,252 @@ fn empty_module_is_written(rt: HostRuntime) -> Result<(), Fail> {
     Ok(())
 }
 
+const REFUSED: &[u8] = b"refused 63 DefType M - -\n";
+
+const BAD_FORM: &[u8] = b"refused 3 BadForm M.fc - -\n";
+
+/// Builds each text, and compares the status and the line on the error stream.
+fn are_judged(rt: &impl Abort, alloc: Global, cases: &[(&[u8], u8, &[u8])]) -> Result<(), Fail> {
+    for case in cases {
+        let ran = run_over(rt, alloc, &["build", "M.fc"], case.0, &[], &[])?;
+        assert_eq!(rt; ran.status, case.1);
+        assert_eq!(rt; ran.err.bytes(), case.2);
+    }
+    Ok(())
+}
+
+#[test]
+fn premises_of_names_are_judged(rt: HostRuntime) -> Result<(), Fail> {
+    let alloc = rt.alloc();
+    let cases: [(&[u8], u8, &[u8]); 15] = [
+        // declared before or after its use, and by itself
+        (
+            b"(module M (imports) (exports) (def x T y) (def y T (con K)) (data T () (K ())))",
+            0,
+            b"",
+        ),
+        (
+            b"(module M (imports) (exports) (data T () (K () T)) (def x T (con K x)))",
+            0,
+            b"",
+        ),
+        // Unbound: a type, a type in a field, a variable, a constructor
+        (b"(module M (imports) (exports) (def x T 1#))", 1, REFUSED),
+        (
+            b"(module M (imports) (exports) (data T () (K () U)))",
+            1,
+            REFUSED,
+        ),
+        (
+            b"(module M (imports) (exports) (data T () (K ())) (def x T y))",
+            1,
+            REFUSED,
+        ),
+        (
+            b"(module M (imports) (exports) (data T () (K ())) (def x T (con J)))",
+            1,
+            REFUSED,
+        ),
+        // Duplicate: two types, two constructors, two definitions of one word; a type and a constructor may share one
+        (
+            b"(module M (imports) (exports) (data T ()) (data T ()))",
+            1,
+            REFUSED,
+        ),
+        (
+            b"(module M (imports) (exports) (data T () (K ()) (K ())))",
+            1,
+            REFUSED,
+        ),
+        (
+            b"(module M (imports) (exports) (data T () (K ())) (data U () (K ())))",
+            1,
+            REFUSED,
+        ),
+        (
+            b"(module M (imports) (exports) (data T () (K ())) (def x T (con K)) (def x T (con K)))",
+            1,
+            REFUSED,
+        ),
+        (
+            b"(module M (imports) (exports) (data T () (T ())) (def x T (con T)))",
+            0,
+            b"",
+        ),
+        // ExportUnknown: an exported word, a hidden word; a type, a constructor and a definition are declared
+        (
+            b"(module M (imports) (exports T K x) (hidden y) (data T () (K ())) (def x T (con K)) (def y T x))",
+            0,
+            b"",
+        ),
+        (
+            b"(module M (imports) (exports z) (data T () (K ())) (def x T (con K)))",
+            1,
+            REFUSED,
+        ),
+        (
+            b"(module M (imports) (exports x) (hidden z) (data T () (K ())) (def x T (con K)))",
+            1,
+            REFUSED,
+        ),
+        // two faults, of names and of types
+        (
+            b"(module M (imports) (exports) (data T () (K () T)) (def x T (con K)) (def x T (con K)))",
+            1,
+            REFUSED,
+        ),
+    ];
+    are_judged(&rt, alloc, cases.as_slice())
+}
+
+#[test]
+fn premises_of_types_are_judged(rt: HostRuntime) -> Result<(), Fail> {
+    let alloc = rt.alloc();
+    let cases: [(&[u8], u8, &[u8]); 12] = [
+        // a literal and a constructor as fields
+        (
+            b"(module M (imports) (exports) (data T () (K () Int#) (L () T T)) (def x T (con L (con K 1#) (con K -2#))))",
+            0,
+            b"",
+        ),
+        // UnliftedTop: a definition at Int#
+        (
+            b"(module M (imports) (exports) (def x Int# 1#))",
+            1,
+            REFUSED,
+        ),
+        // ConArity: too few fields, too many, none where one is wanted
+        (
+            b"(module M (imports) (exports) (data T () (K () T T) (N ())) (def x T (con K (con N))))",
+            1,
+            REFUSED,
+        ),
+        (
+            b"(module M (imports) (exports) (data T () (K () T) (N ())) (def x T (con K (con N) (con N))))",
+            1,
+            REFUSED,
+        ),
+        (
+            b"(module M (imports) (exports) (data T () (K () Int#)) (def x T (con K)))",
+            1,
+            REFUSED,
+        ),
+        // ArgType: a constructor where an unlifted field is wanted, a literal where a lifted one is, another data type
+        (
+            b"(module M (imports) (exports) (data T () (K () Int#) (N ())) (def x T (con K (con N))))",
+            1,
+            REFUSED,
+        ),
+        (
+            b"(module M (imports) (exports) (data T () (K () T)) (def x T (con K 1#)))",
+            1,
+            REFUSED,
+        ),
+        (
+            b"(module M (imports) (exports) (data T () (K () U)) (data U ()) (def y T y) (def x T (con K y)))",
+            1,
+            REFUSED,
+        ),
+        // a fault in a field of a field
+        (
+            b"(module M (imports) (exports) (data T () (K () T) (N () Int#)) (def x T (con K (con N))))",
+            1,
+            REFUSED,
+        ),
+        // DefType: a literal, a constructor, a variable of another type
+        (
+            b"(module M (imports) (exports) (data T () (K ())) (def x T 1#))",
+            1,
+            REFUSED,
+        ),
+        (
+            b"(module M (imports) (exports) (data T () (K ())) (data U () (J ())) (def x T (con J)))",
+            1,
+            REFUSED,
+        ),
+        (
+            b"(module M (imports) (exports) (data T () (K ())) (data U () (J ())) (def y U (con J)) (def x T y))",
+            1,
+            REFUSED,
+        ),
+    ];
+    are_judged(&rt, alloc, cases.as_slice())
+}
+
+#[test]
+fn forms_are_judged(rt: HostRuntime) -> Result<(), Fail> {
+    let alloc = rt.alloc();
+    let cases: [(&[u8], u8, &[u8]); 12] = [
+        // the greatest literal, and one more
+        (
+            b"(module M (imports) (exports Int f) (data Int () (I# () Int#)) (def f Int (con I# 9223372036854775807#)))",
+            0,
+            b"",
+        ),
+        (
+            b"(module M (imports) (exports Int f) (data Int () (I# () Int#)) (def f Int (con I# 9223372036854775808#)))",
+            1,
+            BAD_FORM,
+        ),
+        (
+            b"(module M (imports) (exports) (data T () (K () Int#)) (def f T (con K -9223372036854775808#)))",
+            0,
+            b"",
+        ),
+        (b"(module M' (imports) (exports))", 1, BAD_FORM),
+        (b"(module M (imports N) (exports))", 1, BAD_FORM),
+        (b"(module M (imports) (exports) (def X T 1#))", 1, BAD_FORM),
+        (
+            b"(module M (imports) (exports) (def con T 1#))",
+            1,
+            BAD_FORM,
+        ),
+        (b"(module M (imports) (exports) (data t ()))", 1, BAD_FORM),
+        (
+            b"(module M (imports) (exports) (data T () (K () (con K))))",
+            1,
+            BAD_FORM,
+        ),
+        (
+            b"(module M (imports) (exports) (def x T (lam ((y T)) y)))",
+            1,
+            BAD_FORM,
+        ),
+        // sixteen fields, and one more
+        (
+            b"(module M (imports) (exports) (data T () (K () T T T T T T T T T T T T T T T T)))",
+            0,
+            b"",
+        ),
+        (
+            b"(module M (imports) (exports) (data T () (K () T T T T T T T T T T T T T T T T T)))",
+            1,
+            BAD_FORM,
+        ),
+    ];
+    are_judged(&rt, alloc, cases.as_slice())
+}
+
+#[test]
+fn declarations_are_written(rt: HostRuntime) -> Result<(), Fail> {
+    let alloc = rt.alloc();
+    let text =
+        b"(module M (imports) (exports T x)\n(hidden K) (data T () (K ()) (P () T Int#))\n; a comment\n(def x T y) (def y T (con P (con K) -007#)))";
+    let mut ran = run_over(&rt, alloc, &["build", "M.fc"], text, &[], &[])?;
+    assert_eq!(rt; ran.status, 0);
+    let core = held(alloc, &mut ran.files, "./M.opt.fc").ok_or("no core")?;
+    assert_eq!(rt;
+        core.as_slice(),
+        b"(module M (imports) (exports T x) (hidden K P y)\n (data T () (K ()) (P () T Int#))\n (def x T y)\n (def y T (con P (con K) -7#)))\n".as_slice()
+    );
+    let interface = held(alloc, &mut ran.files, "./M.fci").ok_or("no interface")?;
+    assert_eq!(rt;
+        interface.as_slice(),
+        b"(interface 1 M (imports) (exports T x) (hidden K P y)\n (data T () (K ()) (P () T Int#))\n (value x T (sig) none)\n (value y T (sig) none))\n".as_slice()
+    );
+    Ok(())
+}
+
 /// Files that have no memory to read with.
 #[derive(Drop)]
 struct NoMemory;

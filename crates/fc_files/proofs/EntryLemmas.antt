@@ -52,6 +52,7 @@ map_of-set es n v i d y at same bytes =
     (λ k. ap bytes_found (find_past (is_named q) es i y d (ap (λ t. bytes_eq t q) old ∙ k) (ap (λ t. bytes_eq t q) own ∙ k))) in
     λ k q. point q k
 
+-- where the rest has nothing, the answer is the first list's
 or_none : (o : Option Entry) → option_or o None ≡ o
 or_none None = refl
 or_none (Some x) = refl

@@ -1,5 +1,6 @@
--- How far a call moves the counts, in the files and streams of this crate.
-use Rattle.std.specs.Prelude.{ℕ, ◌+◌, ◌-◌, ◌^◌, min}
+-- How the files and streams of this crate count calls and faults, and which numbered calls fail.
+use Rattle.std.specs.Prelude.{ℕ, Bool, List, ◌+◌, ◌-◌, ◌^◌, ◌==◌, ◌&&◌, min, nat_lt}
+use Rattle.std.specs.List.{list_any}
 use Rattle.fc_files.specs.declared.ReadAnswer.{ReadAnswer}
 use Rattle.fc_files.specs.declared.ReadAnswer.TheVariants as read
 use Rattle.fc_files.specs.declared.WriteAnswer.{WriteAnswer}
@@ -25,3 +26,7 @@ count_after_write _ n = n
 abbrev pub count_after_put : PutAnswer → ℕ → ℕ
 count_after_put put_answer.Failed n = next_count n
 count_after_put put_answer.Ok n = n
+
+-- after so many calls, the next is one of those with these numbers; after the last number none is
+abbrev pub is_failing_call : ℕ → List ℕ → Bool
+is_failing_call calls fails = nat_lt calls (2 ^ 64 - 1) && list_any (λ n. n == (calls + 1)) fails

@@ -2,7 +2,7 @@
 use Rattle.std.specs.Prelude.{ℕ, Bool, List, [], ◌-◌, ◌||◌, nat_lt, take, length, if◌then◌else◌}
 use Rattle.fc_files.specs.declared.sinks.MemSink.{MemSink}
 use Rattle.fc_files.specs.declared.sinks.CountSink.{CountSink}
-use Rattle.fc_files.specs.Calls.{is_failing_call}
+use Rattle.fc_files.specs.Counts.{is_failing_call}
 
 -- the bytes that it has taken
 abbrev pub bytes_of : MemSink → List ℕ
@@ -14,11 +14,11 @@ room_of s = length s.room.items
 
 -- how many puts there were, up to the last number
 abbrev pub puts_of : MemSink → ℕ
-puts_of s = s.puts
+puts_of s = s.puts.so_far
 
 -- the numbers of the puts that fail
 abbrev pub failing_puts_of : MemSink → List ℕ
-failing_puts_of s = s.fails.items
+failing_puts_of s = s.puts.fails.items
 
 -- how many bytes its room still takes
 abbrev pub free_of : MemSink → ℕ

@@ -66,7 +66,8 @@ pub(crate) fn write_entry(
     name: &str,
     bytes: &[u8],
 ) -> WriteAnswer
-    ensures writes { Writes result name.now bytes.now (map_of entries.old.items) (map_of entries.new.items) }
+    ensures writes { Writes result name.now bytes.now (map_of entries.old.items)
+        (map_of entries.new.items) }
     ensures sure { result ≡ WriteAnswer.Failed → ⊥ }
     ensures stays { result ≡ WriteAnswer.Memory → entries.new.items ≡ entries.old.items }
 {

@@ -1,5 +1,5 @@
 // The real files and streams.
-ghost use Rattle.std.specs.Prelude.{◌≡◌, ◌≤◌, ◌<◌, ◌+◌, ℕ, None, Some, IfSome, OnOk};
+ghost use Rattle.std.specs.Prelude.{◌≡◌, ◌≤◌, ◌+◌, None, Some, IfSome, OnOk};
 ghost use Rattle.std.specs.Io.KnownBytes.{Appends};
 ghost use Rattle.fc_files.specs.Outside.{IsWithin, Reads, Rose};
 ghost use Rattle.fc_files.specs.Counts.{count_after_put, count_after_read, count_after_write};
@@ -10,10 +10,11 @@ use std::alloc::Global;
 use std::io::{ErrorKind, Read, Write};
 use std::{fs, io};
 
-/// The files of the system, by their paths.
+/// The files of the system, each named by its path.
 ///
-/// It tells nothing of what they hold. Each error is counted, up to 2^64 - 1, but that a file which
-/// is to be read does not exist.
+/// It tells nothing of what they hold. A read takes at most one byte more than was asked for. A
+/// path at which there is nothing is `Absent`, and every other error is `Failed` and counted, but
+/// want of memory for the bytes. A write makes the file anew, and creates no folder.
 #[derive(Drop)]
 pub struct HostFiles<R> {
     rt: R,
@@ -21,16 +22,17 @@ pub struct HostFiles<R> {
     write_faults: u64,
 }
 
-/// A stream of the system.
+/// A stream of the system, as standard output.
 ///
-/// It tells nothing of what it has taken. Each error is counted, up to 2^64 - 1.
+/// It tells nothing of what it has taken. Each piece goes through any buffer of the writer before
+/// its put answers, and every error is `Failed` and counted.
 #[derive(Drop)]
 pub struct HostSink<W> {
     to: W,
     faults: u64,
 }
 
-// The bytes of an open file up to its end. At most one more than `most` is taken from it.
+// The bytes of an open file up to its end. At most one byte more than `most` is taken from it.
 fn read_all<F: Read + Drop>(alloc: Global, file: F, most: u64) -> ReadAnswer
     requires { most ≤ MOST }
     ensures within { IsWithin result most }
@@ -69,7 +71,7 @@ fn read_file<R: std::rt::Files>(rt: &R, alloc: Global, name: &str, most: u64) ->
     }
 }
 
-// Writes all bytes, and through any buffer on the way, so that a fault shows now and not later.
+// Writes all bytes, through any buffer on the way, so that a fault shows now and not later.
 fn write_through<W: Write>(to: &mut W, bytes: &[u8]) -> io::Result<()>
     ensures { OnOk result (Appends (W.contents to.old) (W.contents to.new) bytes.now) }
 {
@@ -86,8 +88,8 @@ fn write_file<R: std::rt::Files>(rt: &R, name: &str, bytes: &[u8]) -> io::Result
 impl<R: std::rt::Files> HostFiles<R> {
     /// The files that `rt` reaches. No call has failed yet.
     pub fn new(rt: R) -> HostFiles<R>
-        ensures reads { ⟦<HostFiles<R> as Files>⟧.read_faults result ≡ 0 }
-        ensures writes { ⟦<HostFiles<R> as Files>⟧.write_faults result ≡ 0 }
+        ensures reads { ⟦<Self as Files>⟧.read_faults result ≡ 0 }
+        ensures writes { ⟦<Self as Files>⟧.write_faults result ≡ 0 }
     {
         HostFiles {
             rt,
@@ -104,16 +106,18 @@ impl<R: std::rt::Files> Files for HostFiles<R> {
 
     ghost write_faults = { λ s. s.write_faults };
 
-    // At most `most + 1` bytes are taken from the file. A path of which no file exists is `Absent`,
-    // and every other error is `Failed`.
     fn read(&mut self, alloc: Global, name: &str, most: u64) -> ReadAnswer
         requires { most ≤ MOST }
         ensures within { IsWithin result most }
-        ensures write_faults_stay { ⟦<HostFiles<R> as Files>⟧.write_faults self.new ≡ ⟦<HostFiles<R> as Files>⟧.write_faults self.old }
-        ensures later { ⟦<HostFiles<R> as Files>⟧.read_faults self.old ≤ ⟦<HostFiles<R> as Files>⟧.read_faults self.new }
-        ensures cause { result ≡ ReadAnswer.Failed → Rose (⟦<HostFiles<R> as Files>⟧.read_faults self.old) (⟦<HostFiles<R> as Files>⟧.read_faults self.new) }
+        ensures write_faults_stay { ⟦<Self as Files>⟧.write_faults self.new
+            ≡ ⟦<Self as Files>⟧.write_faults self.old }
+        ensures later { ⟦<Self as Files>⟧.read_faults self.old
+            ≤ ⟦<Self as Files>⟧.read_faults self.new }
+        ensures cause { result ≡ ReadAnswer.Failed
+            → Rose (⟦<Self as Files>⟧.read_faults self.old) (⟦<Self as Files>⟧.read_faults self.new) }
 
-        ensures count { ⟦<HostFiles<R> as Files>⟧.read_faults self.new ≡ count_after_read result (⟦<HostFiles<R> as Files>⟧.read_faults self.old) }
+        ensures count { ⟦<Self as Files>⟧.read_faults self.new
+            ≡ count_after_read result (⟦<Self as Files>⟧.read_faults self.old) }
     {
         match read_file(&self.rt, alloc, name, most) {
             ReadAnswer::Ok(bytes) => ReadAnswer::Ok(bytes),
@@ -128,11 +132,15 @@ impl<R: std::rt::Files> Files for HostFiles<R> {
     }
 
     fn write(&mut self, _alloc: Global, name: &str, bytes: &[u8]) -> WriteAnswer
-        ensures read_faults_stay { ⟦<HostFiles<R> as Files>⟧.read_faults self.new ≡ ⟦<HostFiles<R> as Files>⟧.read_faults self.old }
-        ensures later { ⟦<HostFiles<R> as Files>⟧.write_faults self.old ≤ ⟦<HostFiles<R> as Files>⟧.write_faults self.new }
-        ensures cause { result ≡ WriteAnswer.Failed → Rose (⟦<HostFiles<R> as Files>⟧.write_faults self.old) (⟦<HostFiles<R> as Files>⟧.write_faults self.new) }
+        ensures read_faults_stay { ⟦<Self as Files>⟧.read_faults self.new
+            ≡ ⟦<Self as Files>⟧.read_faults self.old }
+        ensures later { ⟦<Self as Files>⟧.write_faults self.old
+            ≤ ⟦<Self as Files>⟧.write_faults self.new }
+        ensures cause { result ≡ WriteAnswer.Failed
+            → Rose (⟦<Self as Files>⟧.write_faults self.old) (⟦<Self as Files>⟧.write_faults self.new) }
 
-        ensures count { ⟦<HostFiles<R> as Files>⟧.write_faults self.new ≡ count_after_write result (⟦<HostFiles<R> as Files>⟧.write_faults self.old) }
+        ensures count { ⟦<Self as Files>⟧.write_faults self.new
+            ≡ count_after_write result (⟦<Self as Files>⟧.write_faults self.old) }
     {
         match write_file(&self.rt, name, bytes) {
             Ok(()) => WriteAnswer::Ok,
@@ -147,7 +155,7 @@ impl<R: std::rt::Files> Files for HostFiles<R> {
 impl<W: Write> HostSink<W> {
     /// A stream that writes into `to`. No put has failed yet.
     pub fn new(to: W) -> HostSink<W>
-        ensures faults { ⟦<HostSink<W> as Sink>⟧.faults result ≡ 0 }
+        ensures faults { ⟦<Self as Sink>⟧.faults result ≡ 0 }
         ensures to { writer_of result ≡ to }
     {
         HostSink { to, faults: 0 }
@@ -160,12 +168,15 @@ impl<W: Write> Sink for HostSink<W> {
     ghost faults = { λ s. s.faults };
 
     fn put(&mut self, bytes: &[u8]) -> PutAnswer
-        ensures later { ⟦<HostSink<W> as Sink>⟧.faults self.old ≤ ⟦<HostSink<W> as Sink>⟧.faults self.new }
-        ensures cause { result ≡ PutAnswer.Failed → Rose (⟦<HostSink<W> as Sink>⟧.faults self.old) (⟦<HostSink<W> as Sink>⟧.faults self.new) }
+        ensures later { ⟦<Self as Sink>⟧.faults self.old ≤ ⟦<Self as Sink>⟧.faults self.new }
+        ensures cause { result ≡ PutAnswer.Failed
+            → Rose (⟦<Self as Sink>⟧.faults self.old) (⟦<Self as Sink>⟧.faults self.new) }
 
-        // What the writer holds grows by the piece, where the writer says what it holds.
-        ensures written { result ≡ PutAnswer.Ok → Appends (W.contents (writer_of self.old)) (W.contents (writer_of self.new)) bytes.now }
-        ensures count { ⟦<HostSink<W> as Sink>⟧.faults self.new ≡ count_after_put result (⟦<HostSink<W> as Sink>⟧.faults self.old) }
+        // What the writer holds grows by the piece, where the writer tells it.
+        ensures written { result ≡ PutAnswer.Ok
+            → Appends (W.contents (writer_of self.old)) (W.contents (writer_of self.new)) bytes.now }
+        ensures count { ⟦<Self as Sink>⟧.faults self.new
+            ≡ count_after_put result (⟦<Self as Sink>⟧.faults self.old) }
     {
         match write_through(&mut self.to, bytes) {
             Ok(()) => PutAnswer::Ok,

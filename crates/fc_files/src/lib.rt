@@ -1,10 +1,10 @@
 //! The outside of the compiler: files by name and streams that take bytes, each with a meaning and
 //! with counts of its faults.
 //!
-//! Code above is generic in [`Files`] and [`Sink`], so that it is proved for every device, and
+//! Code above is generic in [`Files`] and [`Sink`], so that it is proved for every device and
 //! tested with devices that fail. [`MemFiles`], [`SureFiles`] and [`MemSink`] stand in memory and
-//! tell what they hold, [`CountSink`] keeps a number alone, and [`HostFiles`] and [`HostSink`] are
-//! the real files and streams, of which nothing is claimed but the shape of the answers.
+//! tell what they hold. [`CountSink`] keeps a number alone. [`HostFiles`] and [`HostSink`] are the
+//! real files and streams: what a real file holds is not claimed.
 //!
 //! A call that cannot be done answers `Failed`, and then its count of faults rose in that call, or
 //! stands at its last value, 2^64 - 1. Counts never fall. Want of memory may be answered by every
@@ -14,6 +14,7 @@
 mod entries;
 mod host;
 mod mem_files;
+mod numbered;
 mod sinks;
 #[cfg(test)]
 mod tests;
@@ -82,8 +83,8 @@ pub trait Files {
     ///
     /// # Errors
     ///
-    /// `Absent` where there is no such file, `TooLong` where it has more than `most` bytes, `Failed`
-    /// where the device failed, and `Memory` where no memory was left for the bytes.
+    /// `Absent` where there is no such file, `TooLong` where it has more than `most` bytes,
+    /// `Failed` where the device failed, and `Memory` where no memory was left for the bytes.
     fn read(&mut self, alloc: Global, name: &str, most: u64) -> ReadAnswer
         requires { most ≤ MOST }
         ensures within { IsWithin result most }
@@ -91,19 +92,21 @@ pub trait Files {
         ensures held_stays { held self.new ≡ held self.old }
         ensures write_faults_stay { write_faults self.new ≡ write_faults self.old }
         ensures later { read_faults self.old ≤ read_faults self.new }
-        ensures cause { result ≡ ReadAnswer.Failed → Rose (read_faults self.old) (read_faults self.new) };
+        ensures cause { result ≡ ReadAnswer.Failed
+            → Rose (read_faults self.old) (read_faults self.new) };
 
     /// Makes `bytes` the bytes of the file `name`, whether or not it was there.
     ///
     /// # Errors
     ///
-    /// `Failed` where the device failed, and `Memory` where no memory was left. After either the file
-    /// `name` may hold anything or be gone, and every other file stands as before.
+    /// `Failed` where the device failed, and `Memory` where no memory was left. After either the
+    /// file `name` may hold anything or be gone, and every other file stands as before.
     fn write(&mut self, alloc: Global, name: &str, bytes: &[u8]) -> WriteAnswer
         ensures writes { Told (held self.old) (held self.new) (Writes result name.now bytes.now) }
         ensures read_faults_stay { read_faults self.new ≡ read_faults self.old }
         ensures later { write_faults self.old ≤ write_faults self.new }
-        ensures cause { result ≡ WriteAnswer.Failed → Rose (write_faults self.old) (write_faults self.new) };
+        ensures cause { result ≡ WriteAnswer.Failed
+            → Rose (write_faults self.old) (write_faults self.new) };
 }
 
 /// A stream that takes bytes.
@@ -118,8 +121,8 @@ pub trait Sink {
     ///
     /// # Errors
     ///
-    /// `Failed` where the device failed: it has then taken a part from the front of the piece, which
-    /// may be nothing or all of it.
+    /// `Failed` where the device failed: it has then taken a part from the front of the piece,
+    /// which may be nothing or all of it.
     fn put(&mut self, bytes: &[u8]) -> PutAnswer
         ensures takes { Told (taken self.old) (taken self.new) (Takes result bytes.now) }
         ensures later { faults self.old ≤ faults self.new }

@@ -1,11 +1,13 @@
 // Files in memory.
-ghost use Rattle.std.specs.Prelude.{◌≡◌, ◌≤◌, ◌↔◌, ◌⊎◌, Some, IfSome, IsTrue, if◌then◌else◌};
+ghost use Rattle.std.specs.Prelude.{◌≡◌, ◌≤◌, ◌↔◌, ◌⊎◌, Some, IfSome, IsTrue};
 ghost use Rattle.fc_files.specs.Outside.{IsWithin, Reads, Rose, Told, Writes};
 ghost use Rattle.fc_files.specs.Entries.{HasDistinctNames, map_of};
-ghost use Rattle.fc_files.specs.Counts.{count_after_read, count_after_write, next_count};
-ghost use Rattle.fc_files.specs.Calls.{calls_of, fails_of, is_failing_call};
+ghost use Rattle.fc_files.specs.Counts.{count_after_read, count_after_write, is_failing_call};
+ghost use Rattle.fc_files.specs.Counts.{next_count};
+ghost use Rattle.fc_files.specs.Calls.{calls_of, fails_of};
 
 use crate::entries::{read_entry, write_entry};
+use crate::numbered::NumberedCalls;
 use crate::{Files, ReadAnswer, WriteAnswer};
 use std::alloc::Global;
 
@@ -17,8 +19,7 @@ use std::alloc::Global;
 #[derive(Drop)]
 pub struct MemFiles {
     entries: Vec<(String, Vec<u8>)>,
-    fails: Vec<u64>,
-    calls: u64,
+    calls: NumberedCalls,
     read_faults: u64,
     write_faults: u64,
 }
@@ -34,7 +35,7 @@ impl SureFiles {
     /// [`has_distinct_names`](crate::has_distinct_names) tests.
     pub fn new(entries: Vec<(String, Vec<u8>)>) -> SureFiles
         requires { HasDistinctNames entries.items }
-        ensures { ⟦<SureFiles as Files>⟧.held result ≡ Some (map_of entries.items) }
+        ensures { ⟦<Self as Files>⟧.held result ≡ Some (map_of entries.items) }
     {
         SureFiles { entries }
     }
@@ -49,8 +50,9 @@ impl Files for SureFiles {
 
     fn read(&mut self, alloc: Global, name: &str, most: u64) -> ReadAnswer
         ensures within { IsWithin result most }
-        ensures reads { IfSome (⟦<SureFiles as Files>⟧.held self.old) (λ m. Reads (m name.now) most result) }
-        ensures held_stays { ⟦<SureFiles as Files>⟧.held self.new ≡ ⟦<SureFiles as Files>⟧.held self.old }
+        ensures reads { IfSome (⟦<Self as Files>⟧.held self.old)
+            (λ m. Reads (m name.now) most result) }
+        ensures held_stays { ⟦<Self as Files>⟧.held self.new ≡ ⟦<Self as Files>⟧.held self.old }
 
         ensures sure { result ≡ ReadAnswer.Failed → ⊥ }
     {
@@ -58,10 +60,12 @@ impl Files for SureFiles {
     }
 
     fn write(&mut self, alloc: Global, name: &str, bytes: &[u8]) -> WriteAnswer
-        ensures writes { Told (⟦<SureFiles as Files>⟧.held self.old) (⟦<SureFiles as Files>⟧.held self.new) (Writes result name.now bytes.now) }
+        ensures writes { Told (⟦<Self as Files>⟧.held self.old) (⟦<Self as Files>⟧.held self.new)
+            (Writes result name.now bytes.now) }
 
         ensures sure { result ≡ WriteAnswer.Failed → ⊥ }
-        ensures stays { result ≡ WriteAnswer.Memory → ⟦<SureFiles as Files>⟧.held self.new ≡ ⟦<SureFiles as Files>⟧.held self.old }
+        ensures stays { result ≡ WriteAnswer.Memory
+            → ⟦<Self as Files>⟧.held self.new ≡ ⟦<Self as Files>⟧.held self.old }
     {
         write_entry(alloc, &mut self.entries, name, bytes)
     }
@@ -74,31 +78,18 @@ impl MemFiles {
     /// and further copies of a number do nothing.
     pub fn new(entries: Vec<(String, Vec<u8>)>, fails: Vec<u64>) -> MemFiles
         requires { HasDistinctNames entries.items }
-        ensures held { ⟦<MemFiles as Files>⟧.held result ≡ Some (map_of entries.items) }
-        ensures reads { ⟦<MemFiles as Files>⟧.read_faults result ≡ 0 }
-        ensures writes { ⟦<MemFiles as Files>⟧.write_faults result ≡ 0 }
+        ensures held { ⟦<Self as Files>⟧.held result ≡ Some (map_of entries.items) }
+        ensures reads { ⟦<Self as Files>⟧.read_faults result ≡ 0 }
+        ensures writes { ⟦<Self as Files>⟧.write_faults result ≡ 0 }
         ensures calls { calls_of result ≡ 0 }
         ensures fails { fails_of result ≡ fails.items }
     {
         MemFiles {
             entries,
-            fails,
-            calls: 0,
+            calls: NumberedCalls::new(fails),
             read_faults: 0,
             write_faults: 0,
         }
-    }
-
-    // Counts the call, and says whether it fails.
-    fn is_failing(&mut self) -> bool
-        ensures answer { result ≡ is_failing_call (calls_of self.old) (fails_of self.old) }
-        ensures calls { self.new ≡ record self.old { calls = next_count self.old.calls } }
-    {
-        if self.calls == u64::MAX {
-            return false;
-        }
-        self.calls += 1;
-        self.fails.contains(&self.calls)
     }
 }
 
@@ -111,19 +102,25 @@ impl Files for MemFiles {
 
     fn read(&mut self, alloc: Global, name: &str, most: u64) -> ReadAnswer
         ensures within { IsWithin result most }
-        ensures reads { IfSome (⟦<MemFiles as Files>⟧.held self.old) (λ m. Reads (m name.now) most result) }
-        ensures held_stays { ⟦<MemFiles as Files>⟧.held self.new ≡ ⟦<MemFiles as Files>⟧.held self.old }
-        ensures write_faults_stay { ⟦<MemFiles as Files>⟧.write_faults self.new ≡ ⟦<MemFiles as Files>⟧.write_faults self.old }
-        ensures later { ⟦<MemFiles as Files>⟧.read_faults self.old ≤ ⟦<MemFiles as Files>⟧.read_faults self.new }
-        ensures cause { result ≡ ReadAnswer.Failed → Rose (⟦<MemFiles as Files>⟧.read_faults self.old) (⟦<MemFiles as Files>⟧.read_faults self.new) }
+        ensures reads { IfSome (⟦<Self as Files>⟧.held self.old)
+            (λ m. Reads (m name.now) most result) }
+        ensures held_stays { ⟦<Self as Files>⟧.held self.new ≡ ⟦<Self as Files>⟧.held self.old }
+        ensures write_faults_stay { ⟦<Self as Files>⟧.write_faults self.new
+            ≡ ⟦<Self as Files>⟧.write_faults self.old }
+        ensures later { ⟦<Self as Files>⟧.read_faults self.old
+            ≤ ⟦<Self as Files>⟧.read_faults self.new }
+        ensures cause { result ≡ ReadAnswer.Failed
+            → Rose (⟦<Self as Files>⟧.read_faults self.old) (⟦<Self as Files>⟧.read_faults self.new) }
 
         // The calls of the given numbers fail, and no other fails.
-        ensures fails { (result ≡ ReadAnswer.Failed) ↔ IsTrue (is_failing_call (calls_of self.old) (fails_of self.old)) }
-        ensures count { ⟦<MemFiles as Files>⟧.read_faults self.new ≡ count_after_read result (⟦<MemFiles as Files>⟧.read_faults self.old) }
+        ensures fails { (result ≡ ReadAnswer.Failed)
+            ↔ IsTrue (is_failing_call (calls_of self.old) (fails_of self.old)) }
+        ensures count { ⟦<Self as Files>⟧.read_faults self.new
+            ≡ count_after_read result (⟦<Self as Files>⟧.read_faults self.old) }
         ensures calls { calls_of self.new ≡ next_count (calls_of self.old) }
         ensures list_stays { fails_of self.new ≡ fails_of self.old }
     {
-        if self.is_failing() {
+        if self.calls.next_fails() {
             self.read_faults = self.read_faults.saturating_add(1);
             return ReadAnswer::Failed;
         }
@@ -131,19 +128,26 @@ impl Files for MemFiles {
     }
 
     fn write(&mut self, alloc: Global, name: &str, bytes: &[u8]) -> WriteAnswer
-        ensures writes { Told (⟦<MemFiles as Files>⟧.held self.old) (⟦<MemFiles as Files>⟧.held self.new) (Writes result name.now bytes.now) }
-        ensures read_faults_stay { ⟦<MemFiles as Files>⟧.read_faults self.new ≡ ⟦<MemFiles as Files>⟧.read_faults self.old }
-        ensures later { ⟦<MemFiles as Files>⟧.write_faults self.old ≤ ⟦<MemFiles as Files>⟧.write_faults self.new }
-        ensures cause { result ≡ WriteAnswer.Failed → Rose (⟦<MemFiles as Files>⟧.write_faults self.old) (⟦<MemFiles as Files>⟧.write_faults self.new) }
+        ensures writes { Told (⟦<Self as Files>⟧.held self.old) (⟦<Self as Files>⟧.held self.new)
+            (Writes result name.now bytes.now) }
+        ensures read_faults_stay { ⟦<Self as Files>⟧.read_faults self.new
+            ≡ ⟦<Self as Files>⟧.read_faults self.old }
+        ensures later { ⟦<Self as Files>⟧.write_faults self.old
+            ≤ ⟦<Self as Files>⟧.write_faults self.new }
+        ensures cause { result ≡ WriteAnswer.Failed
+            → Rose (⟦<Self as Files>⟧.write_faults self.old) (⟦<Self as Files>⟧.write_faults self.new) }
 
         // The calls of the given numbers fail and change nothing, and no other fails.
-        ensures fails { (result ≡ WriteAnswer.Failed) ↔ IsTrue (is_failing_call (calls_of self.old) (fails_of self.old)) }
-        ensures stays { (result ≡ WriteAnswer.Failed) ⊎ (result ≡ WriteAnswer.Memory) → ⟦<MemFiles as Files>⟧.held self.new ≡ ⟦<MemFiles as Files>⟧.held self.old }
-        ensures count { ⟦<MemFiles as Files>⟧.write_faults self.new ≡ count_after_write result (⟦<MemFiles as Files>⟧.write_faults self.old) }
+        ensures fails { (result ≡ WriteAnswer.Failed)
+            ↔ IsTrue (is_failing_call (calls_of self.old) (fails_of self.old)) }
+        ensures stays { (result ≡ WriteAnswer.Failed) ⊎ (result ≡ WriteAnswer.Memory)
+            → ⟦<Self as Files>⟧.held self.new ≡ ⟦<Self as Files>⟧.held self.old }
+        ensures count { ⟦<Self as Files>⟧.write_faults self.new
+            ≡ count_after_write result (⟦<Self as Files>⟧.write_faults self.old) }
         ensures calls { calls_of self.new ≡ next_count (calls_of self.old) }
         ensures list_stays { fails_of self.new ≡ fails_of self.old }
     {
-        if self.is_failing() {
+        if self.calls.next_fails() {
             self.write_faults = self.write_faults.saturating_add(1);
             return WriteAnswer::Failed;
         }

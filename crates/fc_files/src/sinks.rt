@@ -1,21 +1,22 @@
 // Streams in memory.
-ghost use Rattle.std.specs.Prelude.{◌≡◌, ◌≤◌, ◌+◌, ◌-◌, ◌^◌, ◌++◌, ◌<◌, ◌↔◌, ◌⊎◌, [], ℕ, Some, None, IsTrue, length, min, take, vec_len};
+ghost use Rattle.std.specs.Prelude.{◌≡◌, ◌≤◌, ◌+◌, ◌-◌, ◌^◌, ◌++◌, ◌↔◌, [], Some, None, IsTrue};
+ghost use Rattle.std.specs.Prelude.{length, min, take, vec_len};
 ghost use Rattle.fc_files.specs.Outside.{Rose, Takes, Told};
 ghost use Rattle.fc_files.specs.Counts.{count_after_put, next_count};
 
+use crate::numbered::NumberedCalls;
 use crate::{PutAnswer, Sink};
 
 /// A stream into a room of fixed size, of which chosen puts fail.
 ///
 /// It fills the room from its start. Puts are numbered from 1, and those with the chosen numbers
-/// answer `Failed` and take nothing. After 2^64 - 1 puts no put fails for its number. Each other put
-/// takes what fits into the room, and answers `Failed` where that is not the whole piece.
+/// answer `Failed` and take nothing. After 2^64 - 1 puts no put fails for its number. Each other
+/// put takes what fits into the room, and answers `Failed` where that is not the whole piece.
 #[derive(Drop)]
 pub struct MemSink {
     room: Vec<u8>,
     len: usize,
-    fails: Vec<u64>,
-    puts: u64,
+    puts: NumberedCalls,
     faults: u64,
     ghost within: { len ≤ length room.items },
 }
@@ -38,14 +39,14 @@ fn copy_in(room: &mut [u8], at: usize, piece: &[u8]) -> usize
 }
 
 impl MemSink {
-    ghost use Rattle.fc_files.specs.Streams.{failing_puts_of, is_numbered_put, puts_of, room_of};
+    ghost use Rattle.fc_files.specs.Streams.{failing_puts_of, puts_of, room_of};
 
-    /// A stream that has taken nothing, into as many bytes as `room` has, of which the puts with the
-    /// numbers in `fails` fail. What stands in `room` does not matter. Numbers that no put has, as
-    /// 0, and further copies of a number do nothing.
+    /// A stream that has taken nothing, into as many bytes as `room` has, of which the puts with
+    /// the numbers in `fails` fail. What stands in `room` does not matter. Numbers that no put has,
+    /// as 0, and further copies of a number do nothing.
     pub fn new(room: Vec<u8>, fails: Vec<u64>) -> MemSink
-        ensures taken { ⟦<MemSink as Sink>⟧.taken result ≡ Some [] }
-        ensures faults { ⟦<MemSink as Sink>⟧.faults result ≡ 0 }
+        ensures taken { ⟦<Self as Sink>⟧.taken result ≡ Some [] }
+        ensures faults { ⟦<Self as Sink>⟧.faults result ≡ 0 }
         ensures room { room_of result ≡ vec_len room }
         ensures puts { puts_of result ≡ 0 }
         ensures fails { failing_puts_of result ≡ fails.items }
@@ -53,53 +54,45 @@ impl MemSink {
         MemSink {
             room,
             len: 0,
-            fails,
-            puts: 0,
+            puts: NumberedCalls::new(fails),
             faults: 0,
         }
     }
 
     /// The bytes that it has taken.
     pub fn bytes(&self) -> &[u8]
-        ensures { ⟦<MemSink as Sink>⟧.taken self.now ≡ Some result.now }
+        ensures { ⟦<Self as Sink>⟧.taken self.now ≡ Some result.now }
     {
         &self.room[..self.len]
-    }
-
-    // Counts the put, and says whether it fails for its number.
-    fn is_failing(&mut self) -> bool
-        ensures answer { result ≡ is_numbered_put self.old }
-        ensures puts { self.new ≡ record self.old { puts = next_count self.old.puts } }
-    {
-        if self.puts == u64::MAX {
-            return false;
-        }
-        self.puts += 1;
-        self.fails.contains(&self.puts)
     }
 }
 
 impl Sink for MemSink {
-    ghost use Rattle.fc_files.specs.Streams.{bytes_of, failing_puts_of, is_failing_put, puts_of, room_of, taken_of_put};
+    ghost use Rattle.fc_files.specs.Streams.{bytes_of, is_failing_put, taken_of_put};
+    ghost use Rattle.fc_files.specs.Streams.{failing_puts_of, puts_of, room_of};
 
     ghost taken = { λ s. Some (bytes_of s) };
 
     ghost faults = { λ s. s.faults };
 
     fn put(&mut self, bytes: &[u8]) -> PutAnswer
-        ensures takes { Told (⟦<MemSink as Sink>⟧.taken self.old) (⟦<MemSink as Sink>⟧.taken self.new) (Takes result bytes.now) }
-        ensures later { ⟦<MemSink as Sink>⟧.faults self.old ≤ ⟦<MemSink as Sink>⟧.faults self.new }
-        ensures cause { result ≡ PutAnswer.Failed → Rose (⟦<MemSink as Sink>⟧.faults self.old) (⟦<MemSink as Sink>⟧.faults self.new) }
+        ensures takes { Told (⟦<Self as Sink>⟧.taken self.old) (⟦<Self as Sink>⟧.taken self.new)
+            (Takes result bytes.now) }
+        ensures later { ⟦<Self as Sink>⟧.faults self.old ≤ ⟦<Self as Sink>⟧.faults self.new }
+        ensures cause { result ≡ PutAnswer.Failed
+            → Rose (⟦<Self as Sink>⟧.faults self.old) (⟦<Self as Sink>⟧.faults self.new) }
 
         // Which puts fail, and what each takes.
         ensures fails { (result ≡ PutAnswer.Failed) ↔ IsTrue (is_failing_put self.old bytes.now) }
-        ensures exactly { ⟦<MemSink as Sink>⟧.taken self.new ≡ Some (bytes_of self.old ++ taken_of_put self.old bytes.now) }
-        ensures count { ⟦<MemSink as Sink>⟧.faults self.new ≡ count_after_put result (⟦<MemSink as Sink>⟧.faults self.old) }
+        ensures exactly { ⟦<Self as Sink>⟧.taken self.new
+            ≡ Some (bytes_of self.old ++ taken_of_put self.old bytes.now) }
+        ensures count { ⟦<Self as Sink>⟧.faults self.new
+            ≡ count_after_put result (⟦<Self as Sink>⟧.faults self.old) }
         ensures puts { puts_of self.new ≡ next_count (puts_of self.old) }
         ensures list_stays { failing_puts_of self.new ≡ failing_puts_of self.old }
         ensures room_stays { room_of self.new ≡ room_of self.old }
     {
-        if self.is_failing() {
+        if self.puts.next_fails() {
             self.faults = self.faults.saturating_add(1);
             return PutAnswer::Failed;
         }
@@ -139,10 +132,12 @@ impl Sink for CountSink {
     ghost faults = { λ _. 0 };
 
     fn put(&mut self, bytes: &[u8]) -> PutAnswer
-        ensures takes { Told (⟦<CountSink as Sink>⟧.taken self.old) (⟦<CountSink as Sink>⟧.taken self.new) (Takes result bytes.now) }
-        ensures later { ⟦<CountSink as Sink>⟧.faults self.old ≤ ⟦<CountSink as Sink>⟧.faults self.new }
+        ensures takes { Told (⟦<Self as Sink>⟧.taken self.old) (⟦<Self as Sink>⟧.taken self.new)
+            (Takes result bytes.now) }
+        ensures later { ⟦<Self as Sink>⟧.faults self.old ≤ ⟦<Self as Sink>⟧.faults self.new }
         ensures sure { result ≡ PutAnswer.Ok }
-        ensures count { count_of self.new ≡ min (count_of self.old + length bytes.now) (2 ^ 64 - 1) }
+        ensures count { count_of self.new
+            ≡ min (count_of self.old + length bytes.now) (2 ^ 64 - 1) }
     {
         self.count = self.count.saturating_add(bytes.len() as u64);
         PutAnswer::Ok

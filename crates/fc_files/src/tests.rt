@@ -4,6 +4,7 @@ use crate::{
     SureFiles, WriteAnswer, has_distinct_names,
 };
 use std::alloc::{AllocError, Global};
+use std::fs;
 use std::io::BufWriter;
 use std::process::Abort;
 use std::test::Fail;
@@ -108,9 +109,9 @@ fn bytes_are_counted(rt: HostRuntime) {
     assert_eq!(rt; sink.count(), 5);
 }
 
-/// Goes through the answers of files of which none is there yet.
+/// Goes through the answers of files below a folder that may be written.
 fn tour<F: Files>(files: &mut F, alloc: Global, rt: &impl Abort) {
-    assert!(rt; matches!(files.read(alloc, "kept", 4), ReadAnswer::Absent));
+    assert!(rt; matches!(files.read(alloc, "absent", 4), ReadAnswer::Absent));
     assert!(rt; gave(&files.read(alloc, ".", 4), None));
     assert!(rt; gave(&store(files, alloc, "kept", b"kept").1, Some(b"kept")));
     assert!(rt; matches!(files.read(alloc, "kept", 3), ReadAnswer::TooLong));
@@ -118,9 +119,11 @@ fn tour<F: Files>(files: &mut F, alloc: Global, rt: &impl Abort) {
 }
 
 #[test]
-fn real_files_answer(rt: HostRuntime) {
+fn real_files_answer(rt: HostRuntime) -> Result<(), Fail> {
     let mut files = HostFiles::new(&rt);
     tour(&mut files, rt.alloc(), &rt);
+    fs::remove_file(&rt, "kept")?;
+    Ok(())
 }
 
 #[test]

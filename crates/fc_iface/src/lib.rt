@@ -1,12 +1,17 @@
 //! The interface of a module: its header and its declarations, with each definition by its type.
 #![tactic(auto)]
 
+mod items;
+#[cfg(test)]
+mod tests;
+
 ghost use Rattle.std.specs.Prelude.{◌≡◌, IfOk};
 ghost use Rattle.fc_syntax.specs.View.{module_of};
 ghost use Rattle.fc_model.specs.Canonical.{IsBuilt, interface_text};
 
 use fc_printer::put_header;
 use fc_syntax::{Memory, Module};
+use items::put_items;
 use std::alloc::Global;
 
 /// The text of the interface of a module, in the layout of a module's text.
@@ -17,6 +22,7 @@ pub fn print_interface(alloc: Global, m: &Module) -> Result<Vec<u8>, Memory>
     let mut text = Vec::new(alloc);
     text.extend_from_slice(b"(interface 1 ")?;
     put_header(&mut text, m)?;
+    put_items(m.decls.as_slice(), &mut text)?;
     text.extend_from_slice(b")\n")?;
     Ok(text)
 }

@@ -5,6 +5,10 @@ pub mod Declarations
 pub mod KindedIs
 pub mod NamelessView
 pub mod Parts
+pub mod Resolved
+pub mod SameDeclarations
 pub mod Sameness
 pub mod TypedIs
 pub mod Variables
+pub mod UnderHeader
+pub mod TypesRead

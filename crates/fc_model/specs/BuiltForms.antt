@@ -1,14 +1,11 @@
 -- The nameless forms that are built so far.
-use Rattle.std.specs.Prelude.{◌≡◌, Bool, true, false, ◌&&◌, List, [], ◌∷◌}
+use Rattle.std.specs.Prelude.{◌≡◌, Bool, true, false, ◌&&◌}
 use Rattle.std.specs.List.{list_all}
+use Rattle.fc_model.specs.Canonical.{is_empty_list}
 use Rattle.fc_model.specs.Nameless.{NTy, NTVar, NTCon, NTInt, NTApp, NTFun, NTForall, NTCoForall}
 use Rattle.fc_model.specs.Nameless.{NExpr, NLocal, NVar, NLit, NApp, NLam, NLet, NCase, NCast, NCon, NPrim, NFail, NJoin, NJump}
 use Rattle.fc_model.specs.Nameless.{NArg, NATerm, NAType, NACo, NArgs, NoNArgs, MoreNArgs}
 use Rattle.fc_model.specs.Nameless.{NConDecl, NConOf, NDecl, NData, NNew, NFamily, NAxiom, NDef, NWrap, NModule, NModuleOf}
-
-abbrev pub is_empty_list : {X : Type 0} → List X → Bool
-is_empty_list [] = true
-is_empty_list (x ∷ xs) = false
 
 abbrev pub is_nty_built : NTy → Bool
 is_nty_built (NTVar i) = false

@@ -1,9 +1,15 @@
 -- The one printed text of a module, and of the interface that is written beside it.
-use Rattle.std.specs.Prelude.{◌≡◌, ℕ, Bool, true, ◌&&◌, ◌++◌, List, [], ◌∷◌, codes, is_none}
+use Rattle.std.specs.Prelude.{◌≡◌, ◌-◌, ◌^◌, ℕ, ℤ, pos, negsuc, int_lt, Bool, true, false, not, ◌&&◌, ◌++◌, List, [], ◌∷◌, codes, is_none}
 use Rattle.std.specs.List.{list_all}
-use Rattle.fc_syntax.specs.Tree.{Word, Module, ModuleOf}
-use Rattle.fc_syntax.specs.Tokens.{is_module_part, is_plain_name}
+use Rattle.std.specs.Fmt.{signed_decimal}
+use Rattle.fc_syntax.specs.declared.ty.Name.{Name}
+use Rattle.fc_syntax.specs.Tree.{Word, Ty, TVar, TCon, TInt, TApp, TFun, TForall, TCoForall}
+use Rattle.fc_syntax.specs.Tree.{Expr, EVar, ELit, EApp, ELam, ELet, ECase, ECast, ECon, EPrim, EFail, EJoin, EJump, Arg, ATerm, AType, ACo, Args, NoArgs, MoreArgs}
+use Rattle.fc_syntax.specs.Tree.{ConDecl, ConOf, Decl, DData, DNew, DFamily, DAxiom, DDef, DWrap, Module, ModuleOf}
+use Rattle.fc_syntax.specs.Tokens.{is_lower_name, is_module_part, is_plain_name, is_upper_name}
 use Rattle.fc_model.specs.Words.{keyword_of}
+
+-- WORDS AND HEADERS
 
 -- one space before each word
 abbrev pub words_text : List Word → List ℕ
@@ -24,26 +30,228 @@ abbrev pub header_text : Module → List ℕ
 header_text (ModuleOf m imports exports hidden ds) =
     m ++ (part_text (codes " (imports") imports ++ (part_text (codes " (exports") exports ++ hidden_text hidden))
 
--- one space between parts, each declaration on a line of its own after one space, one line feed at the end
-abbrev pub canonical : Module → List ℕ
-canonical m = codes "(module " ++ (header_text m ++ codes ")\n")
+-- TYPES AND EXPRESSIONS
 
--- the same layout, with an item for each declaration
+-- a name without a dot
+abbrev pub name_text : Name → List ℕ
+name_text n = n.text
+
+-- forms that are not built yet have no text
+abbrev pub type_text : Ty → List ℕ
+type_text (TVar a) = []
+type_text (TCon n) = name_text n
+type_text TInt = codes "Int#"
+type_text (TApp t u) = []
+type_text (TFun t u) = []
+type_text (TForall a k t) = []
+type_text (TCoForall r t u v) = []
+
+-- one space before each type
+abbrev pub types_text : List Ty → List ℕ
+types_text [] = []
+types_text (t ∷ ts) = 32 ∷ (type_text t ++ types_text ts)
+
+-- a literal in decimal digits, without leading zeros
+abbrev pub literal_text : ℤ → List ℕ
+literal_text n = signed_decimal n ++ codes "#"
+
+abbrev mutual
+  pub expr_text : Expr → List ℕ
+  expr_text (EVar n) = name_text n
+  expr_text (ELit n) = literal_text n
+  expr_text (EApp f a) = []
+  expr_text (ELam b e) = []
+  expr_text (ELet r bs e) = []
+  expr_text (ECase e x t u alts) = []
+  expr_text (ECast e g) = []
+  expr_text (ECon n args) = codes "(con " ++ (name_text n ++ (args_text args ++ codes ")"))
+  expr_text (EPrim op es) = []
+  expr_text (EFail t) = []
+  expr_text (EJoin r t js e) = []
+  expr_text (EJump j args) = []
+
+  pub arg_text : Arg → List ℕ
+  arg_text (ATerm e) = expr_text e
+  arg_text (AType t) = []
+  arg_text (ACo g) = []
+
+  -- one space before each argument
+  pub args_text : Args → List ℕ
+  args_text NoArgs = []
+  args_text (MoreArgs a rest) = 32 ∷ (arg_text a ++ args_text rest)
+
+-- DECLARATIONS
+
+abbrev pub con_text : ConDecl → List ℕ
+con_text (ConOf n bs fields) = codes "(" ++ (n ++ (codes " ()" ++ (types_text fields ++ codes ")")))
+
+-- one space before each constructor
+abbrev pub cons_text : List ConDecl → List ℕ
+cons_text [] = []
+cons_text (c ∷ cs) = 32 ∷ (con_text c ++ cons_text cs)
+
+abbrev pub decl_text : Decl → List ℕ
+decl_text (DData n ps cs) = codes "(data " ++ (n ++ (codes " ()" ++ (cons_text cs ++ codes ")")))
+decl_text (DNew n ps t con) = []
+decl_text (DFamily n ps k) = []
+decl_text (DAxiom n ps t u) = []
+decl_text (DDef n t e) = codes "(def " ++ (n ++ (32 ∷ (type_text t ++ (32 ∷ (expr_text e ++ codes ")")))))
+decl_text (DWrap n t e) = []
+
+-- each declaration on a line of its own after one space
+abbrev pub decls_text : List Decl → List ℕ
+decls_text [] = []
+decls_text (d ∷ ds) = codes "\n " ++ (decl_text d ++ decls_text ds)
+
+-- one space between parts, and one line feed at the end
+abbrev pub canonical : Module → List ℕ
+canonical (ModuleOf m imports exports hidden ds) =
+    codes "(module " ++ (header_text (ModuleOf m imports exports hidden ds) ++ (decls_text ds ++ codes ")\n"))
+
+-- THE INTERFACE
+
+-- a definition by its type, without demands and without its right side; every other declaration as it stands
+abbrev pub item_text : Decl → List ℕ
+item_text (DData n ps cs) = decl_text (DData n ps cs)
+item_text (DNew n ps t con) = decl_text (DNew n ps t con)
+item_text (DFamily n ps k) = decl_text (DFamily n ps k)
+item_text (DAxiom n ps t u) = decl_text (DAxiom n ps t u)
+item_text (DDef n t e) = codes "(value " ++ (n ++ (32 ∷ (type_text t ++ codes " (sig) none)")))
+item_text (DWrap n t e) = codes "(value " ++ (n ++ (32 ∷ (type_text t ++ codes " (sig) none)")))
+
+abbrev pub items_text : List Decl → List ℕ
+items_text [] = []
+items_text (d ∷ ds) = codes "\n " ++ (item_text d ++ items_text ds)
+
+-- the layout of a module, with an item for each declaration
 abbrev pub interface_text : Module → List ℕ
-interface_text m = codes "(interface 1 " ++ (header_text m ++ codes ")\n")
+interface_text (ModuleOf m imports exports hidden ds) =
+    codes "(interface 1 " ++ (header_text (ModuleOf m imports exports hidden ds) ++ (items_text ds ++ codes ")\n"))
+
+-- FORMED MODULES
 
 -- a lower or upper name that is no word of a form
 abbrev pub is_word : Word → Bool
 is_word w = is_plain_name w && is_none (keyword_of w)
 
--- every word of the header is one of its form
+abbrev pub is_lower_word : Word → Bool
+is_lower_word w = is_lower_name w && is_none (keyword_of w)
+
+abbrev pub is_upper_word : Word → Bool
+is_upper_word w = is_upper_name w && is_none (keyword_of w)
+
+-- from -2^63 to 2^63 - 1
+abbrev pub is_literal_formed : ℤ → Bool
+is_literal_formed n = not (int_lt n (negsuc (2 ^ 63 - 1))) && int_lt n (pos (2 ^ 63))
+
+abbrev pub is_type_formed : Ty → Bool
+is_type_formed (TVar a) = is_lower_word a
+is_type_formed (TCon n) = is_upper_word n.text
+is_type_formed TInt = true
+is_type_formed (TApp t u) = is_type_formed t && is_type_formed u
+is_type_formed (TFun t u) = is_type_formed t && is_type_formed u
+is_type_formed (TForall a k t) = is_lower_word a && is_type_formed t
+is_type_formed (TCoForall r t u v) = is_type_formed t && (is_type_formed u && is_type_formed v)
+
+abbrev mutual
+  pub is_expr_formed : Expr → Bool
+  is_expr_formed (EVar n) = is_lower_word n.text
+  is_expr_formed (ELit n) = is_literal_formed n
+  is_expr_formed (EApp f a) = false
+  is_expr_formed (ELam b e) = false
+  is_expr_formed (ELet r bs e) = false
+  is_expr_formed (ECase e x t u alts) = false
+  is_expr_formed (ECast e g) = false
+  is_expr_formed (ECon n args) = is_upper_word n.text && are_args_formed args
+  is_expr_formed (EPrim op es) = false
+  is_expr_formed (EFail t) = false
+  is_expr_formed (EJoin r t js e) = false
+  is_expr_formed (EJump j args) = false
+
+  pub is_arg_formed : Arg → Bool
+  is_arg_formed (ATerm e) = is_expr_formed e
+  is_arg_formed (AType t) = false
+  is_arg_formed (ACo g) = false
+
+  pub are_args_formed : Args → Bool
+  are_args_formed NoArgs = true
+  are_args_formed (MoreArgs a rest) = is_arg_formed a && are_args_formed rest
+
+abbrev pub is_con_formed : ConDecl → Bool
+is_con_formed (ConOf n bs fields) = is_upper_word n && list_all is_type_formed fields
+
+abbrev pub is_decl_formed : Decl → Bool
+is_decl_formed (DData n ps cs) = is_upper_word n && list_all is_con_formed cs
+is_decl_formed (DNew n ps t con) = false
+is_decl_formed (DFamily n ps k) = false
+is_decl_formed (DAxiom n ps t u) = false
+is_decl_formed (DDef n t e) = is_lower_word n && (is_type_formed t && is_expr_formed e)
+is_decl_formed (DWrap n t e) = false
+
+-- every word is one of its form
 abbrev pub is_formed : Module → Bool
 is_formed (ModuleOf m imports exports hidden ds) =
-    (is_module_part m && is_word m) && (list_all is_word exports && list_all is_word hidden)
+    (is_module_part m && is_word m) && ((list_all is_word exports && list_all is_word hidden) && list_all is_decl_formed ds)
 
 abbrev pub IsFormed : Module → Type 0
 IsFormed m = is_formed m ≡ true
 
+-- FORMS THAT ARE BUILT
+
+abbrev pub is_name_built : Name → Bool
+is_name_built n = is_none n.module
+
+abbrev pub is_type_built : Ty → Bool
+is_type_built (TVar a) = false
+is_type_built (TCon n) = is_name_built n
+is_type_built TInt = true
+is_type_built (TApp t u) = false
+is_type_built (TFun t u) = false
+is_type_built (TForall a k t) = false
+is_type_built (TCoForall r t u v) = false
+
+abbrev mutual
+  pub is_expr_built : Expr → Bool
+  is_expr_built (EVar n) = is_name_built n
+  is_expr_built (ELit n) = true
+  is_expr_built (EApp f a) = false
+  is_expr_built (ELam b e) = false
+  is_expr_built (ELet r bs e) = false
+  is_expr_built (ECase e x t u alts) = false
+  is_expr_built (ECast e g) = false
+  is_expr_built (ECon n args) = is_name_built n && are_args_built args
+  is_expr_built (EPrim op es) = false
+  is_expr_built (EFail t) = false
+  is_expr_built (EJoin r t js e) = false
+  is_expr_built (EJump j args) = false
+
+  pub is_arg_built : Arg → Bool
+  is_arg_built (ATerm e) = is_expr_built e
+  is_arg_built (AType t) = false
+  is_arg_built (ACo g) = false
+
+  pub are_args_built : Args → Bool
+  are_args_built NoArgs = true
+  are_args_built (MoreArgs a rest) = is_arg_built a && are_args_built rest
+
+abbrev pub is_empty_list : {X : Type 0} → List X → Bool
+is_empty_list [] = true
+is_empty_list (x ∷ xs) = false
+
+abbrev pub is_con_built : ConDecl → Bool
+is_con_built (ConOf n bs fields) = is_empty_list bs && list_all is_type_built fields
+
+abbrev pub is_decl_built : Decl → Bool
+is_decl_built (DData n ps cs) = is_empty_list ps && list_all is_con_built cs
+is_decl_built (DNew n ps t con) = false
+is_decl_built (DFamily n ps k) = false
+is_decl_built (DAxiom n ps t u) = false
+is_decl_built (DDef n t e) = is_type_built t && is_expr_built e
+is_decl_built (DWrap n t e) = false
+
+abbrev pub is_built : Module → Bool
+is_built (ModuleOf m imports exports hidden ds) = is_empty_list imports && list_all is_decl_built ds
+
 -- The module has only the forms that are built so far.
 abbrev pub IsBuilt : Module → Type 0
-IsBuilt (ModuleOf m imports exports hidden ds) = (imports ≡ []) × (ds ≡ [])
+IsBuilt m = is_built m ≡ true

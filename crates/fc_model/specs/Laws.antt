@@ -1,9 +1,9 @@
 -- What the judgements as functions and the relations by cases have to do with each other.
-use Rattle.std.specs.Prelude.{◌≡◌, ◌↔◌, ℕ, true, List, Ok}
+use Rattle.std.specs.Prelude.{◌≡◌, ◌↔◌, ℕ, true, List, Some, Ok}
 use Rattle.fc_syntax.specs.Tree.{Kind}
 use Rattle.fc_model.specs.Kinding.{HasHeadKind, head_kind_or_fault, same_type}
 use Rattle.fc_model.specs.Nameless.{NExpr, NModule, NTy}
-use Rattle.fc_model.specs.Typing.{Context, HasType, type_or_fault}
+use Rattle.fc_model.specs.Typing.{Context, HasType, type_or_fault, type_read_off}
 
 -- the test for sameness of types is their equality
 abbrev pub SamenessIsEquality : Type 0
@@ -24,3 +24,7 @@ TypesAreByCases = (ms : List NModule) (c : Context) (e : NExpr) (t : NTy) → (t
 -- an expression has at most one type
 abbrev pub TypesAreUnique : Type 0
 TypesAreUnique = (ms : List NModule) (c : Context) (e : NExpr) (s t : NTy) → HasType ms c e s → HasType ms c e t → s ≡ t
+
+-- where an expression has a type, it is the one that is read off
+abbrev pub TypesAreReadOff : Type 0
+TypesAreReadOff = (ms : List NModule) (c : Context) (e : NExpr) (t : NTy) → HasType ms c e t → type_read_off ms c e ≡ Some t

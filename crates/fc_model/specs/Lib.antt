@@ -2,6 +2,7 @@ pub mod Acceptance
 pub mod Building
 pub mod BuiltForms
 pub mod Canonical
+pub mod Erasure
 pub mod Faulting
 pub mod Headers
 pub mod Kinding
@@ -9,9 +10,13 @@ pub mod Laws
 pub mod Linting
 pub mod Nameless
 pub mod NamelessView
+pub mod Observing
+pub mod Programs
 pub mod ReadFaults
 pub mod Resolution
 pub mod Says
+pub mod Stepping
+pub mod Terms
 pub mod Texts
 pub mod Typing
 pub mod WordSets

@@ -1,16 +1,74 @@
--- The first fault of a file that spells no module within the limits.
-use Rattle.std.specs.Prelude.{◌≡◌, ◌≤◌, ℕ, List, [], ◌∷◌, ◌++◌, length, map, Ok, Err}
+-- The limits on what is read, and the first fault of a file that spells no module within them.
+use Rattle.std.specs.Prelude.{◌≡◌, ◌≤◌, ◌+◌, ◌-◌, ℕ, Bool, true, false, ◌&&◌, nat_le, nat_lt, List, [], ◌∷◌, ◌++◌, length, map, Ok, Err}
+use Rattle.std.specs.List.{list_all}
 use Rattle.fc_syntax.specs.Limits.{standard_limits}
-use Rattle.fc_syntax.specs.Tree.{Module}
+use Rattle.fc_syntax.specs.Tree.{Binder, BValue, BType, BCo, ConDecl, ConOf, Decl, DData, DNew, DFamily, DAxiom, DDef, DWrap, Module, ModuleOf}
+use Rattle.fc_syntax.specs.Measures.{decls_size, depth_of}
 use Rattle.fc_syntax.specs.Tokens.{ByteFault, Lexeme, tokens_of}
 use Rattle.fc_syntax.specs.declared.fault.FaultKind.TheVariants as fault
-use Rattle.fc_model.specs.Words.{Tok, tok_of}
-use Rattle.fc_model.specs.Texts.{ModuleAt, Spells}
+use Rattle.fc_model.specs.Words.{Tok, Open, Close, Key, Lower, Upper, Literal, Number, Other, tok_of}
+use Rattle.fc_model.specs.Texts.{BeginsWithDecls, DeclAt, ModuleAt, Spells}
+
+-- LIMITS
+
+-- brackets nest no deeper than this, from a level on
+abbrev pub nests_within : ℕ → ℕ → List Tok → Bool
+nests_within most level [] = true
+nests_within most level (Open ∷ ts) = nat_lt level most && nests_within most (level + 1) ts
+nests_within most level (Close ∷ ts) = nests_within most (level - 1) ts
+nests_within most level (Key k ∷ ts) = nests_within most level ts
+nests_within most level (Lower w ∷ ts) = nests_within most level ts
+nests_within most level (Upper w ∷ ts) = nests_within most level ts
+nests_within most level (Literal n ∷ ts) = nests_within most level ts
+nests_within most level (Number n ∷ ts) = nests_within most level ts
+nests_within most level (Other w ∷ ts) = nests_within most level ts
+
+abbrev pub NestsWithin : List Tok → Type 0
+NestsWithin ts = nests_within standard_limits.brackets 0 ts ≡ true
+
+abbrev pub type_count : List Binder → ℕ
+type_count [] = 0
+type_count (BValue x t ∷ bs) = type_count bs
+type_count (BType a k ∷ bs) = 1 + type_count bs
+type_count (BCo c r t u ∷ bs) = type_count bs
+
+abbrev pub co_count : List Binder → ℕ
+co_count [] = 0
+co_count (BValue x t ∷ bs) = co_count bs
+co_count (BType a k ∷ bs) = co_count bs
+co_count (BCo c r t u ∷ bs) = 1 + co_count bs
+
+-- existential types of a constructor, and its coercion and term fields together
+abbrev pub con_counts_fit : ConDecl → Bool
+con_counts_fit (ConOf n bs fields) = nat_le (type_count bs) standard_limits.fields && nat_le (co_count bs + length fields) standard_limits.fields
+
+-- parameters of a declaration, and the counts of its constructors
+abbrev pub counts_fit : Decl → Bool
+counts_fit (DData n ps cs) = nat_le (length ps) standard_limits.fields && list_all con_counts_fit cs
+counts_fit (DNew n ps t con) = nat_le (length ps) standard_limits.fields
+counts_fit (DFamily n ps k) = nat_le (length ps) standard_limits.fields
+counts_fit (DAxiom n ps t u) = nat_le (length ps) standard_limits.fields
+counts_fit (DDef n t e) = true
+counts_fit (DWrap n t e) = true
+
+abbrev pub depth_fits : Decl → Bool
+depth_fits d = nat_le (depth_of d) standard_limits.depth
+
+-- every declaration is within the limits of its own, and all together are within that of size
+abbrev pub are_within : List Decl → Bool
+are_within ds = (list_all depth_fits ds && list_all counts_fit ds) && nat_le (decls_size ds) standard_limits.size
+
+abbrev pub decls_within : Module → Bool
+decls_within (ModuleOf m imports exports hidden ds) = are_within ds
 
 -- the bytes spell this module, and both are within the limits
 pub record ReadsTo (bytes : List ℕ) (m : Module) : Type 0 where
   pub short : length bytes ≤ standard_limits.file_bytes
   pub spelled : Spells bytes m
+  pub nested : NestsWithin (map tok_of spelled.lexemes)
+  pub within : decls_within m ≡ true
+
+-- THE FIRST FAULT
 
 -- the tokens of a whole module
 abbrev pub IsText : List Tok → Type 0
@@ -26,22 +84,62 @@ abbrev pub CannotGoOn : List Tok → List Tok → Type 0
 CannotGoOn good [] = IsText good → ⊥
 CannotGoOn good (t ∷ bad) = Begins (good ++ t ∷ []) → ⊥
 
+-- all declarations that stand whole in the tokens are within the limits, together too
+abbrev pub WithinSoFar : List Tok → Type 0
+WithinSoFar ts = (ds : List Decl) (rest : List Tok) → BeginsWithDecls ts ds rest → are_within ds ≡ true
+
 -- the byte of the first of these tokens, or the length of the file where there is none
 abbrev pub byte_of : List ℕ → List Lexeme → ℕ
 byte_of bytes [] = length bytes
 byte_of bytes (t ∷ ts) = t.from
 
--- the form of the file cannot go on at this byte, and could up to there
+-- The form of the file cannot go on at this byte, and could up to there; up to there nothing is past a limit.
 pub record IsBadFormAt (bytes : List ℕ) (lexemes : List Lexeme) (at : ℕ) : Type 0 where
   pub good : List Lexeme
   pub bad : List Lexeme
   pub parts : lexemes ≡ good ++ bad
   pub begins : Begins (map tok_of good)
   pub stops : CannotGoOn (map tok_of good) (map tok_of bad)
+  pub nested : NestsWithin (map tok_of good)
+  pub within : WithinSoFar (map tok_of good)
   pub place : at ≡ byte_of bytes bad
 
--- The first fault of a file of at most the limit of bytes: first of all its tokens, then of its form.
+-- A bracket that may stand at this byte nests too deep; up to there nothing is past a limit.
+pub record IsDeepBracketAt (lexemes : List Lexeme) (at : ℕ) : Type 0 where
+  pub good : List Lexeme
+  pub bracket : Lexeme
+  pub bad : List Lexeme
+  pub parts : lexemes ≡ good ++ (bracket ∷ bad)
+  pub opens : tok_of bracket ≡ Open
+  pub begins : Begins (map tok_of good ++ Open ∷ [])
+  pub nested : NestsWithin (map tok_of good)
+  pub deep : nests_within standard_limits.brackets 0 (map tok_of good ++ Open ∷ []) ≡ false
+  pub within : WithinSoFar (map tok_of good)
+  pub place : at ≡ bracket.from
+
+-- A declaration begins at this byte and stands whole; the declarations before it are within the limits, and its own form too.
+pub record IsDeclAt (bytes : List ℕ) (lexemes : List Lexeme) (before : List Decl) (d : Decl) (at : ℕ) : Type 0 where
+  pub good : List Lexeme
+  pub own : List Lexeme
+  pub others : List Lexeme
+  pub parts : lexemes ≡ good ++ (own ++ others)
+  pub start : BeginsWithDecls (map tok_of good) before []
+  pub declares : DeclAt (map tok_of own) d []
+  pub whole : BeginsWithDecls (map tok_of good ++ map tok_of own) (before ++ d ∷ []) []
+  pub nested : NestsWithin (map tok_of good ++ map tok_of own)
+  pub within : are_within before ≡ true
+  pub place : at ≡ byte_of bytes own
+
+-- The first fault of a file of at most the limit of bytes: first of all its tokens; then, declaration after declaration, of its
+-- form and its brackets up to its end, then of its depth, then of its counts and the size of all so far.
 pub data FirstReadFault (bytes : List ℕ) : ByteFault → Type 0 where
   of_tokens : {f : ByteFault} → tokens_of bytes ≡ Err f → FirstReadFault bytes f
   of_form : {lexemes : List Lexeme} {at : ℕ} → tokens_of bytes ≡ Ok lexemes → IsBadFormAt bytes lexemes at
       → FirstReadFault bytes (record { kind = fault.BadForm; at = at })
+  of_brackets : {lexemes : List Lexeme} {at : ℕ} → tokens_of bytes ≡ Ok lexemes → IsDeepBracketAt lexemes at
+      → FirstReadFault bytes (record { kind = fault.TooDeep; at = at })
+  of_depth : {lexemes : List Lexeme} {at : ℕ} (before : List Decl) (d : Decl) → tokens_of bytes ≡ Ok lexemes → IsDeclAt bytes lexemes before d at
+      → depth_fits d ≡ false → FirstReadFault bytes (record { kind = fault.TooDeep; at = at })
+  of_counts : {lexemes : List Lexeme} {at : ℕ} (before : List Decl) (d : Decl) → tokens_of bytes ≡ Ok lexemes → IsDeclAt bytes lexemes before d at
+      → depth_fits d ≡ true → (counts_fit d && nat_le (decls_size (before ++ d ∷ [])) standard_limits.size) ≡ false
+      → FirstReadFault bytes (record { kind = fault.TooMany; at = at })

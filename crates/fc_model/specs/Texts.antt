@@ -1,11 +1,16 @@
--- The grammar of the text form, as a relation between tokens and trees, one case for each of its lines. `NamesAt ts ns rest`
--- says that the tokens `ts` begin with a text of the names `ns`, and that `rest` follows it; the others read likewise.
--- Nested and flattened spellings give one tree. White space, comments and leading zeros are not seen here.
-use Rattle.std.specs.Prelude.{◌≡◌, ℕ, true, List, [], ◌∷◌, map, Ok}
-use Rattle.fc_syntax.specs.Tree.{Word, Decl, Module, ModuleOf}
+-- The grammar of the text form, as a relation between tokens and trees, one case for each of its lines. `TypeAt ts t rest` says
+-- that the tokens `ts` begin with a text of the type `t`, and that `rest` follows it; the others read likewise. Nested and
+-- flattened spellings give one tree. White space, comments and leading zeros are not seen here.
+use Rattle.std.specs.Prelude.{◌≡◌, ℕ, ℤ, true, List, [], ◌∷◌, map, None, Ok}
+use Rattle.fc_syntax.specs.declared.ty.Name.{Name}
+use Rattle.fc_syntax.specs.Tree.{Word, Ty, TCon, TInt, ConDecl, ConOf, Expr, EVar, ELit, ECon, ATerm, Args, NoArgs, MoreArgs, Decl, DData, DDef, Module, ModuleOf}
 use Rattle.fc_syntax.specs.Tokens.{Lexeme, is_module_part, tokens_of}
 use Rattle.fc_model.specs.declared.keyword.Keyword.TheVariants as word
-use Rattle.fc_model.specs.Words.{Tok, Open, Close, Key, Lower, Upper, tok_of}
+use Rattle.fc_model.specs.Words.{Tok, Open, Close, Key, Lower, Upper, Literal, tok_of}
+
+-- a word without a dot, as a name
+abbrev pub plain_name : Word → Name
+plain_name w = record { «module» = None; text = w }
 
 -- n* )   where a name n is lower or upper
 pub data NamesAt : List Tok → List Word → List Tok → Type 0 where
@@ -13,9 +18,46 @@ pub data NamesAt : List Tok → List Word → List Tok → Type 0 where
   names_lower : {ts rest : List Tok} {w : Word} {ns : List Word} → NamesAt ts ns rest → NamesAt (Lower w ∷ ts) (w ∷ ns) rest
   names_upper : {ts rest : List Tok} {w : Word} {ns : List Word} → NamesAt ts ns rest → NamesAt (Upper w ∷ ts) (w ∷ ns) rest
 
+-- type ::= T | Int#
+pub data TypeAt : List Tok → Ty → List Tok → Type 0 where
+  type_con : {rest : List Tok} {w : Word} → TypeAt (Upper w ∷ rest) (TCon (plain_name w)) rest
+  type_int : {rest : List Tok} → TypeAt (Key word.IntHash ∷ rest) TInt rest
+
+-- type* )
+pub data TypesAt : List Tok → List Ty → List Tok → Type 0 where
+  types_end : {rest : List Tok} → TypesAt (Close ∷ rest) [] rest
+  types_more : {ts us rest : List Tok} {t : Ty} {tys : List Ty} → TypeAt ts t us → TypesAt us tys rest → TypesAt ts (t ∷ tys) rest
+
+-- (K () type*)
+pub data ConAt : List Tok → ConDecl → List Tok → Type 0 where
+  con_at : {ts rest : List Tok} {k : Word} {fields : List Ty} → TypesAt ts fields rest → ConAt (Open ∷ Upper k ∷ Open ∷ Close ∷ ts) (ConOf k [] fields) rest
+
+-- (K () type*)* )
+pub data ConsAt : List Tok → List ConDecl → List Tok → Type 0 where
+  cons_end : {rest : List Tok} → ConsAt (Close ∷ rest) [] rest
+  cons_more : {ts us rest : List Tok} {c : ConDecl} {cs : List ConDecl} → ConAt ts c us → ConsAt us cs rest → ConsAt ts (c ∷ cs) rest
+
+mutual
+  -- expr ::= x | n# | (con K expr*)
+  pub data ExprAt : List Tok → Expr → List Tok → Type 0 where
+    expr_var : {rest : List Tok} {w : Word} → ExprAt (Lower w ∷ rest) (EVar (plain_name w)) rest
+    expr_lit : {rest : List Tok} {n : ℤ} → ExprAt (Literal n ∷ rest) (ELit n) rest
+    expr_con : {ts rest : List Tok} {k : Word} {args : Args} → ArgsAt ts args rest → ExprAt (Open ∷ Key word.Con ∷ Upper k ∷ ts) (ECon (plain_name k) args) rest
+
+  -- expr* )
+  pub data ArgsAt : List Tok → Args → List Tok → Type 0 where
+    args_end : {rest : List Tok} → ArgsAt (Close ∷ rest) NoArgs rest
+    args_more : {ts us rest : List Tok} {e : Expr} {args : Args} → ExprAt ts e us → ArgsAt us args rest → ArgsAt ts (MoreArgs (ATerm e) args) rest
+
+-- decl ::= (data T () (K () type*)*) | (def x type expr)
+pub data DeclAt : List Tok → Decl → List Tok → Type 0 where
+  decl_data : {ts rest : List Tok} {n : Word} {cs : List ConDecl} → ConsAt ts cs rest → DeclAt (Open ∷ Key word.Data ∷ Upper n ∷ Open ∷ Close ∷ ts) (DData n [] cs) rest
+  decl_def : {ts us rest : List Tok} {n : Word} {t : Ty} {e : Expr} → TypeAt ts t us → ExprAt us e (Close ∷ rest) → DeclAt (Open ∷ Key word.Def ∷ Lower n ∷ ts) (DDef n t e) rest
+
 -- decl* )
 pub data DeclsAt : List Tok → List Decl → List Tok → Type 0 where
   decls_end : {rest : List Tok} → DeclsAt (Close ∷ rest) [] rest
+  decls_more : {ts us rest : List Tok} {d : Decl} {ds : List Decl} → DeclAt ts d us → DeclsAt us ds rest → DeclsAt ts (d ∷ ds) rest
 
 -- [(hidden n*)] decl* )
 pub data BodyAt : List Tok → List Word → List Decl → List Tok → Type 0 where
@@ -35,3 +77,21 @@ pub record Spells (bytes : List ℕ) (m : Module) : Type 0 where
   pub lexemes : List Lexeme
   pub lexed : tokens_of bytes ≡ Ok lexemes
   pub parsed : ModuleAt (map tok_of lexemes) m []
+
+-- THE DECLARATIONS OF A TEXT THAT MAY NOT BE WHOLE
+
+-- declarations, of which the text may end before the last or go on
+pub data SomeDeclsAt : List Tok → List Decl → List Tok → Type 0 where
+  no_decls : {rest : List Tok} → SomeDeclsAt rest [] rest
+  some_decls : {ts us rest : List Tok} {d : Decl} {ds : List Decl} → DeclAt ts d us → SomeDeclsAt us ds rest → SomeDeclsAt ts (d ∷ ds) rest
+
+-- [(hidden n*)] and some declarations
+pub data SomeBodyAt : List Tok → List Decl → List Tok → Type 0 where
+  some_hidden : {ts us rest : List Tok} {ns : List Word} {ds : List Decl} → NamesAt ts ns us → SomeDeclsAt us ds rest → SomeBodyAt (Open ∷ Key word.Hidden ∷ ts) ds rest
+  some_plain : {ts rest : List Tok} {ds : List Decl} → SomeDeclsAt ts ds rest → SomeBodyAt ts ds rest
+
+-- the header of a module and some of its declarations
+pub data BeginsWithDecls : List Tok → List Decl → List Tok → Type 0 where
+  begins_with : {ts us rest : List Tok} {m : Word} {exports : List Word} {ds : List Decl} → is_module_part m ≡ true
+      → NamesAt ts exports us → SomeBodyAt us ds rest
+      → BeginsWithDecls (Open ∷ Key word.Module ∷ Upper m ∷ Open ∷ Key word.Imports ∷ Close ∷ Open ∷ Key word.Exports ∷ ts) ds rest

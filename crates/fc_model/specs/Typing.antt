@@ -290,6 +290,45 @@ abbrev mutual
   alts_judged ms c s rt i b NoNAlts = Ok b
   alts_judged ms c s rt i b (MoreNAlts a rest) = and_then (under i (alt_judged ms c s rt b a)) (λ next. alts_judged ms c s rt (i + 1) next rest)
 
+-- TYPES READ OFF
+
+abbrev pub answered : {X : Type 0} → Result X F → Option X
+answered (Ok x) = Some x
+answered (Err f) = None
+
+abbrev pub result_of : NTy → Option NTy
+result_of (NTFun t r) = Some r
+result_of (NTVar i) = None
+result_of (NTCon n) = None
+result_of NTInt = None
+result_of (NTApp t u) = None
+result_of (NTForall k t) = None
+result_of (NTCoForall r t u v) = None
+
+abbrev pub from_some : {X Y : Type 0} → (X → Option Y) → Option X → Option Y
+from_some f (Some x) = f x
+from_some f None = None
+
+-- the type of an expression without judging its premises, where the parts that it is read off have one
+abbrev pub type_read_off : List NModule → Context → NExpr → Option NTy
+type_read_off ms c (NLocal i) = answered (local_value c.values i)
+type_read_off ms c (NVar n) = answered (value_type ms n)
+type_read_off ms c (NLit n) = Some NTInt
+type_read_off ms c (NApp f (NATerm a)) = from_some result_of (type_read_off ms c f)
+type_read_off ms c (NApp f (NAType t)) = None
+type_read_off ms c (NApp f (NACo g)) = None
+type_read_off ms c (NLam (NBValue t) e) = from_some (λ u. Some (NTFun t u)) (type_read_off ms (with_value t c) e)
+type_read_off ms c (NLam (NBType k) e) = None
+type_read_off ms c (NLam (NBCo r t u) e) = None
+type_read_off ms c (NLet r bs e) = type_read_off ms (with_binds bs c) e
+type_read_off ms c (NCase e xt rt alts) = Some rt
+type_read_off ms c (NCast e g) = None
+type_read_off ms c (NCon n args) = from_some (λ k. Some (NTCon (data_name n k.data_word))) (constructor ms n)
+type_read_off ms c (NPrim op es) = None
+type_read_off ms c (NFail t) = None
+type_read_off ms c (NJoin r t js e) = None
+type_read_off ms c (NJump i args) = None
+
 -- THE RELATION
 
 pub data BindersAreKinded (ms : List NModule) (c : Context) : List NBinder → Type 0 where

@@ -1,1 +1,3 @@
 pub mod ReadBack
+pub mod Reading
+pub mod Trees

@@ -1,16 +1,24 @@
 //! Prints modules in their canonical text.
 #![tactic(auto)]
 
+mod decls;
+mod exprs;
 mod header;
+#[cfg(test)]
+mod tests;
+mod types;
 
 ghost use Rattle.std.specs.Prelude.{◌≡◌, IfOk};
 ghost use Rattle.fc_syntax.specs.View.{module_of};
 ghost use Rattle.fc_model.specs.Canonical.{IsBuilt, IsFormed, canonical};
 ghost use Rattle.fc_model.specs.Texts.{Spells};
 
+pub use decls::put_decl;
+pub use exprs::put_expr;
 use fc_syntax::{Memory, Module};
 pub use header::put_header;
 use std::alloc::Global;
+pub use types::put_type;
 
 /// The canonical text of a module, which reads back to the module where each of its words is one of its form.
 pub fn print_module(alloc: Global, m: &Module) -> Result<Vec<u8>, Memory>
@@ -21,6 +29,7 @@ pub fn print_module(alloc: Global, m: &Module) -> Result<Vec<u8>, Memory>
     let mut text = Vec::new(alloc);
     text.extend_from_slice(b"(module ")?;
     put_header(&mut text, m)?;
+    decls::put_decls(m.decls.as_slice(), &mut text)?;
     text.extend_from_slice(b")\n")?;
     Ok(text)
 }

@@ -1,12 +1,13 @@
 -- One rule of the grammar each, as a reader meets it: from equations for the tokens.
 use Rattle.std.proofs.Common.{◌≡◌, true, List, [], ◌∷◌, ◌++◌, sym, ap, ◌∙◌, subst, append_assoc}
 use Rattle.std.proofs.lemmas.List.{append-nil}
-use Rattle.fc_syntax.specs.Tree.{Word, Decl, ModuleOf}
+use Rattle.fc_syntax.specs.Tree.{Word, Decl, Module, ModuleOf}
 use Rattle.fc_syntax.specs.Tokens.{is_module_part}
 use Rattle.fc_model.specs.declared.keyword.Keyword.{Keyword}
 use Rattle.fc_model.specs.declared.keyword.Keyword.TheVariants as word
 use Rattle.fc_model.specs.Words.{Tok, Open, Close, Key, Lower, Upper}
-use Rattle.fc_model.specs.Texts.{NamesAt, names_end, names_lower, names_upper, DeclsAt, decls_end, BodyAt, body_hidden, body_plain, ModuleAt, module_at}
+use Rattle.fc_model.specs.Texts.{NamesAt, names_end, names_lower, names_upper, DeclsAt, BodyAt, body_hidden, body_plain, ModuleAt, module_at}
+use Rattle.fc_reader.specs.Header.{HeaderAt, header_at}
 use Rattle.fc_reader.specs.Reading.{IsName}
 
 -- one token, as a fact that can be matched
@@ -43,27 +44,20 @@ names_more_read {ts = ts} {n = n} old new e h d =
 pub names_end_read : {ts us rest : List Tok} (ns : List Word) → Token Close us rest → NamesSoFar ts ns us → NamesAt ts ns rest
 names_end_read {rest = rest} ns token h = names_on (sym (append-nil ns)) (h [] rest names_end)
 
-decls_on : {ts rest : List Tok} {ds es : List Decl} → ds ≡ es → DeclsAt ts es rest → DeclsAt ts ds rest
-decls_on {ts = ts} {rest = rest} e d = subst (λ x. DeclsAt ts x rest) (sym e) d
+module_on : {ts rest : List Tok} {v m : Module} → v ≡ m → ModuleAt ts m rest → ModuleAt ts v rest
+module_on {ts = ts} {rest = rest} e d = subst (λ x. ModuleAt ts x rest) (sym e) d
 
-pub decls_end_read : {ts rest : List Tok} {ds : List Decl} → ds ≡ [] → Token Close ts rest → DeclsAt ts ds rest
-decls_end_read e token = decls_on e decls_end
+pub module_read : {a b rest : List Tok} {v : Module} {m : Word} {exports hidden : List Word} {ds : List Decl} → v ≡ ModuleOf m [] exports hidden ds → HeaderAt a m exports b
+    → BodyAt b hidden ds rest → ModuleAt a v rest
+module_read e (header_at p n) b = module_on e (module_at p n b)
 
-body_on : {ts rest : List Tok} {ns ms : List Word} {ds : List Decl} → ns ≡ ms → BodyAt ts ms ds rest → BodyAt ts ns ds rest
-body_on {ts = ts} {rest = rest} {ds = ds} e d = subst (λ x. BodyAt ts x ds rest) (sym e) d
-
-pub body_end_read : {ts rest : List Tok} {ns : List Word} {ds : List Decl} → ns ≡ [] → ds ≡ [] → Token Close ts rest → BodyAt ts ns ds rest
-body_end_read e f t = body_on e (body_plain (decls_end_read f t))
-
-pub hidden_read : {ts us vs rest : List Tok} {ns : List Word} {ds : List Decl} → Token (Key word.Hidden) ts us → NamesAt us ns vs → DeclsAt vs ds rest
-    → BodyAt (Open ∷ ts) ns ds rest
-hidden_read token n d = body_hidden n d
-
-module_on : {ts rest : List Tok} {m : Word} {imports exports hidden : List Word} {ds : List Decl} → imports ≡ []
-    → ModuleAt ts (ModuleOf m [] exports hidden ds) rest → ModuleAt ts (ModuleOf m imports exports hidden ds) rest
-module_on {ts = ts} {rest = rest} {m = m} {exports = xs} {hidden = hs} {ds = ds} e d = subst (λ x. ModuleAt ts (ModuleOf m x xs hs ds) rest) (sym e) d
-
-pub module_read : {a b c d e f g h i j rest : List Tok} {m : Word} {imports exports hidden : List Word} {ds : List Decl} → imports ≡ [] → is_module_part m ≡ true
+pub header_read : {a b c d e f g h i rest : List Tok} {m : Word} {exports : List Word} → is_module_part m ≡ true
     → Token Open a b → Token (Key word.Module) b c → Token (Upper m) c d → Token Open d e → Token (Key word.Imports) e f → Token Close f g
-    → Token Open g h → Token (Key word.Exports) h i → NamesAt i exports j → BodyAt j hidden ds rest → ModuleAt a (ModuleOf m imports exports hidden ds) rest
-module_read none p token token token token token token token token n b = module_on none (module_at p n b)
+    → Token Open g h → Token (Key word.Exports) h i → NamesAt i exports rest → HeaderAt a m exports rest
+header_read p token token token token token token token token n = header_at p n
+
+pub hidden_read : {ts us vs rest : List Tok} {ns : List Word} {ds : List Decl} → ts ≡ Open ∷ Key word.Hidden ∷ us → NamesAt us ns vs → DeclsAt vs ds rest → BodyAt ts ns ds rest
+hidden_read {rest = rest} {ns = ns} {ds = ds} e n d = subst (λ x. BodyAt x ns ds rest) (sym e) (body_hidden n d)
+
+pub plain_read : {ts rest : List Tok} {ns : List Word} {ds : List Decl} → ns ≡ [] → DeclsAt ts ds rest → BodyAt ts ns ds rest
+plain_read {ts = ts} {rest = rest} {ds = ds} e d = subst (λ x. BodyAt ts x ds rest) (sym e) (body_plain d)

@@ -1,8 +1,11 @@
 -- No text begins another, and each has one tree.
 use Rattle.std.proofs.Common.{◌≡◌, List, [], ◌∷◌, refl, sym, ap, subst}
-use Rattle.fc_syntax.specs.Tree.{Word, Decl, Module, ModuleOf}
-use Rattle.fc_model.specs.Words.{Tok, Open}
-use Rattle.fc_model.specs.Texts.{NamesAt, names_end, names_lower, names_upper, DeclsAt, decls_end, BodyAt, body_hidden, body_plain, ModuleAt, module_at}
+use Rattle.fc_syntax.specs.Tree.{Word, Ty, ConDecl, ConOf, Expr, ECon, ATerm, Args, MoreArgs, Decl, DData, DDef, Module, ModuleOf}
+use Rattle.fc_model.specs.declared.keyword.Keyword.TheVariants as word
+use Rattle.fc_model.specs.Words.{Tok, Open, Close, Key}
+use Rattle.fc_model.specs.Texts.{NamesAt, names_end, names_lower, names_upper, TypeAt, type_con, type_int, TypesAt, types_end, types_more, ConAt, con_at, ConsAt, cons_end, cons_more}
+use Rattle.fc_model.specs.Texts.{plain_name, ExprAt, expr_var, expr_lit, expr_con, ArgsAt, args_end, args_more, DeclAt, decl_data, decl_def, DeclsAt, decls_end, decls_more}
+use Rattle.fc_model.specs.Texts.{BodyAt, body_hidden, body_plain, ModuleAt, module_at}
 
 -- what two readings of one text have in common
 pub record Same {X : Type 0} (x y : X) (r s : List Tok) : Type 0 where
@@ -12,10 +15,43 @@ pub record Same {X : Type 0} (x y : X) (r s : List Tok) : Type 0 where
 ap3 : {A B C D : Type 0} (f : A → B → C → D) {a a' : A} {b b' : B} {c c' : C} → a ≡ a' → b ≡ b' → c ≡ c' → f a b c ≡ f a' b' c'
 ap3 f p q r = cc
 
-no_decls_at_open : {A : Type 0} {ts rest : List Tok} {ds : List Decl} → DeclsAt (Open ∷ ts) ds rest → A
-no_decls_at_open d = elim d [ ]
+ap2 : {A B C : Type 0} (f : A → B → C) {a a' : A} {b b' : B} → a ≡ a' → b ≡ b' → f a b ≡ f a' b'
+ap2 f p q = cc
+
+behind : {t u : Tok} {r s : List Tok} → t ∷ r ≡ u ∷ s → r ≡ s
+behind e = cc
+
+no_type_at_close : {A : Type 0} {ts rest : List Tok} {t : Ty} → TypeAt (Close ∷ ts) t rest → A
+no_type_at_close d = elim d [ ]
+
+no_con_at_close : {A : Type 0} {ts rest : List Tok} {c : ConDecl} → ConAt (Close ∷ ts) c rest → A
+no_con_at_close d = elim d [ ]
+
+no_expr_at_close : {A : Type 0} {ts rest : List Tok} {e : Expr} → ExprAt (Close ∷ ts) e rest → A
+no_expr_at_close d = elim d [ ]
+
+pub no_decl_at_close : {A : Type 0} {ts rest : List Tok} {d : Decl} → DeclAt (Close ∷ ts) d rest → A
+no_decl_at_close d = elim d [ ]
+
+pub no_decl_at_hidden : {A : Type 0} {ts rest : List Tok} {d : Decl} → DeclAt (Open ∷ Key word.Hidden ∷ ts) d rest → A
+no_decl_at_hidden d = elim d [ ]
+
+no_decls_at_hidden : {A : Type 0} {ts rest : List Tok} {ds : List Decl} → DeclsAt (Open ∷ Key word.Hidden ∷ ts) ds rest → A
+no_decls_at_hidden (decls_more d r) = no_decl_at_hidden d
 
 -- a reading moved along an equation of its tokens
+types_on : {ts us rest : List Tok} {tys : List Ty} → us ≡ ts → TypesAt ts tys rest → TypesAt us tys rest
+types_on {rest = r} {tys = tys} e d = subst (λ u. TypesAt u tys r) (sym e) d
+
+cons_on : {ts us rest : List Tok} {cs : List ConDecl} → us ≡ ts → ConsAt ts cs rest → ConsAt us cs rest
+cons_on {rest = r} {cs = cs} e d = subst (λ u. ConsAt u cs r) (sym e) d
+
+expr_on : {ts us rest : List Tok} {t : Expr} → us ≡ ts → ExprAt ts t rest → ExprAt us t rest
+expr_on {rest = r} {t = t} e d = subst (λ u. ExprAt u t r) (sym e) d
+
+args_on : {ts us rest : List Tok} {args : Args} → us ≡ ts → ArgsAt ts args rest → ArgsAt us args rest
+args_on {rest = r} {args = args} e d = subst (λ u. ArgsAt u args r) (sym e) d
+
 decls_on : {ts us rest : List Tok} {ds : List Decl} → us ≡ ts → DeclsAt ts ds rest → DeclsAt us ds rest
 decls_on {rest = r} {ds = ds} e d = subst (λ u. DeclsAt u ds r) (sym e) d
 
@@ -27,8 +63,61 @@ names_one names_end names_end = record { value = refl; rest = refl }
 names_one (names_lower {w = w} a) (names_lower b) = let p = names_one a b in record { value = ap (λ (x : List Word). w ∷ x) p.value; rest = p.rest }
 names_one (names_upper {w = w} a) (names_upper b) = let p = names_one a b in record { value = ap (λ (x : List Word). w ∷ x) p.value; rest = p.rest }
 
+type_one : {ts r : List Tok} {t : Ty} → TypeAt ts t r → {t' : Ty} {r' : List Tok} → TypeAt ts t' r' → Same t t' r r'
+type_one type_con type_con = record { value = refl; rest = refl }
+type_one type_int type_int = record { value = refl; rest = refl }
+
+types_one : {ts r : List Tok} {t : List Ty} → TypesAt ts t r → {t' : List Ty} {r' : List Tok} → TypesAt ts t' r' → Same t t' r r'
+types_one types_end types_end = record { value = refl; rest = refl }
+types_one types_end (types_more a' c') = no_type_at_close a'
+types_one (types_more a c) types_end = no_type_at_close a
+types_one (types_more a c) (types_more a' c') =
+    let p = type_one a a' in
+    let s = types_one c (types_on p.rest c') in
+    record { value = ap2 ◌∷◌ p.value s.value; rest = s.rest }
+
+con_one : {ts r : List Tok} {t : ConDecl} → ConAt ts t r → {t' : ConDecl} {r' : List Tok} → ConAt ts t' r' → Same t t' r r'
+con_one (con_at {k = k} a) (con_at a') = let p = types_one a a' in record { value = ap (ConOf k []) p.value; rest = p.rest }
+
+cons_one : {ts r : List Tok} {t : List ConDecl} → ConsAt ts t r → {t' : List ConDecl} {r' : List Tok} → ConsAt ts t' r' → Same t t' r r'
+cons_one cons_end cons_end = record { value = refl; rest = refl }
+cons_one cons_end (cons_more a' c') = no_con_at_close a'
+cons_one (cons_more a c) cons_end = no_con_at_close a
+cons_one (cons_more a c) (cons_more a' c') =
+    let p = con_one a a' in
+    let s = cons_one c (cons_on p.rest c') in
+    record { value = ap2 ◌∷◌ p.value s.value; rest = s.rest }
+
+mutual
+  expr_one : {ts r : List Tok} {t : Expr} → ExprAt ts t r → {t' : Expr} {r' : List Tok} → ExprAt ts t' r' → Same t t' r r'
+  expr_one expr_var expr_var = record { value = refl; rest = refl }
+  expr_one expr_lit expr_lit = record { value = refl; rest = refl }
+  expr_one (expr_con {k = k} a) (expr_con a') = let p = args_one a a' in record { value = ap (ECon (plain_name k)) p.value; rest = p.rest }
+
+  args_one : {ts r : List Tok} {t : Args} → ArgsAt ts t r → {t' : Args} {r' : List Tok} → ArgsAt ts t' r' → Same t t' r r'
+  args_one args_end args_end = record { value = refl; rest = refl }
+  args_one args_end (args_more a' c') = no_expr_at_close a'
+  args_one (args_more a c) args_end = no_expr_at_close a
+  args_one (args_more a c) (args_more a' c') =
+      let p = expr_one a a' in
+      let s = args_one c (args_on p.rest c') in
+      record { value = ap2 (λ x y. MoreArgs (ATerm x) y) p.value s.value; rest = s.rest }
+
+pub decl_one : {ts r : List Tok} {t : Decl} → DeclAt ts t r → {t' : Decl} {r' : List Tok} → DeclAt ts t' r' → Same t t' r r'
+decl_one (decl_data {n = n} a) (decl_data a') = let p = cons_one a a' in record { value = ap (DData n []) p.value; rest = p.rest }
+decl_one (decl_def {n = n} a b) (decl_def a' b') =
+    let p = type_one a a' in
+    let q = expr_one b (expr_on p.rest b') in
+    record { value = ap2 (DDef n) p.value q.value; rest = behind q.rest }
+
 pub decls_one : {ts r : List Tok} {ds : List Decl} → DeclsAt ts ds r → {es : List Decl} {s : List Tok} → DeclsAt ts es s → Same ds es r s
 decls_one decls_end decls_end = record { value = refl; rest = refl }
+decls_one decls_end (decls_more a' c') = no_decl_at_close a'
+decls_one (decls_more a c) decls_end = no_decl_at_close a
+decls_one (decls_more a c) (decls_more a' c') =
+    let p = decl_one a a' in
+    let s = decls_one c (decls_on p.rest c') in
+    record { value = ap2 ◌∷◌ p.value s.value; rest = s.rest }
 
 -- what two readings of the body of a module have in common
 pub record SameBody (ns ms : List Word) (ds es : List Decl) (r s : List Tok) : Type 0 where
@@ -42,8 +131,8 @@ body_one (body_hidden n d) (body_hidden n' d') =
     let p = names_one n n' in
     let q = decls_one d (decls_on p.rest d') in
     record { names = p.value; decls = q.value; rest = q.rest }
-body_one (body_hidden n d) (body_plain d') = no_decls_at_open d'
-body_one (body_plain d) (body_hidden n d') = no_decls_at_open d
+body_one (body_hidden n d) (body_plain d') = no_decls_at_hidden d'
+body_one (body_plain d) (body_hidden n d') = no_decls_at_hidden d
 body_one (body_plain d) (body_plain d') = let q = decls_one d d' in record { names = refl; decls = q.value; rest = q.rest }
 
 pub module_one : {ts r : List Tok} {m : Module} → ModuleAt ts m r → {n : Module} {s : List Tok} → ModuleAt ts n s → Same m n r s

@@ -1,13 +1,17 @@
 -- What the machine has taken can always be gone on with to a text of the grammar.
-use Rattle.std.proofs.Common.{◌≡◌, ℕ, Bool, true, false, List, [], ◌∷◌, ◌++◌, codes, length, Option, Some, None, if◌then◌else◌, refl, sym, ap, ◌∙◌, append_assoc}
+use Rattle.std.proofs.Common.{◌≡◌, ℕ, ℤ, Bool, true, false, List, [], ◌∷◌, ◌++◌, codes, length, Option, Some, None, if◌then◌else◌, refl, sym, ap, ◌∙◌, append_assoc}
 use Rattle.std.specs.Prelude.{IfSome}
-use Rattle.fc_syntax.specs.Tree.{Word, Decl, Module, ModuleOf}
+use Rattle.fc_syntax.specs.Tree.{Word, Ty, TCon, TInt, ConDecl, ConOf, Expr, EVar, ELit, ECon, ATerm, Args, NoArgs, MoreArgs, Decl, DData, DDef, Module, ModuleOf}
 use Rattle.fc_syntax.specs.Tokens.{is_module_part}
 use Rattle.fc_model.specs.declared.keyword.Keyword.TheVariants as word
-use Rattle.fc_model.specs.Words.{Tok, Open, Close, Key, Lower, Upper}
-use Rattle.fc_model.specs.Texts.{NamesAt, names_end, names_lower, names_upper, DeclsAt, decls_end, BodyAt, body_hidden, body_plain, ModuleAt, module_at}
+use Rattle.fc_model.specs.Words.{Tok, Open, Close, Key, Lower, Upper, Literal}
+use Rattle.fc_model.specs.Texts.{NamesAt, names_end, names_lower, names_upper, TypeAt, type_con, type_int, TypesAt, types_end, types_more, ConAt, con_at, ConsAt, cons_end, cons_more}
+use Rattle.fc_model.specs.Texts.{plain_name, ExprAt, expr_var, expr_lit, expr_con, ArgsAt, args_end, args_more, DeclAt, decl_data, decl_def, DeclsAt, decls_end, decls_more}
+use Rattle.fc_model.specs.Texts.{BodyAt, body_hidden, body_plain, ModuleAt, module_at}
 use Rattle.fc_model.specs.ReadFaults.{Begins, CannotGoOn}
-use Rattle.fc_reader.specs.Machine.{Want, AModule, AModuleWord, AModuleName, AnImportsWord, AnExportsWord, AName, Names, Body, ABodyForm, Decls, AnOpen, AClose, next, next_name, then_want, stuck}
+use Rattle.fc_reader.specs.Header.{HeaderAt, header_at}
+use Rattle.fc_reader.specs.Machine.{Want, AModule, AHeader, AModuleWord, AModuleName, AnImportsWord, AnExportsWord, AName, Names, Body, ABodyForm, Decls, ADecl, ADeclForm, Cons, ACon, Types, AType, AnExpr, AnExprForm, Arguments, ALower, AnUpper, AnOpen, AClose, AToken}
+use Rattle.fc_reader.specs.Machine.{next, next_name, next_type, next_expr, next_decl_form, then_want, stuck}
 use Rattle.fc_reader.specs.Places.{FirstBad}
 use Rattle.fc_reader.specs.Reading.{IsName}
 use Rattle.fc_reader.proofs.Forms.{Token, token}
@@ -19,6 +23,7 @@ pub data Nothing : List Tok → List Tok → Type 0 where
 -- the tokens `ts` begin with what is wanted, and `rest` follows
 abbrev pub Is : Want → List Tok → List Tok → Type 0
 Is AModule ts rest = (m : Module) × ModuleAt ts m rest
+Is AHeader ts rest = (m : Word) × (ns : List Word) × HeaderAt ts m ns rest
 Is AModuleWord ts rest = Token (Key word.Module) ts rest
 Is AModuleName ts rest = (m : Word) × (is_module_part m ≡ true) × Token (Upper m) ts rest
 Is AnImportsWord ts rest = Token (Key word.Imports) ts rest
@@ -28,8 +33,20 @@ Is Names ts rest = (ns : List Word) × NamesAt ts ns rest
 Is Body ts rest = (ns : List Word) × (ds : List Decl) × BodyAt ts ns ds rest
 Is ABodyForm ts rest = (ns : List Word) × (ds : List Decl) × BodyAt (Open ∷ ts) ns ds rest
 Is Decls ts rest = (ds : List Decl) × DeclsAt ts ds rest
+Is ADecl ts rest = (d : Decl) × DeclAt ts d rest
+Is ADeclForm ts rest = (d : Decl) × DeclAt (Open ∷ ts) d rest
+Is Cons ts rest = (cs : List ConDecl) × ConsAt ts cs rest
+Is ACon ts rest = (c : ConDecl) × ConAt ts c rest
+Is Types ts rest = (tys : List Ty) × TypesAt ts tys rest
+Is AType ts rest = (t : Ty) × TypeAt ts t rest
+Is AnExpr ts rest = (e : Expr) × ExprAt ts e rest
+Is AnExprForm ts rest = (e : Expr) × ExprAt (Open ∷ ts) e rest
+Is Arguments ts rest = (args : Args) × ArgsAt ts args rest
+Is ALower ts rest = (w : Word) × Token (Lower w) ts rest
+Is AnUpper ts rest = (w : Word) × Token (Upper w) ts rest
 Is AnOpen ts rest = Token Open ts rest
 Is AClose ts rest = Token Close ts rest
+Is AToken ts rest = (t : Tok) × Token t ts rest
 
 abbrev pub Are : List Want → List Tok → List Tok → Type 0
 Are [] ts rest = Nothing ts rest
@@ -41,6 +58,9 @@ Back w t ws = (ts rest : List Tok) → Are ws ts rest → Is w (t ∷ ts) rest
 
 module_back : Back AModule Open (AModuleWord ∷ AModuleName ∷ AnOpen ∷ AnImportsWord ∷ AClose ∷ AnOpen ∷ AnExportsWord ∷ Names ∷ Body ∷ [])
 module_back ts rest (_, token, (_, (m, p, token), (_, token, (_, token, (_, token, (_, token, (_, token, (us, (ns, n), (_, (hs, ds, b), nothing))))))))) = (ModuleOf m [] ns hs ds, module_at p n b)
+
+header_back : Back AHeader Open (AModuleWord ∷ AModuleName ∷ AnOpen ∷ AnImportsWord ∷ AClose ∷ AnOpen ∷ AnExportsWord ∷ Names ∷ [])
+header_back ts rest (_, token, (_, (m, p, token), (_, token, (_, token, (_, token, (_, token, (_, token, (us, (ns, n), nothing)))))))) = (m, ns, header_at p n)
 
 module_word_back : Back AModuleWord (Key word.Module) []
 module_word_back ts _ nothing = token
@@ -78,6 +98,60 @@ hidden_back ts rest (us, (ns, n), (_, (ds, d), nothing)) = (ns, ds, body_hidden 
 decls_end_back : Back Decls Close []
 decls_end_back ts _ nothing = ([], decls_end)
 
+decls_back : Back Decls Open (ADeclForm ∷ Decls ∷ [])
+decls_back ts rest (_, (d, dd), (_, (ds, r), nothing)) = (d ∷ ds, decls_more dd r)
+
+decl_back : Back ADecl Open (ADeclForm ∷ [])
+decl_back ts rest (_, d, nothing) = d
+
+data_back : Back ADeclForm (Key word.Data) (AnUpper ∷ AnOpen ∷ AClose ∷ Cons ∷ [])
+data_back ts rest (_, (n, token), (_, token, (_, token, (_, (cs, d), nothing)))) = (DData n [] cs, decl_data d)
+
+def_back : Back ADeclForm (Key word.Def) (ALower ∷ AType ∷ AnExpr ∷ AClose ∷ [])
+def_back ts rest (_, (n, token), (_, (t, dt), (_, (e, de), (_, token, nothing)))) = (DDef n t e, decl_def dt de)
+
+cons_end_back : Back Cons Close []
+cons_end_back ts _ nothing = ([], cons_end)
+
+cons_back : Back Cons Open (AnUpper ∷ AnOpen ∷ AClose ∷ Types ∷ Cons ∷ [])
+cons_back ts rest (_, (k, token), (_, token, (_, token, (_, (tys, d), (_, (cs, r), nothing))))) = (ConOf k [] tys ∷ cs, cons_more (con_at d) r)
+
+con_back : Back ACon Open (AnUpper ∷ AnOpen ∷ AClose ∷ Types ∷ [])
+con_back ts rest (_, (k, token), (_, token, (_, token, (_, (tys, d), nothing)))) = (ConOf k [] tys, con_at d)
+
+types_end_back : Back Types Close []
+types_end_back ts _ nothing = ([], types_end)
+
+type_con_back : (w : Word) → Back AType (Upper w) []
+type_con_back w ts _ nothing = (TCon (plain_name w), type_con)
+
+type_int_back : Back AType (Key word.IntHash) []
+type_int_back ts _ nothing = (TInt, type_int)
+
+expr_back : Back AnExpr Open (AnExprForm ∷ [])
+expr_back ts rest (_, d, nothing) = d
+
+var_back : (w : Word) → Back AnExpr (Lower w) []
+var_back w ts _ nothing = (EVar (plain_name w), expr_var)
+
+lit_back : (n : ℤ) → Back AnExpr (Literal n) []
+lit_back n ts _ nothing = (ELit n, expr_lit)
+
+expr_con_back : Back AnExprForm (Key word.Con) (AnUpper ∷ Arguments ∷ [])
+expr_con_back ts rest (_, (k, token), (_, (args, d), nothing)) = (ECon (plain_name k) args, expr_con d)
+
+args_end_back : Back Arguments Close []
+args_end_back ts _ nothing = (NoArgs, args_end)
+
+lower_word_back : (w : Word) → Back ALower (Lower w) []
+lower_word_back w ts _ nothing = (w, token)
+
+upper_word_back : (w : Word) → Back AnUpper (Upper w) []
+upper_word_back w ts _ nothing = (w, token)
+
+token_back : (t : Tok) → Back AToken t []
+token_back t ts _ nothing = (t, token)
+
 open_back : Back AnOpen Open []
 open_back ts _ nothing = token
 
@@ -98,6 +172,34 @@ names_back : (t : Tok) (next_is : Option (List Want)) → IfSome next_is (Back A
 names_back t None h = tt
 names_back t (Some ws) h = λ ts rest d. (let p = are_last ws Names ts rest d in let a = h ts p.0 p.1 in (a.0 ∷ p.2.0, a.1 _ _ p.2.1))
 
+types_back : (t : Tok) (next_is : Option (List Want)) → IfSome next_is (Back AType t) → IfSome (then_want Types next_is) (Back Types t)
+types_back t None h = tt
+types_back t (Some ws) h = λ ts rest d. (let p = are_last ws Types ts rest d in let a = h ts p.0 p.1 in (a.0 ∷ p.2.0, types_more a.1 p.2.1))
+
+args_back : (t : Tok) (next_is : Option (List Want)) → IfSome next_is (Back AnExpr t) → IfSome (then_want Arguments next_is) (Back Arguments t)
+args_back t None h = tt
+args_back t (Some ws) h = λ ts rest d. (let p = are_last ws Arguments ts rest d in let a = h ts p.0 p.1 in (MoreArgs (ATerm a.0) p.2.0, args_more a.1 p.2.1))
+
+body_form_back : (t : Tok) (next_is : Option (List Want)) → IfSome next_is (Back ADeclForm t) → IfSome (then_want Decls next_is) (Back ABodyForm t)
+body_form_back t None h = tt
+body_form_back t (Some ws) h = λ ts rest d. (let p = are_last ws Decls ts rest d in let a = h ts p.0 p.1 in ([], a.0 ∷ p.2.0, body_plain (decls_more a.1 p.2.1)))
+
+type_back : (t : Tok) → IfSome (next_type t) (Back AType t)
+type_back (Upper w) = type_con_back w
+type_back (Key word.IntHash) = type_int_back
+type_back _ = tt
+
+expr_step_back : (t : Tok) → IfSome (next_expr t) (Back AnExpr t)
+expr_step_back Open = expr_back
+expr_step_back (Lower w) = var_back w
+expr_step_back (Literal n) = lit_back n
+expr_step_back _ = tt
+
+decl_form_back : (t : Tok) → IfSome (next_decl_form t) (Back ADeclForm t)
+decl_form_back (Key word.Data) = data_back
+decl_form_back (Key word.Def) = def_back
+decl_form_back _ = tt
+
 name_back : (t : Tok) → IfSome (next_name t) (Back AName t)
 name_back (Lower w) = lower_back w
 name_back (Upper w) = upper_back w
@@ -105,6 +207,7 @@ name_back _ = tt
 
 step_back : (w : Want) (t : Tok) → IfSome (next w t) (Back w t)
 step_back AModule Open = module_back
+step_back AHeader Open = header_back
 step_back AModuleWord (Key word.Module) = module_word_back
 step_back AModuleName (Upper w) = module_name_back w (is_module_part w) refl
 step_back AnImportsWord (Key word.Imports) = imports_word_back
@@ -115,9 +218,26 @@ step_back Names t = names_back t (next_name t) (name_back t)
 step_back Body Close = body_end_back
 step_back Body Open = body_back
 step_back ABodyForm (Key word.Hidden) = hidden_back
+step_back ABodyForm t = body_form_back t (next_decl_form t) (decl_form_back t)
 step_back Decls Close = decls_end_back
+step_back Decls Open = decls_back
+step_back ADecl Open = decl_back
+step_back ADeclForm t = decl_form_back t
+step_back Cons Close = cons_end_back
+step_back Cons Open = cons_back
+step_back ACon Open = con_back
+step_back Types Close = types_end_back
+step_back Types t = types_back t (next_type t) (type_back t)
+step_back AType t = type_back t
+step_back AnExpr t = expr_step_back t
+step_back AnExprForm (Key word.Con) = expr_con_back
+step_back Arguments Close = args_end_back
+step_back Arguments t = args_back t (next_expr t) (expr_step_back t)
+step_back ALower (Lower w) = lower_word_back w
+step_back AnUpper (Upper w) = upper_word_back w
 step_back AnOpen Open = open_back
 step_back AClose Close = close_back
+step_back AToken t = token_back t
 step_back _ _ = tt
 
 -- each want has a shortest answer
@@ -129,6 +249,10 @@ filled AModule = (
   Open ∷ Key word.Module ∷ Upper (codes "M") ∷ Open ∷ Key word.Imports ∷ Close ∷ Open ∷ Key word.Exports ∷ Close ∷ Close ∷ [],
   λ rest. (ModuleOf (codes "M") [] [] [] [], module_at refl names_end (body_plain decls_end)),
 )
+filled AHeader = (
+  Open ∷ Key word.Module ∷ Upper (codes "M") ∷ Open ∷ Key word.Imports ∷ Close ∷ Open ∷ Key word.Exports ∷ Close ∷ [],
+  λ rest. (codes "M", [], header_at refl names_end),
+)
 filled AModuleWord = (Key word.Module ∷ [], λ rest. token)
 filled AModuleName = (Upper (codes "M") ∷ [], λ rest. (codes "M", refl, token))
 filled AnImportsWord = (Key word.Imports ∷ [], λ rest. token)
@@ -138,8 +262,20 @@ filled Names = (Close ∷ [], λ rest. ([], names_end))
 filled Body = (Close ∷ [], λ rest. ([], [], body_plain decls_end))
 filled ABodyForm = (Key word.Hidden ∷ Close ∷ Close ∷ [], λ rest. ([], [], body_hidden names_end decls_end))
 filled Decls = (Close ∷ [], λ rest. ([], decls_end))
+filled ADecl = (Open ∷ Key word.Data ∷ Upper (codes "T") ∷ Open ∷ Close ∷ Close ∷ [], λ rest. (DData (codes "T") [] [], decl_data cons_end))
+filled ADeclForm = (Key word.Data ∷ Upper (codes "T") ∷ Open ∷ Close ∷ Close ∷ [], λ rest. (DData (codes "T") [] [], decl_data cons_end))
+filled Cons = (Close ∷ [], λ rest. ([], cons_end))
+filled ACon = (Open ∷ Upper (codes "K") ∷ Open ∷ Close ∷ Close ∷ [], λ rest. (ConOf (codes "K") [] [], con_at types_end))
+filled Types = (Close ∷ [], λ rest. ([], types_end))
+filled AType = (Key word.IntHash ∷ [], λ rest. (TInt, type_int))
+filled AnExpr = (Lower (codes "x") ∷ [], λ rest. (EVar (plain_name (codes "x")), expr_var))
+filled AnExprForm = (Key word.Con ∷ Upper (codes "K") ∷ Close ∷ [], λ rest. (ECon (plain_name (codes "K")) NoArgs, expr_con args_end))
+filled Arguments = (Close ∷ [], λ rest. (NoArgs, args_end))
+filled ALower = (Lower (codes "x") ∷ [], λ rest. (codes "x", token))
+filled AnUpper = (Upper (codes "K") ∷ [], λ rest. (codes "K", token))
 filled AnOpen = (Open ∷ [], λ rest. token)
 filled AClose = (Close ∷ [], λ rest. token)
+filled AToken = (Open ∷ [], λ rest. (Open, token))
 
 all_filled : (ws : List Want) → (q : List Tok) × Are ws q []
 all_filled [] = ([], nothing)

@@ -1,5 +1,8 @@
 pub mod Classes
+pub mod Halting
+pub mod Header
 pub mod Machine
+pub mod Nested
 pub mod Outcomes
 pub mod Places
 pub mod Reading

@@ -3,12 +3,12 @@ use Rattle.std.specs.Prelude.{◌≡◌, ⊤, ℕ, suc, List, ◌∷◌, length,
 use Rattle.fc_syntax.specs.declared.token.Token.{Token}
 use Rattle.fc_syntax.specs.Tree.{Word}
 use Rattle.fc_syntax.specs.Tokens.{AreSlices}
-use Rattle.fc_model.specs.Words.{Tok, Close, toks}
+use Rattle.fc_model.specs.Words.{Tok, Open, Close, Key, toks}
+use Rattle.fc_model.specs.declared.keyword.Keyword.TheVariants as word
 use Rattle.fc_model.specs.Texts.{NamesAt}
 use Rattle.fc_reader.specs.declared.parts.Stop.{Stop}
 use Rattle.fc_reader.specs.declared.parts.Stop.TheVariants as stop
-use Rattle.fc_reader.specs.Machine.{Want, AName, Names, stuck}
-use Rattle.fc_reader.specs.Places.{FirstBad}
+use Rattle.fc_reader.specs.Machine.{Want, AName, Names, Body, Decls, ADecl, Cons, ACon, Types, AType, AnExpr, Arguments, stuck}
 
 -- a fault is where the machine is stuck that wants w, whatever it wants behind it
 abbrev pub Stops : Want → List Tok → Stop → Type 0
@@ -26,6 +26,10 @@ IsName ts n us = (ns : List Word) (rest : List Tok) → NamesAt us ns rest → N
 -- no closing bracket comes first, so what may be repeated goes on
 pub record GoesOn (ts : List Tok) : Type 0 where
   pub names : (s : List Want) → stuck (Names ∷ s) ts ≡ stuck (AName ∷ Names ∷ s) ts
+  pub types : (s : List Want) → stuck (Types ∷ s) ts ≡ stuck (AType ∷ Types ∷ s) ts
+  pub cons : (s : List Want) → stuck (Cons ∷ s) ts ≡ stuck (ACon ∷ Cons ∷ s) ts
+  pub args : (s : List Want) → stuck (Arguments ∷ s) ts ≡ stuck (AnExpr ∷ Arguments ∷ s) ts
+  pub decls : (s : List Want) → stuck (Decls ∷ s) ts ≡ stuck (ADecl ∷ Decls ∷ s) ts
 
 -- a closing bracket comes first
 pub record Closes (bytes : List ℕ) (tokens rest : List Token) : Type 0 where
@@ -33,7 +37,17 @@ pub record Closes (bytes : List ℕ) (tokens rest : List Token) : Type 0 where
   pub rest_inside : AreSlices bytes rest
   pub shorter : length tokens ≡ suc (length rest)
 
--- the tokens are those of no module, and this is the first that cannot go on
-abbrev pub Refuses : List Tok → Stop → Type 0
-Refuses ts stop.Memory = ⊤
-Refuses ts (stop.Form n) = FirstBad ts n
+-- the tokens do not begin with `(hidden`
+abbrev pub NotHidden : List Tok → Type 0
+NotHidden ts = (us : List Tok) → ts ≡ Open ∷ Key word.Hidden ∷ us → ⊥
+
+-- no hidden names come first, so the declarations do
+pub record IsPlain (ts : List Tok) : Type 0 where
+  pub not : NotHidden ts
+  pub goes_on : (s : List Want) → stuck (Body ∷ s) ts ≡ stuck (Decls ∷ s) ts
+
+-- `(hidden` comes first
+pub record OpensHidden (bytes : List ℕ) (tokens rest : List Token) : Type 0 where
+  pub is : toks bytes tokens ≡ Open ∷ Key word.Hidden ∷ toks bytes rest
+  pub rest_inside : AreSlices bytes rest
+  pub shorter : length tokens ≡ suc (suc (length rest))

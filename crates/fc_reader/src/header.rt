@@ -1,20 +1,34 @@
 //! The module, its header and what stands behind it. Readers answer as those of single tokens do.
-ghost use Rattle.std.specs.Prelude.{◌≡◌, ◌<◌, ◌∷◌, length, IfOk, IfErr};
+ghost use Rattle.std.specs.Prelude.{◌≡◌, ◌<◌, [], length, true, IfOk, IfErr};
 ghost use Rattle.fc_syntax.specs.Tokens.{AreSlices};
 ghost use Rattle.fc_syntax.specs.View.{decls_of, module_of};
-ghost use Rattle.fc_model.specs.Words.{Open, toks};
-ghost use Rattle.fc_model.specs.Texts.{NamesAt, DeclsAt, BodyAt, ModuleAt};
-ghost use Rattle.fc_reader.specs.Machine.{AModule, Names, Body as spec_Body, ABodyForm, Decls};
+ghost use Rattle.fc_syntax.specs.Tree.{ModuleOf};
+ghost use Rattle.fc_model.specs.Words.{toks};
+ghost use Rattle.fc_model.specs.Texts.{NamesAt, BodyAt, SomeBodyAt, ModuleAt, BeginsWithDecls};
+ghost use Rattle.fc_model.specs.ReadFaults.{are_within, decls_within};
+ghost use Rattle.fc_reader.specs.Header.{HeaderAt};
+ghost use Rattle.fc_reader.specs.Machine.{AModule, AHeader, Names, Body as spec_Body};
 ghost use Rattle.fc_reader.specs.Reading.{Stops, Takes};
+ghost use Rattle.fc_reader.specs.Halting.{Halts};
 
 use crate::class::{Class, first};
+use crate::decls::read_decls;
+use crate::limits::Halt;
 use crate::parts::{
-    Stop, closes, read_close, read_exports_word, read_imports_word, read_module_name,
+    Stop, closes, opens_hidden, read_close, read_exports_word, read_imports_word, read_module_name,
     read_module_word, read_name, read_open,
 };
-use fc_model::Keyword;
 use fc_syntax::{Decl, Module, Seq, Text, Token};
 use std::alloc::Global;
+
+/// The front of a module.
+#[derive(Debug, Drop)]
+pub(crate) struct Header {
+    /// Its name.
+    name: Text,
+    /// The names that it exports.
+    exports: Seq<Text>,
+}
 
 /// What stands behind the exported names of a module.
 #[derive(Debug, Drop)]
@@ -50,93 +64,18 @@ fn read_names<'a>(
     }
 }
 
-/// Declarations up to the closing bracket.
-fn read_decls<'a>(
+/// A module up to the names that it exports.
+fn read_header<'a>(
     alloc: Global,
     bytes: &[u8],
     tokens: &'a [Token],
-) -> Result<(Seq<Decl>, &'a [Token]), Stop>
+) -> Result<(Header, &'a [Token]), Stop>
     requires { AreSlices bytes.now tokens.now }
-    ensures read { IfOk result (λ x. DeclsAt (toks bytes.now tokens.now) (decls_of x.0) (toks bytes.now x.1.now)) }
-    ensures taken { IfOk result (λ x. Takes Decls (toks bytes.now tokens.now) (toks bytes.now x.1.now)) }
+    ensures read { IfOk result (λ x. HeaderAt (toks bytes.now tokens.now) x.0.name x.0.exports (toks bytes.now x.1.now)) }
+    ensures taken { IfOk result (λ x. Takes AHeader (toks bytes.now tokens.now) (toks bytes.now x.1.now)) }
     ensures inside { IfOk result (λ x. AreSlices bytes.now x.1.now) }
     ensures shorter { IfOk result (λ x. length x.1.now < length tokens.now) }
-    ensures fault { IfErr result (Stops Decls (toks bytes.now tokens.now)) }
-{
-    match first(bytes, tokens) {
-        Some((Class::Close, _, rest)) => Ok((Seq::new(alloc), rest)),
-        _ => Err(Stop::Form(tokens.len())),
-    }
-}
-
-/// The hidden names, where there are any, and the declarations.
-fn read_body<'a>(
-    alloc: Global,
-    bytes: &[u8],
-    tokens: &'a [Token],
-) -> Result<(Body, &'a [Token]), Stop>
-    requires { AreSlices bytes.now tokens.now }
-    ensures read { IfOk result (λ x. BodyAt (toks bytes.now tokens.now) x.0.hidden (decls_of x.0.decls) (toks bytes.now x.1.now)) }
-    ensures taken { IfOk result (λ x. Takes spec_Body (toks bytes.now tokens.now) (toks bytes.now x.1.now)) }
-    ensures inside { IfOk result (λ x. AreSlices bytes.now x.1.now) }
-    ensures shorter { IfOk result (λ x. length x.1.now < length tokens.now) }
-    ensures fault { IfErr result (Stops spec_Body (toks bytes.now tokens.now)) }
-{
-    let Some((class, _, rest)) = first(bytes, tokens) else {
-        return Err(Stop::Form(0));
-    };
-    match class {
-        Class::Close => {
-            let hidden = Seq::new(alloc);
-            let decls = Seq::new(alloc);
-            Ok((Body { hidden, decls }, rest))
-        }
-        Class::Open => {
-            let (body, rest) = read_body_form(alloc, bytes, rest)?;
-            Ok((body, rest))
-        }
-        _ => Err(Stop::Form(tokens.len())),
-    }
-}
-
-/// The hidden names or a declaration, behind the opening bracket, and the declarations after it.
-fn read_body_form<'a>(
-    alloc: Global,
-    bytes: &[u8],
-    tokens: &'a [Token],
-) -> Result<(Body, &'a [Token]), Stop>
-    requires { AreSlices bytes.now tokens.now }
-    ensures read { IfOk result (λ x. BodyAt (Open ∷ toks bytes.now tokens.now) x.0.hidden (decls_of x.0.decls) (toks bytes.now x.1.now)) }
-    ensures taken { IfOk result (λ x. Takes ABodyForm (toks bytes.now tokens.now) (toks bytes.now x.1.now)) }
-    ensures inside { IfOk result (λ x. AreSlices bytes.now x.1.now) }
-    ensures shorter { IfOk result (λ x. length x.1.now < length tokens.now) }
-    ensures fault { IfErr result (Stops ABodyForm (toks bytes.now tokens.now)) }
-{
-    let Some((class, _, rest)) = first(bytes, tokens) else {
-        return Err(Stop::Form(0));
-    };
-    match class {
-        Class::Key(Keyword::Hidden) => {
-            let (hidden, rest) = read_names(alloc, bytes, rest)?;
-            let (decls, rest) = read_decls(alloc, bytes, rest)?;
-            Ok((Body { hidden, decls }, rest))
-        }
-        _ => Err(Stop::Form(tokens.len())),
-    }
-}
-
-/// A module.
-pub(crate) fn read_module_form<'a>(
-    alloc: Global,
-    bytes: &[u8],
-    tokens: &'a [Token],
-) -> Result<(Module, &'a [Token]), Stop>
-    requires { AreSlices bytes.now tokens.now }
-    ensures read { IfOk result (λ x. ModuleAt (toks bytes.now tokens.now) (module_of x.0) (toks bytes.now x.1.now)) }
-    ensures taken { IfOk result (λ x. Takes AModule (toks bytes.now tokens.now) (toks bytes.now x.1.now)) }
-    ensures inside { IfOk result (λ x. AreSlices bytes.now x.1.now) }
-    ensures shorter { IfOk result (λ x. length x.1.now < length tokens.now) }
-    ensures fault { IfErr result (Stops AModule (toks bytes.now tokens.now)) }
+    ensures fault { IfErr result (Stops AHeader (toks bytes.now tokens.now)) }
 {
     let Some((Class::Open, _, rest)) = first(bytes, tokens) else {
         return Err(Stop::Form(tokens.len()));
@@ -149,17 +88,72 @@ pub(crate) fn read_module_form<'a>(
     let rest = read_open(bytes, rest)?;
     let rest = read_exports_word(bytes, rest)?;
     let (exports, rest) = read_names(alloc, bytes, rest)?;
-    let (body, rest) = read_body(alloc, bytes, rest)?;
+    Ok((Header { name, exports }, rest))
+}
+
+/// The hidden names, where there are any, and the declarations.
+fn read_body<'a>(
+    alloc: Global,
+    bytes: &[u8],
+    tokens: &'a [Token],
+) -> Result<(Body, &'a [Token]), Halt>
+    requires { AreSlices bytes.now tokens.now }
+    ensures read { IfOk result (λ x. BodyAt (toks bytes.now tokens.now) x.0.hidden (decls_of x.0.decls) (toks bytes.now x.1.now)) }
+    ensures within { IfOk result (λ x. are_within (decls_of x.0.decls) ≡ true) }
+    ensures taken { IfOk result (λ x. Takes spec_Body (toks bytes.now tokens.now) (toks bytes.now x.1.now)) }
+    ensures inside { IfOk result (λ x. AreSlices bytes.now x.1.now) }
+    ensures shorter { IfOk result (λ x. length x.1.now < length tokens.now) }
+    ensures halt { IfErr result (Halts SomeBodyAt spec_Body (toks bytes.now tokens.now)) }
+{
+    let Some(rest) = opens_hidden(bytes, tokens) else {
+        let hidden = Seq::new(alloc);
+        return match read_decls(alloc, bytes, tokens) {
+            Err(halt) => Err(halt),
+            Ok((decls, rest)) => Ok((Body { hidden, decls }, rest)),
+        };
+    };
+    match read_names(alloc, bytes, rest) {
+        Err(stop) => Err(Halt::Stop(stop)),
+        Ok((hidden, rest)) => match read_decls(alloc, bytes, rest) {
+            Err(halt) => Err(halt),
+            Ok((decls, rest)) => Ok((Body { hidden, decls }, rest)),
+        },
+    }
+}
+
+/// The module of a front and what stands behind it, without imports.
+fn joined(alloc: Global, header: Header, body: Body) -> Module
+    ensures { module_of result ≡ ModuleOf header.name [] header.exports body.hidden (decls_of body.decls) }
+{
+    let Header { name, exports } = header;
     let Body { hidden, decls } = body;
     let imports = Seq::new(alloc);
-    Ok((
-        Module {
-            name,
-            imports,
-            exports,
-            hidden,
-            decls,
+    Module {
+        name,
+        imports,
+        exports,
+        hidden,
+        decls,
+    }
+}
+
+/// A module.
+pub(crate) fn read_module_form<'a>(
+    alloc: Global,
+    bytes: &[u8],
+    tokens: &'a [Token],
+) -> Result<(Module, &'a [Token]), Halt>
+    requires { AreSlices bytes.now tokens.now }
+    ensures read { IfOk result (λ x. ModuleAt (toks bytes.now tokens.now) (module_of x.0) (toks bytes.now x.1.now)) }
+    ensures within { IfOk result (λ x. decls_within (module_of x.0) ≡ true) }
+    ensures taken { IfOk result (λ x. Takes AModule (toks bytes.now tokens.now) (toks bytes.now x.1.now)) }
+    ensures halt { IfErr result (Halts BeginsWithDecls AModule (toks bytes.now tokens.now)) }
+{
+    match read_header(alloc, bytes, tokens) {
+        Err(stop) => Err(Halt::Stop(stop)),
+        Ok((header, rest)) => match read_body(alloc, bytes, rest) {
+            Err(halt) => Err(halt),
+            Ok((body, rest)) => Ok((joined(alloc, header, body), rest)),
         },
-        rest,
-    ))
+    }
 }

@@ -9,24 +9,30 @@ ghost use Rattle.fc_model.specs.ReadFaults.{ReadsTo};
 ghost use Rattle.fc_reader.specs.Refusals.{IsReadRefusal, SpellsOne};
 
 mod class;
+mod decls;
+mod exprs;
 mod header;
+mod limits;
 mod names;
+mod nesting;
 mod parts;
 #[cfg(test)]
 mod tests;
+mod types;
 mod whole;
 mod words;
 
-use crate::parts::Stop;
-use crate::whole::{byte_of_left, read_whole, refusal_at, refusal_of};
-use fc_syntax::{FaultKind, Module, Refusal};
+use crate::whole::{read_tokens, refusal_of};
+use fc_syntax::{Module, Refusal};
 use std::alloc::Global;
 
 /// The module that the bytes of a file spell, within the limits.
 ///
 /// A fault has the name of the file as its module, no declaration, and the byte at which the first fault stands: all tokens
-/// are made first (a bad byte, a bad token, a literal out of range), then the form is read (a fault of form stands at the
-/// first token that cannot go on, or at the length of the file).
+/// are made first (a bad byte, a bad token, a literal out of range), then the form is read, declaration after declaration. A
+/// fault of form stands at the first token that cannot go on, or at the length of the file; brackets that nest too deep, at
+/// the first such bracket; a declaration that is too deep, has too many parts or makes the module too large, at its own
+/// opening bracket.
 pub fn read_module(alloc: Global, file: &str, bytes: &[u8]) -> Result<Module, Refusal>
     requires { length bytes.now ≤ 4194304 }
     ensures found { IfOk result (λ m. ReadsTo bytes.now (module_of m)) }
@@ -38,14 +44,7 @@ pub fn read_module(alloc: Global, file: &str, bytes: &[u8]) -> Result<Module, Re
         Err(error) => return Err(refusal_of(alloc, file, error)),
         Ok(tokens) => tokens,
     };
-    match read_whole(alloc, bytes, tokens.as_slice()) {
-        Err(Stop::Memory) => Err(Refusal::Memory),
-        Err(Stop::Form(left)) => {
-            let at = byte_of_left(bytes, tokens.as_slice(), left);
-            Err(refusal_at(alloc, file, FaultKind::BadForm, at))
-        }
-        Ok(m) => Ok(m),
-    }
+    read_tokens(alloc, file, bytes, tokens.as_slice())
 }
 
 /// Bytes spell at most one module, and where there is a fault they spell none.

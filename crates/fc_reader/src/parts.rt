@@ -2,11 +2,11 @@
 //! left from the first that cannot go on.
 ghost use Rattle.std.specs.Prelude.{◌≡◌, ◌<◌, ◌∷◌, length, true, IfOk, IfErr, IfSome, IfNone};
 ghost use Rattle.fc_syntax.specs.Tokens.{AreSlices, is_module_part as spec_is_module_part, is_plain_name};
-ghost use Rattle.fc_model.specs.Words.{Open, Close, Key, Upper, toks};
+ghost use Rattle.fc_model.specs.Words.{Open, Close, Key, Lower, Upper, toks};
 ghost use Rattle.fc_model.specs.declared.keyword.Keyword.TheVariants as key;
 ghost use Rattle.fc_reader.specs.Classes.{IsSlice, word_at};
-ghost use Rattle.fc_reader.specs.Machine.{AModuleWord, AModuleName, AnImportsWord, AnExportsWord, AName, AnOpen, AClose};
-ghost use Rattle.fc_reader.specs.Reading.{Closes, GoesOn, IsName, Stops, Takes};
+ghost use Rattle.fc_reader.specs.Machine.{AModuleWord, AModuleName, AnImportsWord, AnExportsWord, AName, ALower, AnUpper, AnOpen, AClose};
+ghost use Rattle.fc_reader.specs.Reading.{Closes, GoesOn, IsName, IsPlain, OpensHidden, Stops, Takes};
 ghost use Rattle.fc_reader.specs.declared.parts.Stop.TheVariants.{Memory as memory_stop};
 
 use crate::class::{Class, first};
@@ -35,7 +35,7 @@ impl From<Memory> for Stop {
 
 /// The text of a name's token.
 #[tactic(auto, using(crate::proofs::Ascii::name_utf8))]
-fn name_text(alloc: Global, bytes: &[u8], token: Token) -> Result<Text, Memory>
+pub(crate) fn name_text(alloc: Global, bytes: &[u8], token: Token) -> Result<Text, Memory>
     requires inside { IsSlice bytes.now token }
     requires named { is_plain_name (word_at bytes.now token) ≡ true }
     ensures { IfOk result (λ t. t ≡ word_at bytes.now token) }
@@ -54,6 +54,21 @@ pub(crate) fn closes<'a>(bytes: &[u8], tokens: &'a [Token]) -> Option<&'a [Token
 {
     match first(bytes, tokens) {
         Some((Class::Close, _, rest)) => Some(rest),
+        _ => None,
+    }
+}
+
+/// The tokens behind `(hidden`, where it comes first.
+pub(crate) fn opens_hidden<'a>(bytes: &[u8], tokens: &'a [Token]) -> Option<&'a [Token]>
+    requires { AreSlices bytes.now tokens.now }
+    ensures none { IfNone result (IsPlain (toks bytes.now tokens.now)) }
+    ensures some { IfSome result (λ x. OpensHidden bytes.now tokens.now x.now) }
+{
+    let Some((Class::Open, _, inner)) = first(bytes, tokens) else {
+        return None;
+    };
+    match first(bytes, inner) {
+        Some((Class::Key(Keyword::Hidden), _, rest)) => Some(rest),
         _ => None,
     }
 }
@@ -177,4 +192,42 @@ pub(crate) fn read_name<'a>(
         Class::Upper => Ok((name_text(alloc, bytes, token)?, rest)),
         _ => Err(Stop::Form(tokens.len())),
     }
+}
+
+/// A lower name.
+pub(crate) fn read_lower<'a>(
+    alloc: Global,
+    bytes: &[u8],
+    tokens: &'a [Token],
+) -> Result<(Text, &'a [Token]), Stop>
+    requires { AreSlices bytes.now tokens.now }
+    ensures read { IfOk result (λ x. toks bytes.now tokens.now ≡ Lower x.0 ∷ toks bytes.now x.1.now) }
+    ensures taken { IfOk result (λ x. Takes ALower (toks bytes.now tokens.now) (toks bytes.now x.1.now)) }
+    ensures inside { IfOk result (λ x. AreSlices bytes.now x.1.now) }
+    ensures shorter { IfOk result (λ x. length x.1.now < length tokens.now) }
+    ensures fault { IfErr result (Stops ALower (toks bytes.now tokens.now)) }
+{
+    let Some((Class::Lower, token, rest)) = first(bytes, tokens) else {
+        return Err(Stop::Form(tokens.len()));
+    };
+    Ok((name_text(alloc, bytes, token)?, rest))
+}
+
+/// An upper name.
+pub(crate) fn read_upper<'a>(
+    alloc: Global,
+    bytes: &[u8],
+    tokens: &'a [Token],
+) -> Result<(Text, &'a [Token]), Stop>
+    requires { AreSlices bytes.now tokens.now }
+    ensures read { IfOk result (λ x. toks bytes.now tokens.now ≡ Upper x.0 ∷ toks bytes.now x.1.now) }
+    ensures taken { IfOk result (λ x. Takes AnUpper (toks bytes.now tokens.now) (toks bytes.now x.1.now)) }
+    ensures inside { IfOk result (λ x. AreSlices bytes.now x.1.now) }
+    ensures shorter { IfOk result (λ x. length x.1.now < length tokens.now) }
+    ensures fault { IfErr result (Stops AnUpper (toks bytes.now tokens.now)) }
+{
+    let Some((Class::Upper, token, rest)) = first(bytes, tokens) else {
+        return Err(Stop::Form(tokens.len()));
+    };
+    Ok((name_text(alloc, bytes, token)?, rest))
 }

@@ -1,5 +1,5 @@
 -- Names as words of a text: they are plain, and no literal, number or sign is one.
-use Rattle.std.proofs.Common.{◌≡◌, ℕ, suc, zero, ◌+◌, ◌-◌, ◌<◌, ◌≤◌, Bool, true, false, List, [], ◌∷◌, ◌++◌, length, take, drop, get_or, refl, sym, ◌∙◌, ap, arith, cond, if◌then◌else◌}
+use Rattle.std.proofs.Common.{◌≡◌, ℕ, suc, zero, ◌-◌, ◌<◌, Bool, true, false, List, [], ◌∷◌, length, take, drop, get_or, refl, sym, ◌∙◌, ap, arith, cond, if◌then◌else◌}
 use Rattle.std.specs.Prelude.{Ok, ◌&&◌, ◌||◌, ◌==◌, not, nat_le}
 use Rattle.std.specs.List.{list_all, list_any, suffix_len, after_last, before_last}
 use Rattle.std.proofs.lemmas.Bool.{and_parts, true≢false}

@@ -6,3 +6,4 @@ pub mod Faults
 pub mod Limits
 pub mod Tokens
 pub mod Measures
+pub mod Primitives

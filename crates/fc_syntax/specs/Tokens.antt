@@ -1,5 +1,5 @@
 -- The tokens of a text: brackets and words, with white space and comments between them.
-use Rattle.std.specs.Prelude.{◌≤◌, ⊤, All, slice_range, ℕ, ℤ, ◌+◌, ◌-◌, ◌^◌, ◌==◌, ◌&&◌, ◌||◌, nat_lt, nat_le, not, Bool, true, false, if◌then◌else◌}
+use Rattle.std.specs.Prelude.{◌≤◌, ⊤, All, slice_range, ℕ, ℤ, ◌+◌, ◌-◌, ◌^◌, ◌==◌, ◌&&◌, ◌||◌, nat_lt, nat_le, not, Bool, false, if◌then◌else◌}
 use Rattle.std.specs.Prelude.{List, [], ◌∷◌, codes, length, take, take_while, Result, Ok, Err}
 use Rattle.std.specs.List.{list_all, list_any, slice_split, before_last, after_last}
 use Rattle.std.specs.Str.{bytes_eq}

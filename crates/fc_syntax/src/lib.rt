@@ -25,7 +25,7 @@ pub use limits::Limits;
 pub use module::{ConDecl, Decl, Module, Param, Plain};
 pub use node_counts::nodes;
 pub use seq::Seq;
-pub use sizes::size;
+pub use sizes::{size, size_of_decl};
 pub use text::Text;
 pub use token::{Token, TokenKind};
 pub use ty::{Kind, Name, Role, Ty};

@@ -294,8 +294,10 @@ fn size_of_constructors(items: &[ConDecl], most: u64) -> u64
     sum
 }
 
+/// The size of a declaration, or `most` where that is less: the declaration itself, each of its parameters, and every
+/// constructor, binder, bind, alternative, expression, type and coercion in it count one. Takes no memory.
 #[tactic(auto, using(crate::proofs::Leaves::leaf_rules, std::proofs::lemmas::Grind::common_steps))]
-fn size_of_decl(d: &Decl, most: u64) -> u64
+pub fn size_of_decl(d: &Decl, most: u64) -> u64
     ensures { result ≡ min (decl_size (decl_of d.now)) most }
 {
     match d {

@@ -1,6 +1,7 @@
 use Rattle.fc_model.proofs.KindedIs.{kind_is, kind_is_one}
 use Rattle.fc_model.proofs.Sameness.{same_type_is}
 use Rattle.fc_model.proofs.TypedIs.{type_is, type_is_one}
+use Rattle.fc_model.proofs.TypesRead.{type_is_read_off}
 use Rattle.fc_model.proofs.laws.judgements_agree.Goals as goal
 
 pub returns-clause-sameness : goal.returns-clause-sameness
@@ -17,3 +18,6 @@ returns-clause-types c = type_is
 
 pub returns-clause-one_type : goal.returns-clause-one_type
 returns-clause-one_type c = type_is_one
+
+pub returns-clause-read_off : goal.returns-clause-read_off
+returns-clause-read_off c ms d e t typed = type_is_read_off ms typed

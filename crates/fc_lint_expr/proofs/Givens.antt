@@ -1,0 +1,107 @@
+-- Terms that are given to a constructor, one after the other.
+use Rattle.std.proofs.Common.{◌≡◌, refl, ap, sym, ◌∙◌, suc, add-one, drop-cons, ℕ, ◌+◌, Bool, List, [], ◌∷◌, ◌++◌, length, true, false, ◌<◌, drop, get_or, Result, Ok, Err, arith}
+use Rattle.std.proofs.lemmas.Grind.{common_steps}
+use Rattle.fc_model.specs.Faulting.{F, and_then, under}
+use Rattle.fc_model.specs.Nameless.{NTy, NArg, NATerm, NAType, NACo, NArgs, MoreNArgs, NModule}
+use Rattle.fc_model.specs.NamelessView.{narg_of, nargs_of, nty_of, ntys_of}
+use Rattle.fc_model.specs.Typing as words
+use Rattle.fc_model.specs.declared.nameless.NArg as A
+use Rattle.fc_model.specs.declared.nameless.NTy as T
+use Rattle.fc_model.specs.Typing.{args_given, is_atom, no_context, same_length, then_given, type_or_fault}
+use Rattle.fc_lint_expr.specs.GivenViews.{arg_given, args_from, given_at, given_of, givens_of, with_givens}
+use Rattle.fc_lint_expr.specs.declared.arguments.Given.{Given}
+
+term_ok : (r : Result NTy F) (b : Bool) (g : words.Given) (rest : Result (List words.Given) F) → and_then {Y = words.Given} r (λ t. Ok (record { type = t; atom = b })) ≡ Ok g
+    → and_then r (λ t. then_given t b rest) ≡ then_given g.type g.atom rest
+term_ok (Ok t) b g rest h = grind (arith, common_steps)
+term_ok (Err f) b g rest h = grind (arith, common_steps)
+
+term_err : (r : Result NTy F) (b : Bool) (f : F) (rest : Result (List words.Given) F) → and_then {Y = words.Given} r (λ t. Ok (record { type = t; atom = b })) ≡ Err f
+    → and_then r (λ t. then_given t b rest) ≡ Err f
+term_err (Ok t) b f rest h = grind (arith, common_steps)
+term_err (Err e) b f rest h = grind (arith, common_steps)
+
+-- an argument whose type is found is given before those that follow
+args_ok : (ms : List NModule) (i : ℕ) (a : NArg) (rest : NArgs) (g : Given) → given_at ms i a ≡ Ok (given_of g)
+    → args_given ms no_context i (MoreNArgs a rest) ≡ then_given (nty_of g.ty) g.atom (args_given ms no_context (i + 1) rest)
+args_ok ms i (NATerm e) rest g h = term_ok (under i (type_or_fault ms no_context e)) (is_atom e) (given_of g) (args_given ms no_context (i + 1) rest) h
+args_ok ms i (NAType t) rest g h = grind (arith, common_steps)
+args_ok ms i (NACo c) rest g h = grind (arith, common_steps)
+
+-- an argument with a fault ends the judgement
+args_err : (ms : List NModule) (i : ℕ) (a : NArg) (rest : NArgs) (f : F) → given_at ms i a ≡ Err f → args_given ms no_context i (MoreNArgs a rest) ≡ Err f
+args_err ms i (NATerm e) rest f h = term_err (under i (type_or_fault ms no_context e)) (is_atom e) f (args_given ms no_context (i + 1) rest) h
+args_err ms i (NAType t) rest f h = grind (arith, common_steps)
+args_err ms i (NACo c) rest f h = grind (arith, common_steps)
+
+-- the same of arguments of src
+pub from_ok : (ms : List NModule) (i : ℕ) (a : A.NArg) (rest : List A.NArg) (g : Given) → arg_given ms i a ≡ Ok (given_of g)
+    → args_from ms i (a ∷ rest) ≡ then_given (nty_of g.ty) g.atom (args_from ms (i + 1) rest)
+unfolding arg_given args_from
+from_ok ms i a rest g h = args_ok ms i (narg_of a) (nargs_of rest) g h
+
+pub from_err : (ms : List NModule) (i : ℕ) (a : A.NArg) (rest : List A.NArg) (f : F) → arg_given ms i a ≡ Err f → args_from ms i (a ∷ rest) ≡ Err f
+unfolding arg_given args_from
+from_err ms i a rest f h = args_err ms i (narg_of a) (nargs_of rest) f h
+
+pub from_none : (ms : List NModule) (i : ℕ) → args_from ms i [] ≡ Ok []
+unfolding args_from
+from_none ms i = refl
+
+pub from_whole : (ms : List NModule) (i : ℕ) (args : List A.NArg) → args_from ms i args ≡ args_given ms no_context i (nargs_of args)
+unfolding args_from
+from_whole ms i args = refl
+
+givens_more : (items : List Given) (g : Given) (gs : List words.Given) → givens_of items ++ given_of g ∷ gs ≡ givens_of (items ++ g ∷ []) ++ gs
+givens_more [] g gs = refl
+givens_more (x ∷ items) g gs = ap (λ r. given_of x ∷ r) (givens_more items g gs)
+
+pub with_more : (items : List Given) (g : Given) (r : Result (List words.Given) F) → with_givens items (then_given (nty_of g.ty) g.atom r) ≡ with_givens (items ++ g ∷ []) r
+unfolding with_givens
+with_more items g (Ok gs) = ap Ok (givens_more items g gs)
+with_more items g (Err f) = refl
+
+givens_end : (items : List Given) → givens_of items ++ [] ≡ givens_of items
+givens_end [] = refl
+givens_end (x ∷ items) = ap (λ r. given_of x ∷ r) (givens_end items)
+
+pub with_end : (items : List Given) → with_givens items (Ok []) ≡ Ok (givens_of items)
+unfolding with_givens
+with_end items = ap Ok (givens_end items)
+
+pub with_none : (r : Result (List words.Given) F) → with_givens [] r ≡ r
+unfolding with_givens
+with_none (Ok gs) = refl
+with_none (Err f) = refl
+
+pub with_err : (items : List Given) (f : F) → with_givens items (Err f) ≡ Err f
+unfolding with_givens
+with_err items f = refl
+
+drop_item : {X : Type 0} (xs : List X) (k : ℕ) (x : X) → k < length xs → x ≡ get_or xs k x → drop k xs ≡ x ∷ drop (k + 1) xs
+drop_item xs k x low is = rw add-one (drop-cons xs k x low ∙ ap (λ y. y ∷ drop (suc k) xs) (sym is))
+
+-- one turn of the loop over the arguments
+pub given_step : (ms : List NModule) (whole : Result (List words.Given) F) (items new : List Given) (i j k : ℕ) (args : List A.NArg) (a : A.NArg) (g : Given)
+    → whole ≡ with_givens items (args_from ms i (drop k args)) → k < length args → a ≡ get_or args k a → arg_given ms i a ≡ Ok (given_of g)
+    → new ≡ items ++ g ∷ [] → j ≡ i + 1 → whole ≡ with_givens new (args_from ms j (drop (k + 1) args))
+given_step ms whole items new i j k args a g so_far low is given pushed next =
+    rw (pushed, next) (so_far ∙ ap (λ r. with_givens items (args_from ms i r)) (drop_item args k a low is) ∙ ap (with_givens items) (from_ok ms i a (drop (k + 1) args) g given)
+    ∙ with_more items g (args_from ms (i + 1) (drop (k + 1) args)))
+
+-- the fields and the terms are as many where their lists are as long
+pub as_long : (ts : List T.NTy) (gs : List Given) → length ts ≡ length gs → same_length (ntys_of ts) (givens_of gs) ≡ true
+as_long [] [] h = refl
+as_long [] (g ∷ gs) h = grind arith
+as_long (t ∷ ts) [] h = grind arith
+as_long (t ∷ ts) (g ∷ gs) h = as_long ts gs (omega arith)
+
+pub not_as_long : (ts : List T.NTy) (gs : List Given) → (length ts ≡ length gs → ⊥) → same_length (ntys_of ts) (givens_of gs) ≡ false
+not_as_long [] [] h = absurd (h refl)
+not_as_long [] (g ∷ gs) h = refl
+not_as_long (t ∷ ts) [] h = refl
+not_as_long (t ∷ ts) (g ∷ gs) h = not_as_long ts gs (λ e. h (omega arith))
+
+pub ruleset length_rules = (as_long, not_as_long)
+
+pub ruleset given_rules = (from_ok, from_err, from_none, with_more, with_end, with_none, with_err)

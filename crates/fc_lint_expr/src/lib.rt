@@ -1,0 +1,10 @@
+//! The type of an expression, or the first premise of typing that fails.
+#![tactic(auto)]
+
+mod arguments;
+mod expressions;
+
+pub use expressions::lint;
+
+#[cfg(test)]
+mod tests;

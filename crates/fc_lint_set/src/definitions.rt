@@ -1,0 +1,136 @@
+//! The types and the right sides of definitions.
+ghost use Rattle.std.specs.Prelude.{◌≡◌, true};
+ghost use Rattle.std.specs.List.{list_all};
+ghost use Rattle.fc_model.specs.BuiltForms.{is_ndecl_built, is_nexpr_built};
+ghost use Rattle.fc_model.specs.Faulting.{within};
+ghost use Rattle.fc_model.specs.Linting as words;
+ghost use Rattle.fc_model.specs.Linting.{def_type_judged, def_types_judged, done, ndecl_word, right_judged, right_side_judged, rights_judged};
+ghost use Rattle.fc_model.specs.NamelessView.{ndecl_of, ndecls_of, nexpr_of, nty_of};
+ghost use Rattle.fc_model.specs.Says.{Says};
+ghost use Rattle.fc_syntax.specs.View.{kind_of};
+ghost use Rattle.fc_types.specs.ModuleViews.{modules_of};
+
+use crate::parts::{not_built, word_of};
+use crate::type_declarations::kind_of_part;
+use fc_lint_expr::lint;
+use fc_model::{Flawed, NDecl, NExpr, NTy, deeper, flaw_here, in_declaration};
+use fc_syntax::{FaultKind, Kind};
+use fc_types::{Declarations, same_type};
+use std::alloc::Global;
+
+/// The kind of the type of a definition: `UnliftedTop` at `#`, and `NotAType` at a kind with an arrow.
+#[tactic(auto, using(fc_syntax::proofs::View::view_rules))]
+fn definition_kind(alloc: Global, k: &Kind) -> Result<(), Flawed>
+    ensures { Says (λ _. done) result (words.definition_kind (kind_of k.now)) }
+{
+    match k {
+        Kind::Star => Ok(()),
+        Kind::Hash => Err(flaw_here(alloc, FaultKind::UnliftedTop)),
+        Kind::Arrow(_, _) => Err(flaw_here(alloc, FaultKind::NotAType)),
+    }
+}
+
+/// The type of a definition.
+fn lint_definition_type(alloc: Global, decl: &NDecl, declared: &Declarations) -> Result<(), Flawed>
+    requires { is_ndecl_built (ndecl_of decl.now) ≡ true }
+    ensures { Says (λ _. done) result (def_type_judged (modules_of declared.now) (ndecl_of decl.now)) }
+{
+    match decl {
+        NDecl::Def(_, t, _) => {
+            let k = kind_of_part(alloc, t, declared, 0)?;
+            definition_kind(alloc, &k)
+        }
+        NDecl::DataType(_, _, _) => Ok(()),
+        NDecl::NewType(_, _, _, _) => Ok(()),
+        NDecl::Family(_, _, _) => Ok(()),
+        NDecl::Axiom(_, _, _, _) => Ok(()),
+        NDecl::Wrap(_, _, _) => Err(not_built()),
+    }
+}
+
+/// The same, with the word of the declaration in a flaw.
+fn lint_definition_type_within(
+    alloc: Global,
+    decl: &NDecl,
+    declared: &Declarations,
+) -> Result<(), Flawed>
+    requires { is_ndecl_built (ndecl_of decl.now) ≡ true }
+    ensures { Says (λ _. done) result (within (ndecl_word (ndecl_of decl.now)) (def_type_judged (modules_of declared.now) (ndecl_of decl.now))) }
+{
+    match lint_definition_type(alloc, decl, declared) {
+        Ok(()) => Ok(()),
+        Err(flawed) => Err(in_declaration(alloc, flawed, word_of(decl))),
+    }
+}
+
+/// The types of the definitions of a module, in their order: `Unbound` in one, `UnliftedTop` and `NotAType`.
+pub fn lint_definition_types(
+    alloc: Global,
+    decls: &[NDecl],
+    declared: &Declarations,
+) -> Result<(), Flawed>
+    requires { list_all is_ndecl_built (ndecls_of decls.now) ≡ true }
+    ensures { Says (λ _. done) result (def_types_judged (modules_of declared.now) (ndecls_of decls.now)) }
+{
+    for decl in decls {
+        lint_definition_type_within(alloc, decl, declared)?;
+    }
+    Ok(())
+}
+
+/// The right side of a definition of this type.
+fn lint_right_side(alloc: Global, t: &NTy, e: &NExpr, declared: &Declarations) -> Result<(), Flawed>
+    requires { is_nexpr_built (nexpr_of e.now) ≡ true }
+    ensures { Says (λ _. done) result (right_side_judged (modules_of declared.now) (nty_of t.now) (nexpr_of e.now)) }
+{
+    let u = match lint(alloc, e, declared) {
+        Ok(u) => u,
+        Err(flawed) => return Err(deeper(flawed, 1)),
+    };
+    if same_type(t, &u) {
+        Ok(())
+    } else {
+        Err(flaw_here(alloc, FaultKind::DefType))
+    }
+}
+
+/// The right side of a declaration that has one.
+fn lint_right(alloc: Global, decl: &NDecl, declared: &Declarations) -> Result<(), Flawed>
+    requires { is_ndecl_built (ndecl_of decl.now) ≡ true }
+    ensures { Says (λ _. done) result (right_judged (modules_of declared.now) (ndecl_of decl.now)) }
+{
+    match decl {
+        NDecl::Def(_, t, e) => lint_right_side(alloc, t, e, declared),
+        NDecl::DataType(_, _, _) => Ok(()),
+        NDecl::NewType(_, _, _, _) => Ok(()),
+        NDecl::Family(_, _, _) => Ok(()),
+        NDecl::Axiom(_, _, _, _) => Ok(()),
+        NDecl::Wrap(_, _, _) => Err(not_built()),
+    }
+}
+
+/// The same, with the word of the declaration in a flaw.
+fn lint_right_within(alloc: Global, decl: &NDecl, declared: &Declarations) -> Result<(), Flawed>
+    requires { is_ndecl_built (ndecl_of decl.now) ≡ true }
+    ensures { Says (λ _. done) result (within (ndecl_word (ndecl_of decl.now)) (right_judged (modules_of declared.now) (ndecl_of decl.now))) }
+{
+    match lint_right(alloc, decl, declared) {
+        Ok(()) => Ok(()),
+        Err(flawed) => Err(in_declaration(alloc, flawed, word_of(decl))),
+    }
+}
+
+/// The right sides of the definitions of a module, in their order: the faults of `lint` there, and `DefType`.
+pub fn lint_right_sides(
+    alloc: Global,
+    decls: &[NDecl],
+    declared: &Declarations,
+) -> Result<(), Flawed>
+    requires { list_all is_ndecl_built (ndecls_of decls.now) ≡ true }
+    ensures { Says (λ _. done) result (rights_judged (modules_of declared.now) (ndecls_of decls.now)) }
+{
+    for decl in decls {
+        lint_right_within(alloc, decl, declared)?;
+    }
+    Ok(())
+}

@@ -1,0 +1,51 @@
+//! Numbers of parts and words of declarations.
+ghost use Rattle.std.specs.Prelude.{◌≡◌, ◌+◌, IfOk, IfErr};
+ghost use Rattle.fc_model.specs.Linting.{ndecl_word};
+ghost use Rattle.fc_model.specs.NamelessView.{ndecl_of};
+ghost use Rattle.fc_model.specs.declared.flaw.Flawed.TheVariants.{Memory as memory};
+
+use fc_model::{Flawed, NDecl};
+use fc_syntax::Text;
+
+/// The number of the part after the first `parts` ones, where it can be told.
+pub fn part_after(parts: usize) -> Result<u32, Flawed>
+    ensures part { IfOk result (λ part. part ≡ parts) }
+    ensures memory { IfErr result (λ e. e ≡ memory) }
+{
+    match u32::try_from(parts) {
+        Ok(part) => Ok(part),
+        Err(_) => Err(Flawed::Memory),
+    }
+}
+
+/// The number of the next part, where it can be told.
+pub fn next_part(part: u32) -> Result<u32, Flawed>
+    ensures next { IfOk result (λ next. next ≡ part + 1) }
+    ensures memory { IfErr result (λ e. e ≡ memory) }
+{
+    match part.checked_add(1) {
+        Some(next) => Ok(next),
+        None => Err(Flawed::Memory),
+    }
+}
+
+/// The answer for a form that is not built yet. No call of `lint_module` comes to one, by its condition.
+pub fn not_built() -> Flawed
+    ensures { result ≡ memory }
+{
+    Flawed::Memory
+}
+
+/// The word that a declaration is told by.
+pub fn word_of(decl: &NDecl) -> &Text
+    ensures { result.now ≡ ndecl_word (ndecl_of decl.now) }
+{
+    match decl {
+        NDecl::DataType(word, _, _) => word,
+        NDecl::NewType(word, _, _, _) => word,
+        NDecl::Family(word, _, _) => word,
+        NDecl::Axiom(word, _, _, _) => word,
+        NDecl::Def(word, _, _) => word,
+        NDecl::Wrap(word, _, _) => word,
+    }
+}

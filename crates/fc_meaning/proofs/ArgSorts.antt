@@ -1,0 +1,93 @@
+-- The sorts that are read off the arguments of a constructor are those of its fields' types.
+use Rattle.std.proofs.Common.{◌≡◌, true, if◌then◌else◌, Bool, false, bytes_eq, List, [], ◌∷◌, map, Option, Some, None, Result, Ok, refl, sym, ap, ap₂, ◌∙◌, subst}
+use Rattle.fc_syntax.specs.declared.ty.Name.{Name}
+use Rattle.fc_syntax.specs.Tree.{Word}
+use Rattle.fc_model.specs.BuiltForms.{are_nargs_built, is_nexpr_built}
+use Rattle.fc_model.specs.Erasure.{arg_sorts, no_scope, sort_of, sort_of_type}
+use Rattle.fc_model.specs.Faulting.{F, under, within, and_then}
+use Rattle.fc_model.specs.Kinding.{decls_at, kind_or_fault, same_type}
+use Rattle.fc_model.specs.Linting.{Done, done, def_type_judged, def_types_judged, definition_kind, exports_judged, lint_or_fault, type_decls_judged}
+use Rattle.fc_model.specs.Nameless.{NTy, NTVar, NTCon, NTInt, NTApp, NTFun, NTForall, NTCoForall, NExpr, NCon, NArgs}
+use Rattle.fc_model.specs.Nameless.{NDecl, NData, NNew, NFamily, NAxiom, NDef, NWrap, NModule, NModuleOf}
+use Rattle.fc_model.specs.Terms.{Lifted}
+use Rattle.fc_model.specs.Typing.{Constructor, Given, Context, args_given, constructor, def_type, no_context, same_length, types_fit}
+use Rattle.fc_model.specs.Typing.{HasType, typed_local, typed_declared, typed_literal, typed_application, typed_lambda, typed_let, typed_case, typed_con, ArgsAreGiven, no_args, one_arg}
+use Rattle.fc_model.proofs.Parts.{and_then_inv, err_ok, ok_ok}
+use Rattle.fc_model.proofs.Resolved.{within_inv}
+use Rattle.fc_model.proofs.Sameness.{and_inv, false_true, same_type_eq}
+use Rattle.fc_model.proofs.TypedIs.{constructed_inv, given_args_are, type_is_given}
+use Rattle.fc_meaning.proofs.Optional.{some_is}
+
+-- a type of the kind that a definition's type has is lifted
+star_lifted : (ms : List NModule) (t : NTy) (d : Done) → and_then (under 0 (kind_or_fault ms [] t)) (λ k. definition_kind k) ≡ Ok d → sort_of_type t ≡ Lifted
+star_lifted ms (NTVar i) d h = refl
+star_lifted ms (NTCon n) d h = refl
+star_lifted ms NTInt d h = err_ok h
+star_lifted ms (NTApp t u) d h = refl
+star_lifted ms (NTFun t u) d h = refl
+star_lifted ms (NTForall k t) d h = refl
+star_lifted ms (NTCoForall r t u v) d h = refl
+
+when_found : (b : Bool) (s t : NTy) (r : Result NTy F) → sort_of_type s ≡ Lifted → (r ≡ Ok t → sort_of_type t ≡ Lifted) → (if b then Ok s else r) ≡ Ok t → sort_of_type t ≡ Lifted
+when_found true s t r l rest h = subst (λ x. sort_of_type x ≡ Lifted) (ok_ok h) l
+when_found false s t r l rest h = rest h
+
+-- the types of definitions are lifted
+def_lifted : (ms : List NModule) (ds : List NDecl) (w : Word) (t : NTy) → def_types_judged ms ds ≡ Ok done → def_type ds w ≡ Ok t → sort_of_type t ≡ Lifted
+def_lifted ms [] w t j h = err_ok h
+def_lifted ms (NData n ps cs ∷ ds) w t j h = def_lifted ms ds w t j h
+def_lifted ms (NNew n ps u con ∷ ds) w t j h = def_lifted ms ds w t j h
+def_lifted ms (NFamily n ps k ∷ ds) w t j h = def_lifted ms ds w t j h
+def_lifted ms (NAxiom n ps u v ∷ ds) w t j h = def_lifted ms ds w t j h
+def_lifted ms (NDef n u e ∷ ds) w t j h =
+    let p = and_then_inv (within n (def_type_judged ms (NDef n u e))) _ done j in
+    let l = star_lifted ms u p.0 (within_inv n (def_type_judged ms (NDef n u e)) p.0 p.1) in
+    when_found (bytes_eq n w) u t (def_type ds w) l (λ q. def_lifted ms ds w t p.2 q) h
+def_lifted ms (NWrap n u e ∷ ds) w t j h =
+    let p = and_then_inv (within n (def_type_judged ms (NWrap n u e))) _ done j in
+    let l = star_lifted ms u p.0 (within_inv n (def_type_judged ms (NWrap n u e)) p.0 p.1) in
+    when_found (bytes_eq n w) u t (def_type ds w) l (λ q. def_lifted ms ds w t p.2 q) h
+
+-- no variable of a module that lints has the type `Int#`
+value_lifted : (m : NModule) → lint_or_fault m ≡ Ok done → (o : Option Word) (w : Word) (t : NTy) → def_type (decls_at (m ∷ []) o) w ≡ Ok t → sort_of_type t ≡ Lifted
+value_lifted m lint None w t h = err_ok h
+value_lifted (NModuleOf own imports exports hidden ds) lint (Some v) w t h =
+    let m = NModuleOf own imports exports hidden ds in
+    let p = and_then_inv (exports_judged m) _ done lint in
+    let q = and_then_inv (type_decls_judged (m ∷ []) ds) _ done p.2 in
+    let r = and_then_inv (def_types_judged (m ∷ []) ds) _ done q.2 in
+    go r.0 r.1 (bytes_eq own v) h
+  where
+    go : (d : Done) → def_types_judged (NModuleOf own imports exports hidden ds ∷ []) ds ≡ Ok d → (b : Bool) → def_type (if b then ds else []) w ≡ Ok t → sort_of_type t ≡ Lifted
+    go done j true x = def_lifted (NModuleOf own imports exports hidden ds ∷ []) ds w t j x
+    go done j false x = err_ok x
+
+module _ (m : NModule) (lint : lint_or_fault m ≡ Ok done) where
+  -- the sort of a built expression is that of its type
+  sort_is : {c : Context} {e : NExpr} {t : NTy} → HasType (m ∷ []) c e t → is_nexpr_built e ≡ true → sort_of no_scope e ≡ sort_of_type t
+  sort_is (typed_local p) b = false_true b
+  sort_is (typed_declared {n = n} {t = t} p) b = sym (value_lifted m lint n.module n.text t p)
+  sort_is typed_literal b = refl
+  sort_is (typed_application t f a fits) b = false_true b
+  sort_is (typed_lambda k t v e) b = false_true b
+  sort_is (typed_let bs e) b = false_true b
+  sort_is (typed_case j k e t r alts v) b = false_true b
+  sort_is (typed_con k gs is args l t a) b = refl
+
+  sorts_are : {c : Context} {args : NArgs} {gs : List Given} → ArgsAreGiven (m ∷ []) c args gs → are_nargs_built args ≡ true → (ts : List NTy) → same_length ts gs ≡ true
+      → types_fit ts gs ≡ true → arg_sorts no_scope args ≡ map sort_of_type ts
+  sorts_are no_args b [] l f = refl
+  sorts_are no_args b (t ∷ ts) l f = false_true l
+  sorts_are (one_arg a rest) b [] l f = false_true l
+  sorts_are (one_arg {a = e} {rest = es} {t = u} {gs = gs} a rest) b (t ∷ ts) l f =
+      let c = and_inv (is_nexpr_built e) (are_nargs_built es) b in
+      let g = and_inv (same_type t u) (types_fit ts gs) f in
+      ap₂ ◌∷◌ (sort_is a c.0 ∙ ap sort_of_type (sym (same_type_eq t u g.0))) (sorts_are rest c.1 ts l g.1)
+
+  pub sorts_of_arguments : (n : Name) (args : NArgs) (t : NTy) → are_nargs_built args ≡ true → HasType (m ∷ []) no_context (NCon n args) t → (k : Constructor)
+      → constructor (m ∷ []) n ≡ Some k → arg_sorts no_scope args ≡ map sort_of_type k.fields
+  sorts_of_arguments n args t b typed k is =
+      let p = and_then_inv (args_given (m ∷ []) no_context 0 args) _ t (type_is_given (m ∷ []) typed) in
+      let q = constructed_inv n (constructor (m ∷ []) n) p.0 t p.2 in
+      let same : q.0 ≡ k = some_is (sym q.1 ∙ is) in
+      sorts_are (given_args_are (m ∷ []) no_context 0 args p.0 p.1) b q.0.fields q.2 q.3 ∙ ap (λ x. map sort_of_type x.fields) same

@@ -1,0 +1,15 @@
+pub mod ArgSorts
+pub mod Choosing
+pub mod Determined
+pub mod Examples
+pub mod Named
+pub mod Optional
+pub mod PrimitiveRange
+pub mod RenamingExpressions
+pub mod RenamingModules
+pub mod RenamingScopes
+pub mod RenamingTypes
+pub mod SortedErasure
+pub mod SortedSteps
+pub mod SortsKept
+pub mod Unnamed

@@ -1,0 +1,68 @@
+-- Laws of evaluation, of what terms show, and of erasure.
+use Rattle.std.specs.Prelude.{◌≡◌, ◌↔◌, ℕ, ℤ, Bool, true, List, [], ◌∷◌, map, Some, None, Ok}
+use Rattle.fc_syntax.specs.declared.ty.Name.{Name}
+use Rattle.fc_syntax.specs.Tree.{Module}
+use Rattle.fc_model.specs.BuiltForms.{IsNBuilt, are_nargs_built}
+use Rattle.fc_model.specs.Canonical.{IsBuilt, IsFormed}
+use Rattle.fc_model.specs.Erasure.{arg_sorts, no_scope, sort_of_type}
+use Rattle.fc_model.specs.Linting.{Lints, done, lint_or_fault}
+use Rattle.fc_model.specs.Nameless.{NArgs, NCon, NModule, NTy}
+use Rattle.fc_model.specs.Observing.{Observation, Sees}
+use Rattle.fc_model.specs.Programs.{Mentions, program_of}
+use Rattle.fc_model.specs.Resolution.{Resolves}
+use Rattle.fc_model.specs.Stepping.{Program, Bare, Missing, LitKey, ConKey, LamKey, IsHead, Reaches, choose, default_of, next, wrap}
+use Rattle.fc_model.specs.Terms.{Sort, Lifted, Term, Lit, Var, Lam, Rec, Case, Con, Terms, Alts, IsSorted, push, pushes, sub}
+use Rattle.fc_model.specs.Typing.{Constructor, HasType, constructor, no_context}
+
+-- EVALUATION
+
+abbrev pub StepsAreUnique : Type 0
+StepsAreUnique = (p : Program) (t u v : Term) → next p t ≡ Some u → next p t ≡ Some v → u ≡ v
+
+abbrev pub HeadsAreUnique : Type 0
+HeadsAreUnique = (p : Program) (t g h : Term) (j k : ℕ) → Reaches p t j g → Reaches p t k h → (j ≡ k) × (g ≡ h)
+
+abbrev pub HeadsStay : Type 0
+HeadsStay = (p : Program) (t : Term) → IsHead t → next p t ≡ None
+
+-- a lambda has no alternative of its own
+abbrev pub DefaultTakesLambda : Type 0
+DefaultTakesLambda = (p : Program) (s : Sort) (b d : Term) (alts : Alts) → default_of alts ≡ Bare d → next p (Case Lifted (Lam s b) alts) ≡ Some (sub (push (Lam s b) Var) d)
+
+-- a case whose head has no alternative of its own and no default
+abbrev pub NoAlternativeIsStuck : Type 0
+NoAlternativeIsStuck = (p : Program) (s : Sort) (alts : Alts)
+    → ((z : ℤ) → choose (LitKey z) alts ≡ Missing → next p (Case s (Lit z) alts) ≡ None)
+    × ((c : Name) (ss : List Sort) (ts : Terms) → choose (ConKey c) alts ≡ Missing → next p (Case s (Con c ss ts) alts) ≡ None)
+    × ((r : Sort) (b : Term) → choose LamKey alts ≡ Missing → next p (Case s (Lam r b) alts) ≡ None)
+
+-- each binder of a group becomes its right side below the same group
+abbrev pub GroupUnrolls : Type 0
+GroupUnrolls = (p : Program) (ts : Terms) (b : Term) → next p (Rec ts b) ≡ Some (sub (pushes (wrap ts ts) Var) b)
+
+-- WHAT TERMS SHOW
+
+-- the definitions of these names mention these names alone, and the other program has the same
+pub record Keeps (N : Name → Type 0) (P Q : Program) : Type 0 where
+  pub same : (x : Name) → N x → P x ≡ Q x
+  pub closed : (x : Name) → N x → (t : Term) → P x ≡ Some t → Mentions N t
+
+-- for names that are told from others by a test
+abbrev pub ReachedNamesMatter : Type 0
+ReachedNamesMatter = (N : Name → Bool) (P Q : Program) → Keeps (λ x. N x ≡ true) P Q → (t : Term) → Mentions (λ x. N x ≡ true) t
+    → (o : Observation) → Sees P t o ↔ Sees Q t o
+
+-- SORTS
+
+abbrev pub SortedProgram : Program → Type 0
+SortedProgram P = (x : Name) (t : Term) → P x ≡ Some t → IsSorted [] t
+
+abbrev pub StepsKeepSorts : Type 0
+StepsKeepSorts = (P : Program) → SortedProgram P → (t u : Term) → IsSorted [] t → next P t ≡ Some u → IsSorted [] u
+
+abbrev pub LintedIsSorted : Type 0
+LintedIsSorted = (m : Module) (n : NModule) → IsBuilt m → IsFormed m → Resolves m n → Lints m → SortedProgram (program_of (n ∷ []))
+
+abbrev pub SortsAreOfTypes : Type 0
+SortsAreOfTypes = (m : NModule) → IsNBuilt m → lint_or_fault m ≡ Ok done → (n : Name) (args : NArgs) (t : NTy) → are_nargs_built args ≡ true
+    → HasType (m ∷ []) no_context (NCon n args) t → (k : Constructor) → constructor (m ∷ []) n ≡ Some k → arg_sorts no_scope args ≡ map sort_of_type k.fields

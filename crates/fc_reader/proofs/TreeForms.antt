@@ -1,0 +1,92 @@
+-- One rule of types, constructors, expressions and declarations each, as a reader meets it.
+use Rattle.std.proofs.Common.{◌≡◌, ℤ, List, [], ◌∷◌, ◌++◌, refl, sym, ap, ◌∙◌, subst}
+use Rattle.fc_syntax.specs.Tree.{Word, Ty, TCon, TInt, Binder, ConDecl, ConOf, Expr, EVar, ELit, ECon, ATerm, Args, NoArgs, MoreArgs, Param, Decl, DData, DDef}
+use Rattle.fc_syntax.specs.View.{expr_of, arg_of, args_of}
+use Rattle.fc_syntax.specs.declared.expr.Arg as A
+use Rattle.fc_syntax.specs.declared.expr.Expr as E
+use Rattle.fc_model.specs.declared.keyword.Keyword.TheVariants as word
+use Rattle.fc_model.specs.Words.{Tok, Open, Close, Key, Lower, Upper, Literal}
+use Rattle.fc_model.specs.Texts.{plain_name, TypeAt, type_con, type_int, TypesAt, types_end, ConAt, con_at, ConsAt, cons_end}
+use Rattle.fc_model.specs.Texts.{ExprAt, expr_var, expr_lit, expr_con, ArgsAt, args_end, args_more, DeclAt, decl_data, decl_def}
+use Rattle.fc_reader.proofs.Forms.{Token, token}
+
+type_on : {ts rest : List Tok} {t u : Ty} → t ≡ u → TypeAt ts u rest → TypeAt ts t rest
+type_on {ts = ts} {rest = rest} e d = subst (λ x. TypeAt ts x rest) (sym e) d
+
+pub type_con_read : {ts rest : List Tok} {v : Ty} {t w : Word} → v ≡ TCon (plain_name t) → t ≡ w → Token (Upper w) ts rest → TypeAt ts v rest
+type_con_read e f token = type_on (e ∙ ap (λ x. TCon (plain_name x)) f) type_con
+
+pub type_int_read : {ts rest : List Tok} {v : Ty} → v ≡ TInt → Token (Key word.IntHash) ts rest → TypeAt ts v rest
+type_int_read e token = type_on e type_int
+
+pub types_end_read : {ts rest : List Tok} → Token Close ts rest → TypesAt ts [] rest
+types_end_read token = types_end
+
+con_on : {ts rest : List Tok} {c d : ConDecl} → c ≡ d → ConAt ts d rest → ConAt ts c rest
+con_on {ts = ts} {rest = rest} e d = subst (λ x. ConAt ts x rest) (sym e) d
+
+pub con_read : {a b c d e rest : List Tok} {k : Word} {bs : List Binder} {fields : List Ty} → bs ≡ [] → Token Open a b → Token (Upper k) b c → Token Open c d → Token Close d e
+    → TypesAt e fields rest → ConAt a (ConOf k bs fields) rest
+con_read {k = k} {fields = fields} e token token token token d = con_on (ap (λ x. ConOf k x fields) e) (con_at d)
+
+pub cons_end_read : {ts rest : List Tok} → Token Close ts rest → ConsAt ts [] rest
+cons_end_read token = cons_end
+
+expr_on : {ts rest : List Tok} {t u : Expr} → t ≡ u → ExprAt ts u rest → ExprAt ts t rest
+expr_on {ts = ts} {rest = rest} e d = subst (λ x. ExprAt ts x rest) (sym e) d
+
+pub var_read : {ts rest : List Tok} {v : Expr} {t w : Word} → v ≡ EVar (plain_name t) → t ≡ w → Token (Lower w) ts rest → ExprAt ts v rest
+var_read e f token = expr_on (e ∙ ap (λ x. EVar (plain_name x)) f) expr_var
+
+pub lit_read : {ts rest : List Tok} {v : Expr} {n m : ℤ} → v ≡ ELit m → m ≡ n → Token (Literal n) ts rest → ExprAt ts v rest
+lit_read e f token = expr_on (e ∙ ap ELit f) expr_lit
+
+pub form_read : {ts us rest : List Tok} {e : Expr} → Token Open ts us → ExprAt (Open ∷ us) e rest → ExprAt ts e rest
+form_read token d = d
+
+pub expr_con_read : {ts us vs rest : List Tok} {v : Expr} {k : Word} {args : Args} → v ≡ ECon (plain_name k) args → Token (Key word.Con) ts us → Token (Upper k) us vs
+    → ArgsAt vs args rest → ExprAt (Open ∷ ts) v rest
+expr_con_read e token token d = expr_on e (expr_con d)
+
+-- ---- arguments
+
+abbrev pub args_then : List A.Arg → Args → Args
+args_then [] more = more
+args_then (x ∷ xs) more = MoreArgs (arg_of x) (args_then xs more)
+
+args_then_none : (xs : List A.Arg) → args_then xs NoArgs ≡ args_of xs
+args_then_none [] = refl
+args_then_none (x ∷ xs) = ap (λ y. MoreArgs (arg_of x) y) (args_then_none xs)
+
+args_then_last : (xs : List A.Arg) (x : A.Arg) (more : Args) → args_then (xs ++ x ∷ []) more ≡ args_then xs (MoreArgs (arg_of x) more)
+args_then_last [] x more = refl
+args_then_last (y ∷ ys) x more = ap (λ z. MoreArgs (arg_of y) z) (args_then_last ys x more)
+
+args_on : {ts rest : List Tok} {xs ys : Args} → xs ≡ ys → ArgsAt ts ys rest → ArgsAt ts xs rest
+args_on {ts = ts} {rest = rest} e d = subst (λ x. ArgsAt ts x rest) (sym e) d
+
+abbrev pub ArgsSoFar : List Tok → List A.Arg → List Tok → Type 0
+ArgsSoFar ts xs us = (more : Args) (rest : List Tok) → ArgsAt us more rest → ArgsAt ts (args_then xs more) rest
+
+pub args_more_read : {ts us vs : List Tok} (old new : List A.Arg) (e : E.Expr) → new ≡ old ++ A.Term e ∷ [] → ArgsSoFar ts old us → ExprAt us (expr_of e) vs → ArgsSoFar ts new vs
+args_more_read old new e is so d =
+    λ more rest r. args_on (ap (λ x. args_then x more) is ∙ args_then_last old (A.Term e) more) (so (MoreArgs (ATerm (expr_of e)) more) rest (args_more d r))
+
+pub args_end_read : {ts us rest : List Tok} (xs : List A.Arg) → Token Close us rest → ArgsSoFar ts xs us → ArgsAt ts (args_of xs) rest
+args_end_read xs token so = args_on (sym (args_then_none xs)) (so NoArgs _ args_end)
+
+-- ---- declarations
+
+decl_on : {ts rest : List Tok} {c d : Decl} → c ≡ d → DeclAt ts d rest → DeclAt ts c rest
+decl_on {ts = ts} {rest = rest} e d = subst (λ x. DeclAt ts x rest) (sym e) d
+
+pub decl_read : {ts us rest : List Tok} {d : Decl} → Token Open ts us → DeclAt (Open ∷ us) d rest → DeclAt ts d rest
+decl_read token d = d
+
+pub data_read : {a b c d e rest : List Tok} {n : Word} {ps : List Param} {cs : List ConDecl} → ps ≡ [] → Token (Key word.Data) a b → Token (Upper n) b c → Token Open c d
+    → Token Close d e → ConsAt e cs rest → DeclAt (Open ∷ a) (DData n ps cs) rest
+data_read {n = n} {cs = cs} e token token token token d = decl_on (ap (λ x. DData n x cs) e) (decl_data d)
+
+pub def_read : {a b c d e rest : List Tok} {n : Word} {t : Ty} {x : Expr} → Token (Key word.Def) a b → Token (Lower n) b c → TypeAt c t d → ExprAt d x e → Token Close e rest
+    → DeclAt (Open ∷ a) (DDef n t x) rest
+def_read token token dt de token = decl_def dt de

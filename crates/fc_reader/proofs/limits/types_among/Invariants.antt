@@ -1,0 +1,7 @@
+use Rattle.std.proofs.Common.{◌≡◌, ◌≤◌, ◌+◌, min, drop}
+use Rattle.fc_syntax.specs.View.{binders_of}
+use Rattle.fc_model.specs.ReadFaults.{type_count}
+use Rattle.fc_reader.proofs.limits.types_among.Given as goal
+
+abbrev pub invariant-loop-b : goal.invariant-loop-b
+invariant-loop-b l = (l.sum ≤ l.most) × (min (type_count (binders_of l.binders)) l.most ≡ min (l.sum + type_count (binders_of (drop l.b-index l.binders))) l.most)

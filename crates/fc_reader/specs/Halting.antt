@@ -1,0 +1,76 @@
+-- How the reading of declarations ends where it does not reach its end.
+use Rattle.std.specs.Prelude.{◌≡◌, ◌≤◌, ◌+◌, ⊤, ℕ, true, false, ◌&&◌, nat_le, List, [], ◌∷◌, ◌++◌, length, Some}
+use Rattle.fc_syntax.specs.Limits.{standard_limits}
+use Rattle.fc_syntax.specs.Measures.{decl_size, decls_size}
+use Rattle.fc_syntax.specs.Tree.{Decl}
+use Rattle.fc_model.specs.Words.{Tok}
+use Rattle.fc_model.specs.Texts.{DeclAt, BeginsWithDecls}
+use Rattle.fc_model.specs.ReadFaults.{are_within, counts_fit, depth_fits, WithinSoFar}
+use Rattle.fc_reader.specs.declared.parts.Stop.{Stop}
+use Rattle.fc_reader.specs.declared.parts.Stop.TheVariants as stop
+use Rattle.fc_reader.specs.declared.limits.Halt.{Halt}
+use Rattle.fc_reader.specs.declared.limits.Halt.TheVariants as halt
+use Rattle.fc_reader.specs.declared.limits.Judged.{Judged}
+use Rattle.fc_reader.specs.declared.limits.Judged.TheVariants as judged
+use Rattle.fc_reader.specs.Machine.{Want, stuck}
+use Rattle.fc_reader.specs.Places.{FirstBad}
+
+-- the declaration nests too deep
+abbrev pub IsDeep : List Decl → Decl → Type 0
+IsDeep before d = depth_fits d ≡ false
+
+-- the declaration has too many parts, or is too much with those before it
+abbrev pub IsMuch : List Decl → Decl → Type 0
+IsMuch before d = (depth_fits d ≡ true) × ((counts_fit d && nat_le (decls_size (before ++ d ∷ [])) standard_limits.size) ≡ false)
+
+-- a declaration stands whole n tokens before the end of the tokens and is past a limit; those before it are within all
+pub record PastLimit (At : List Tok → List Decl → List Tok → Type 0) (Is : List Decl → Decl → Type 0) (ts : List Tok) (n : ℕ) : Type 0 where
+  pub before : List Decl
+  pub decl : Decl
+  pub from : List Tok
+  pub rest : List Tok
+  pub start : At ts before from
+  pub own : DeclAt from decl rest
+  pub left : length from ≡ n
+  pub within : are_within before ≡ true
+  pub past : Is before decl
+
+-- every choice of declarations that stand whole is within the limits
+abbrev pub AllWithin : (At : List Tok → List Decl → List Tok → Type 0) → List Tok → Type 0
+AllWithin At ts = (ds : List Decl) (rest : List Tok) → At ts ds rest → are_within ds ≡ true
+
+-- the machine is stuck, and the declarations that stand whole are within the limits
+pub record StopsWithin (At : List Tok → List Decl → List Tok → Type 0) (w : Want) (ts : List Tok) (n : ℕ) : Type 0 where
+  pub stops : (s : List Want) → stuck (w ∷ s) ts ≡ Some n
+  pub within : AllWithin At ts
+
+abbrev pub HaltsAt : (At : List Tok → List Decl → List Tok → Type 0) → Want → List Tok → Stop → Type 0
+HaltsAt At w ts stop.Memory = ⊤
+HaltsAt At w ts (stop.Form n) = StopsWithin At w ts n
+
+-- what a reader of declarations that halted has found
+abbrev pub Halts : (At : List Tok → List Decl → List Tok → Type 0) → Want → List Tok → Halt → Type 0
+Halts At w ts (halt.Stop s) = HaltsAt At w ts s
+Halts At w ts (halt.Depth n) = PastLimit At IsDeep ts n
+Halts At w ts (halt.Counts n) = PastLimit At IsMuch ts n
+
+-- what a declaration is to the limits, behind others of a size
+abbrev pub IsJudged : Decl → ℕ → Judged → Type 0
+IsJudged d size judged.Deep = depth_fits d ≡ false
+IsJudged d size judged.Much = (depth_fits d ≡ true) × ((counts_fit d && nat_le (size + decl_size d) standard_limits.size) ≡ false)
+IsJudged d size (judged.Fits n) = (depth_fits d ≡ true) × ((counts_fit d ≡ true) × ((n ≡ size + decl_size d) × (n ≤ standard_limits.size)))
+
+-- the tokens are those of no module, and this is the first that cannot go on, with nothing past a limit before it
+pub record FirstBadWithin (ts : List Tok) (n : ℕ) : Type 0 where
+  pub bad : FirstBad ts n
+  pub within : WithinSoFar ts
+
+abbrev pub RefusesAt : List Tok → Stop → Type 0
+RefusesAt ts stop.Memory = ⊤
+RefusesAt ts (stop.Form n) = FirstBadWithin ts n
+
+-- why the tokens are not those of a module within the limits
+abbrev pub Refuses : List Tok → Halt → Type 0
+Refuses ts (halt.Stop s) = RefusesAt ts s
+Refuses ts (halt.Depth n) = PastLimit BeginsWithDecls IsDeep ts n
+Refuses ts (halt.Counts n) = PastLimit BeginsWithDecls IsMuch ts n

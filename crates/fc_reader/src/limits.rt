@@ -1,0 +1,138 @@
+//! The limits on what is read.
+ghost use Rattle.std.specs.Prelude.{◌≡◌, ◌≤◌, ◌+◌, min};
+ghost use Rattle.std.specs.List.{list_all};
+ghost use Rattle.fc_syntax.specs.View.{binders_of, con_of, cons_of, decl_of};
+ghost use Rattle.fc_model.specs.ReadFaults.{co_count, con_counts_fit, type_count, counts_fit as spec_counts_fit};
+ghost use Rattle.fc_reader.specs.Halting.{IsJudged};
+ghost use Rattle.fc_reader.specs.declared.limits.Halt.TheVariants.{Stop as stopped};
+ghost use Rattle.fc_reader.specs.declared.parts.Stop.TheVariants.{Memory as memory_stop};
+
+use crate::parts::Stop;
+use fc_syntax::{Binder, ConDecl, Decl, Memory, depth, size_of_decl};
+
+/// Depth of a declaration.
+const MOST_DEEP: u32 = 500;
+/// Size of all declarations of a file.
+const MOST_PIECES: u64 = 400_000;
+/// Fields and parameters.
+const MOST_FIELDS: u64 = 16;
+
+/// Why the declarations of a module were not read to their end.
+#[derive(Debug, Drop)]
+pub(crate) enum Halt {
+    /// The form cannot go on, or memory was wanting.
+    Stop(Stop),
+    /// A declaration is too deep; how many tokens are left from its bracket on.
+    Depth(usize),
+    /// A declaration has too many parts or makes the module too large; how many tokens are left from its bracket on.
+    Counts(usize),
+}
+
+impl From<Memory> for Halt {
+    ghost from_gives = { λ _ e. e ≡ stopped memory_stop };
+
+    fn from(_e: Memory) -> Halt {
+        Halt::Stop(Stop::Memory)
+    }
+}
+
+/// What a declaration is to the limits.
+#[derive(Debug, Drop)]
+pub(crate) enum Judged {
+    /// It is too deep.
+    Deep,
+    /// It has too many parts, or is too large with those before it.
+    Much,
+    /// It fits, and this is the size of all with it.
+    Fits(u64),
+}
+
+/// `a + b`, or `most` where that is less.
+fn add(a: u64, b: u64, most: u64) -> u64
+    ensures { result ≡ min (a + b) most }
+{
+    a.saturating_add(b).min(most)
+}
+
+/// How many of the binders bind a type, or `most` where that is less.
+fn types_among(binders: &[Binder], most: u64) -> u64
+    ensures { result ≡ min (type_count (binders_of binders.now)) most }
+{
+    let mut sum = 0;
+    for b in binders {
+        sum = match b {
+            Binder::OfType(_, _) => add(sum, 1, most),
+            Binder::Value(_, _) => sum,
+            Binder::OfCo(_, _, _, _) => sum,
+        };
+    }
+    sum
+}
+
+/// How many of the binders bind a coercion, or `most` where that is less.
+fn coercions_among(binders: &[Binder], most: u64) -> u64
+    ensures { result ≡ min (co_count (binders_of binders.now)) most }
+{
+    let mut sum = 0;
+    for b in binders {
+        sum = match b {
+            Binder::OfType(_, _) => sum,
+            Binder::Value(_, _) => sum,
+            Binder::OfCo(_, _, _, _) => add(sum, 1, most),
+        };
+    }
+    sum
+}
+
+#[tactic(auto, using(fc_syntax::proofs::Leaves::leaf_rules, std::proofs::lemmas::Grind::common_steps))]
+fn constructor_fits(con: &ConDecl) -> bool
+    ensures { result ≡ con_counts_fit (con_of con.now) }
+{
+    let types = types_among(con.binders.as_slice(), MOST_FIELDS + 1);
+    let coercions = coercions_among(con.binders.as_slice(), MOST_FIELDS + 1);
+    let parts = add(coercions, con.fields.len() as u64, MOST_FIELDS + 1);
+    types <= MOST_FIELDS && parts <= MOST_FIELDS
+}
+
+fn constructors_fit(cons: &[ConDecl]) -> bool
+    ensures { result ≡ list_all con_counts_fit (cons_of cons.now) }
+{
+    for con in cons {
+        if !constructor_fits(con) {
+            return false;
+        }
+    }
+    true
+}
+
+#[tactic(auto, using(fc_syntax::proofs::Leaves::leaf_rules, std::proofs::lemmas::Grind::common_steps))]
+fn counts_fit(decl: &Decl) -> bool
+    ensures { result ≡ spec_counts_fit (decl_of decl.now) }
+{
+    match decl {
+        Decl::DataType(_, params, cons) => {
+            let fit = constructors_fit(cons.as_slice());
+            params.len() as u64 <= MOST_FIELDS && fit
+        }
+        Decl::NewType(_, params, _, _) => params.len() as u64 <= MOST_FIELDS,
+        Decl::Family(_, params, _) => params.len() as u64 <= MOST_FIELDS,
+        Decl::Axiom(_, params, _, _) => params.len() as u64 <= MOST_FIELDS,
+        Decl::Def(_, _, _) => true,
+        Decl::Wrap(_, _, _) => true,
+    }
+}
+
+/// What a declaration is to the limits, behind others of this size.
+pub(crate) fn judge(decl: &Decl, size: u64) -> Judged
+    requires { size ≤ 400000 }
+    ensures { IsJudged (decl_of decl.now) size result }
+{
+    if depth(decl, MOST_DEEP + 1) > MOST_DEEP {
+        return Judged::Deep;
+    }
+    let all = size + size_of_decl(decl, MOST_PIECES + 1);
+    if !counts_fit(decl) || all > MOST_PIECES {
+        return Judged::Much;
+    }
+    Judged::Fits(all)
+}

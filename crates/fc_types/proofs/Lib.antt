@@ -1,0 +1,2 @@
+pub mod FirstDeclared
+pub mod FirstPuts

@@ -1,0 +1,17 @@
+//! Types of nameless modules: whether two are the same, copies of them, the declarations that they name, and their kinds.
+#![tactic(auto)]
+
+mod copies;
+mod declarations;
+mod kinds;
+mod sameness;
+mod tables;
+
+pub use copies::copy_type;
+pub use declarations::Declarations;
+pub use kinds::{is_value_kind, kind};
+pub use sameness::{same_kind, same_name, same_type};
+pub use tables::DeclaredCon;
+
+#[cfg(test)]
+mod tests;
