@@ -1,25 +1,48 @@
 #!/usr/bin/env python3
 """Builds modules of growing size with the program `coreopt`, and prints for each the seconds, the bytes a second and the peak
-memory. Each definition gives a constructor two names of other definitions, before and after it. Run it from anywhere, on a
-machine where the program is built (`./coreopt build examples/Shapes.fc`)."""
+memory. There are three kinds of modules: constants that give a constructor two names of other definitions; functions whose bodies
+are lets and applications, a hundred deep; and small functions that call others. Run it from anywhere, on a machine where the
+program is built (`./coreopt build examples/Shapes.fc`)."""
 import os
-import resource
 import subprocess
 import sys
 import tempfile
-import time
 
 TOP = os.path.dirname(os.path.dirname(os.path.abspath(__file__)))
 PROGRAM = os.path.join(TOP, "crates", "coreopt", "out", "coreopt")
-DEFINITIONS = [11_000, 22_000, 60_000]
+DEEP = 100
 
 
-def module(count):
-    lines = ["(module B (imports) (exports d10000)", " (data T () (K ()) (P () T T))"]
+def names(count):
+    """Constants, each with two names of other definitions, before and after it."""
     for i in range(count):
         left = 10_000 + (i * 7_919 + 1) % count
         right = 10_000 + (i * 104_729 + 2) % count
-        lines.append(f" (def d{10_000 + i} T (con P d{left} d{right}))")
+        yield f" (def d{10_000 + i} T (con P d{left} d{right}))"
+
+
+def deep(count):
+    """Functions: fifty lets, one inside another, around fifty applications, each the argument of the one before."""
+    for i in range(count):
+        other = 10_000 + (i * 7_919 + 1) % count
+        lets = "".join(f"(let (y{k} T (app d{other} {'x' if k == 0 else f'y{k - 1}'})) " for k in range(DEEP // 2))
+        body = f"(app d{other} " * (DEEP // 2) + f"y{DEEP // 2 - 1}" + ")" * (DEEP // 2)
+        yield f" (def d{10_000 + i} (fun T T) (lam ((x T)) {lets}{body}{')' * (DEEP // 2)}))"
+
+
+def small(count):
+    """Functions of two arguments that call two others."""
+    for i in range(count):
+        left = 10_000 + (i * 7_919 + 1) % count
+        right = 10_000 + (i * 104_729 + 2) % count
+        yield f" (def d{10_000 + i} (fun T T T) (lam ((x T) (y T)) (app d{left} y (app d{right} x y))))"
+
+
+KINDS = [("names", names, [11_000, 22_000, 60_000]), ("deep", deep, [100, 300, 900]), ("small functions", small, [4_000, 8_000, 16_000])]
+
+
+def module(kind, count):
+    lines = ["(module B (imports) (exports d10000)", " (data T () (K ()) (P () T T))", *kind(count)]
     return "\n".join(lines) + ")\n"
 
 
@@ -38,16 +61,17 @@ def peak_of(folder):
 def main():
     if not os.access(PROGRAM, os.X_OK):
         sys.exit("the program is not built")
-    print("bytes  definitions  seconds  bytes/second  peak MB")
-    for count in DEFINITIONS:
-        with tempfile.TemporaryDirectory() as folder:
-            text = module(count)
-            with open(os.path.join(folder, "B.fc"), "w", encoding="ascii") as file:
-                file.write(text)
-            status, seconds, kilobytes = peak_of(folder)
-            if status != 0:
-                sys.exit(f"{count} definitions: status {status}")
-            print(f"{len(text)}  {count}  {seconds:.2f}  {len(text) / seconds:.0f}  {kilobytes / 1024:.0f}")
+    print("kind  bytes  definitions  seconds  bytes/second  peak MB")
+    for name, kind, counts in KINDS:
+        for count in counts:
+            with tempfile.TemporaryDirectory() as folder:
+                text = module(kind, count)
+                with open(os.path.join(folder, "B.fc"), "w", encoding="ascii") as file:
+                    file.write(text)
+                status, seconds, kilobytes = peak_of(folder)
+                if status != 0:
+                    sys.exit(f"{name}, {count} definitions: status {status}")
+                print(f"{name}  {len(text)}  {count}  {seconds:.2f}  {len(text) / seconds:.0f}  {kilobytes / 1024:.0f}")
 
 
 if __name__ == "__main__":

@@ -8,7 +8,6 @@ use Rattle.fc_syntax.specs.Tree.{Word, Module, ModuleOf}
 use Rattle.fc_model.specs.Canonical.{canonical}
 use Rattle.fc_model.specs.Faulting.{and_then}
 use Rattle.fc_model.specs.Headers.{declared_words, name_of, others, written_of}
-use Rattle.fc_model.specs.Kinding.{decls_at}
 use Rattle.fc_model.specs.Linting.{Lints, done, lint_or_fault}
 use Rattle.fc_model.specs.Nameless.{NDecl, NModuleOf}
 use Rattle.fc_model.specs.Observing.{Sees}
@@ -18,6 +17,7 @@ use Rattle.fc_model.specs.Terms.{Term, Lit, Var, Global, Fail, App, Lam, Let, Re
 use Rattle.fc_model.specs.Texts.{Spells}
 use Rattle.fc_model.proofs.Parts.{and_then_inv}
 use Rattle.fc_model.proofs.Sameness.{bytes_eq_refl}
+use Rattle.fc_model.proofs.UnderHeader.{at_hidden}
 use Rattle.fc_build.specs.Meaning.{KeepsMeaning, ShowsTheSame}
 use Rattle.fc_build.specs.Product.{core_name, interface_name, outputs_of, put_all}
 
@@ -49,17 +49,13 @@ module _ (N M : Name → Type 0) (more : (x : Name) → N x → M x) where
 -- HEADERS
 
 module _ (m : Word) (imports exports h g : List Word) (ds : List NDecl) where
-  decls_same : (o : Option Word) → decls_at (NModuleOf m imports exports h ds ∷ []) o ≡ decls_at (NModuleOf m imports exports g ds ∷ []) o
-  decls_same None = refl
-  decls_same (Some w) = refl
-
   exports_same : (o : Option Word) → exports_at (NModuleOf m imports exports h ds ∷ []) o ≡ exports_at (NModuleOf m imports exports g ds ∷ []) o
   exports_same None = refl
   exports_same (Some w) = refl
 
   -- other hidden words make no other program
   program_same : program_of (NModuleOf m imports exports h ds ∷ []) ≡ program_of (NModuleOf m imports exports g ds ∷ [])
-  program_same i n = right_side (decls_same n.module i) n.text
+  program_same i n = right_side (at_hidden m imports exports h g ds n.module i) n.text
 
   exported_same : (n : Name) → IsExported (NModuleOf m imports exports h ds ∷ []) n → IsExported (NModuleOf m imports exports g ds ∷ []) n
   exported_same n e =

@@ -320,10 +320,128 @@ fn premises_of_types_are_judged(rt: HostRuntime) -> Result<(), Fail> {
     are_judged(&rt, alloc, cases.as_slice())
 }
 
+/// Builds a module of some declarations that all of them use, and of these.
+fn are_judged_with_functions(
+    rt: &impl Abort,
+    alloc: Global,
+    cases: &[(&[u8], u8, &[u8])],
+) -> Result<(), Fail> {
+    for case in cases {
+        let mut text = Vec::new(alloc);
+        text.extend_from_slice(WITH_FUNCTIONS)?;
+        text.extend_from_slice(case.0)?;
+        text.extend_from_slice(b")")?;
+        let ran = run_over(rt, alloc, &["build", "M.fc"], text.as_slice(), &[], &[])?;
+        assert_eq!(rt; ran.status, case.1);
+        assert_eq!(rt; ran.err.bytes(), case.2);
+    }
+    Ok(())
+}
+
+/// A constant, a function from it, functions from and to the unlifted type.
+const WITH_FUNCTIONS: &[u8] =
+    b"(module M (imports) (exports) (data T () (K ())) (data I () (I# () Int#)) (def k T (con K)) (def id (fun T T) (lam ((x T)) x)) (def from (fun Int# T) (lam ((n Int#)) k)) (def to (fun T Int#) (lam ((x T)) 5#))";
+
+#[test]
+fn premises_of_functions_are_judged(rt: HostRuntime) -> Result<(), Fail> {
+    let alloc = rt.alloc();
+    let cases: [(&[u8], u8, &[u8]); 24] = [
+        // functions of two arguments, in one lambda or in two, applied at once or one after the other
+        (
+            b"(def f (fun T T T) (lam ((x T)) (lam ((y T)) x))) (def g (fun T (fun T T)) (lam ((x T) (y T)) (app (app f y) x)))",
+            0,
+            b"",
+        ),
+        (
+            b"(def f (fun (fun T T) T) (lam ((g (fun T T))) (app g (app g k))))",
+            0,
+            b"",
+        ),
+        // the inner of two binders of one word is meant
+        (b"(def f (fun I T T) (lam ((x I) (x T)) x))", 0, b""),
+        (b"(def f (fun T I T) (lam ((x T) (x I)) x))", 1, REFUSED),
+        // a binder hides a definition
+        (b"(def f (fun I I) (lam ((k I)) k))", 0, b""),
+        (b"(def f (fun I T) (lam ((k I)) k))", 1, REFUSED),
+        // Unbound: in a body, behind the lambda, in a binder's type
+        (b"(def f (fun T T) (lam ((x T)) y))", 1, REFUSED),
+        (b"(def f T (app (lam ((x T)) x) x))", 1, REFUSED),
+        (b"(def f (fun T T) (lam ((x U)) k))", 1, REFUSED),
+        // NotFunction: a constant, a literal, one argument too many
+        (b"(def f T (app k k))", 1, REFUSED),
+        (b"(def f T (app 1# k))", 1, REFUSED),
+        (b"(def f T (app id k k))", 1, REFUSED),
+        // ArgType: another data type, a literal, a function
+        (b"(def f T (app id (con I# 1#)))", 1, REFUSED),
+        (b"(def f T (app id 1#))", 1, REFUSED),
+        (b"(def f T (app id id))", 1, REFUSED),
+        // UnliftedNotAtom: an unlifted argument is a literal or a variable, and no application
+        (b"(def f T (app from 1#))", 0, b""),
+        (
+            b"(def f (fun Int# T) (lam ((n Int#)) (app from n)))",
+            0,
+            b"",
+        ),
+        (b"(def f T (app from (app to k)))", 1, REFUSED),
+        // the same of an unlifted field
+        (b"(def f (fun Int# I) (lam ((n Int#)) (con I# n)))", 0, b""),
+        (b"(def f I (con I# (app to k)))", 1, REFUSED),
+        // a lifted argument may be anything
+        (b"(def f T (app id (app id (con K))))", 0, b""),
+        // DefType: a lambda for a constant, another result, another argument
+        (b"(def f T (lam ((x T)) x))", 1, REFUSED),
+        (b"(def f (fun T I) (lam ((x T)) x))", 1, REFUSED),
+        (b"(def f (fun I T) (lam ((x T)) x))", 1, REFUSED),
+    ];
+    are_judged_with_functions(&rt, alloc, cases.as_slice())
+}
+
+#[test]
+fn premises_of_lets_are_judged(rt: HostRuntime) -> Result<(), Fail> {
+    let alloc = rt.alloc();
+    let cases: [(&[u8], u8, &[u8]); 12] = [
+        (b"(def f T (let (y T (app id k)) (app id y)))", 0, b""),
+        (b"(def f I (let (n Int# 5#) (con I# n)))", 0, b""),
+        // an unlifted variable is an atom
+        (
+            b"(def f (fun Int# I) (lam ((m Int#)) (let (n Int# m) (con I# n))))",
+            0,
+            b"",
+        ),
+        // the right side stands outside of the binder
+        (b"(def f T (let (y T y) y))", 1, REFUSED),
+        (b"(def f T (let (k T k) k))", 0, b""),
+        // Unbound: behind the let, in the type
+        (
+            b"(def f T (app (let (g (fun T T) id) g) (app g k)))",
+            1,
+            REFUSED,
+        ),
+        (b"(def f T (let (y U k) k))", 1, REFUSED),
+        // LetType: a literal for a lifted type, another data type
+        (b"(def f T (let (y T 1#) y))", 1, REFUSED),
+        (b"(def f T (let (y T (con I# 1#)) y))", 1, REFUSED),
+        // UnliftedNotAtom: an unlifted right side is no application and no let
+        (
+            b"(def f I (let (n Int# (app to k)) (con I# n)))",
+            1,
+            REFUSED,
+        ),
+        (
+            b"(def f I (let (n Int# (let (m Int# 5#) m)) (con I# n)))",
+            1,
+            REFUSED,
+        ),
+        // DefType: the type of a let is that of its body
+        (b"(def f T (let (n Int# 5#) n))", 1, REFUSED),
+    ];
+    are_judged_with_functions(&rt, alloc, cases.as_slice())
+}
+
 #[test]
 fn forms_are_judged(rt: HostRuntime) -> Result<(), Fail> {
     let alloc = rt.alloc();
-    let cases: [(&[u8], u8, &[u8]); 12] = [
+    let cases: [(&[u8], u8, &[u8]); 17] = [
         // the greatest literal, and one more
         (
             b"(module M (imports) (exports Int f) (data Int () (I# () Int#)) (def f Int (con I# 9223372036854775807#)))",
@@ -354,8 +472,35 @@ fn forms_are_judged(rt: HostRuntime) -> Result<(), Fail> {
             1,
             BAD_FORM,
         ),
+        // a form that is not built yet
         (
-            b"(module M (imports) (exports) (def x T (lam ((y T)) y)))",
+            b"(module M (imports) (exports) (def x T (case y (z T) T)))",
+            1,
+            BAD_FORM,
+        ),
+        // no result, no argument, no binder, no type at a binder, two right sides
+        (
+            b"(module M (imports) (exports) (def x (fun T) y))",
+            1,
+            BAD_FORM,
+        ),
+        (
+            b"(module M (imports) (exports) (def x T (app y)))",
+            1,
+            BAD_FORM,
+        ),
+        (
+            b"(module M (imports) (exports) (def x T (lam () y)))",
+            1,
+            BAD_FORM,
+        ),
+        (
+            b"(module M (imports) (exports) (def x T (lam ((y)) y)))",
+            1,
+            BAD_FORM,
+        ),
+        (
+            b"(module M (imports) (exports) (def x T (let (y T z z) y)))",
             1,
             BAD_FORM,
         ),
@@ -390,6 +535,26 @@ fn declarations_are_written(rt: HostRuntime) -> Result<(), Fail> {
     assert_eq!(rt;
         interface.as_slice(),
         b"(interface 1 M (imports) (exports T x) (hidden K P y)\n (data T () (K ()) (P () T Int#))\n (value x T (sig) none)\n (value y T (sig) none))\n".as_slice()
+    );
+    Ok(())
+}
+
+#[test]
+fn functions_are_written(rt: HostRuntime) -> Result<(), Fail> {
+    let alloc = rt.alloc();
+    let text =
+        b"(module M (imports) (exports compose) (data T () (K ())) (def compose (fun (fun T T) (fun (fun T T) (fun T T))) (lam ((f (fun T T))) (lam ((g (fun T T)) (x T)) (app f (app g x)))))\n(def y T (let (z T (con K)) (app (app (app compose (lam ((x T)) x)) (lam ((x T)) z)) z))))";
+    let mut ran = run_over(&rt, alloc, &["build", "M.fc"], text, &[], &[])?;
+    assert_eq!(rt; ran.status, 0);
+    let core = held(alloc, &mut ran.files, "./M.opt.fc").ok_or("no core")?;
+    assert_eq!(rt;
+        core.as_slice(),
+        b"(module M (imports) (exports compose) (hidden T K y)\n (data T () (K ()))\n (def compose (fun (fun T T) (fun T T) T T) (lam ((f (fun T T)) (g (fun T T)) (x T)) (app f (app g x))))\n (def y T (let (z T (con K)) (app compose (lam ((x T)) x) (lam ((x T)) z) z))))\n".as_slice()
+    );
+    let interface = held(alloc, &mut ran.files, "./M.fci").ok_or("no interface")?;
+    assert_eq!(rt;
+        interface.as_slice(),
+        b"(interface 1 M (imports) (exports compose) (hidden T K y)\n (data T () (K ()))\n (value compose (fun (fun T T) (fun T T) T T) (sig) none)\n (value y T (sig) none))\n".as_slice()
     );
     Ok(())
 }

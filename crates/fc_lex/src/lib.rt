@@ -13,6 +13,7 @@ mod tests;
 mod word;
 
 use crate::piece::piece_at;
+pub use crate::word::{is_lower_name, is_module_part, is_upper_name};
 use fc_syntax::{Memory, Seq, Token};
 use std::alloc::Global;
 use thiserror::Error;

@@ -58,8 +58,9 @@ fn all_name_bytes(bytes: &[u8]) -> bool
     bytes.iter().all(|b| is_name_byte(*b))
 }
 
-/// A lower name: it starts with a lower letter, `_` or `$`.
-fn is_lower_name(word: &[u8]) -> bool
+/// Whether a word is a lower name, as variables and definitions have: a lower letter, `_` or `$`, then letters, digits, `_`, `'`,
+/// `#` and `$`. Takes no memory.
+pub fn is_lower_name(word: &[u8]) -> bool
     ensures { result ≡ spec.is_lower_name word.now }
 {
     match word.split_first() {
@@ -70,8 +71,9 @@ fn is_lower_name(word: &[u8]) -> bool
     }
 }
 
-/// An upper name: it starts with an upper letter.
-fn is_upper_name(word: &[u8]) -> bool
+/// Whether a word is an upper name, as types and constructors have: an upper letter, then letters, digits, `_`, `'`, `#` and `$`.
+/// Takes no memory.
+pub fn is_upper_name(word: &[u8]) -> bool
     ensures { result ≡ spec.is_upper_name word.now }
 {
     match word.split_first() {
@@ -80,8 +82,8 @@ fn is_upper_name(word: &[u8]) -> bool
     }
 }
 
-/// A part of a module name between its dots.
-fn is_module_part(word: &[u8]) -> bool
+/// Whether a word is a part of a module name, between its dots: an upper letter, then letters, digits and `_`. Takes no memory.
+pub fn is_module_part(word: &[u8]) -> bool
     ensures { result ≡ spec.is_module_part word.now }
 {
     match word.split_first() {

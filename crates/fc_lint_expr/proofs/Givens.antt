@@ -7,7 +7,8 @@ use Rattle.fc_model.specs.NamelessView.{narg_of, nargs_of, nty_of, ntys_of}
 use Rattle.fc_model.specs.Typing as words
 use Rattle.fc_model.specs.declared.nameless.NArg as A
 use Rattle.fc_model.specs.declared.nameless.NTy as T
-use Rattle.fc_model.specs.Typing.{args_given, is_atom, no_context, same_length, then_given, type_or_fault}
+use Rattle.fc_model.specs.Typing.{Context, args_given, is_atom, same_length, then_given, type_or_fault}
+use Rattle.fc_model.proofs.Building.{drop_item}
 use Rattle.fc_lint_expr.specs.GivenViews.{arg_given, args_from, given_at, given_of, givens_of, with_givens}
 use Rattle.fc_lint_expr.specs.declared.arguments.Given.{Given}
 
@@ -22,35 +23,35 @@ term_err (Ok t) b f rest h = grind (arith, common_steps)
 term_err (Err e) b f rest h = grind (arith, common_steps)
 
 -- an argument whose type is found is given before those that follow
-args_ok : (ms : List NModule) (i : ℕ) (a : NArg) (rest : NArgs) (g : Given) → given_at ms i a ≡ Ok (given_of g)
-    → args_given ms no_context i (MoreNArgs a rest) ≡ then_given (nty_of g.ty) g.atom (args_given ms no_context (i + 1) rest)
-args_ok ms i (NATerm e) rest g h = term_ok (under i (type_or_fault ms no_context e)) (is_atom e) (given_of g) (args_given ms no_context (i + 1) rest) h
-args_ok ms i (NAType t) rest g h = grind (arith, common_steps)
-args_ok ms i (NACo c) rest g h = grind (arith, common_steps)
+args_ok : (ms : List NModule) (c : Context) (i : ℕ) (a : NArg) (rest : NArgs) (g : Given) → given_at ms c i a ≡ Ok (given_of g)
+    → args_given ms c i (MoreNArgs a rest) ≡ then_given (nty_of g.ty) g.atom (args_given ms c (i + 1) rest)
+args_ok ms c i (NATerm e) rest g h = term_ok (under i (type_or_fault ms c e)) (is_atom e) (given_of g) (args_given ms c (i + 1) rest) h
+args_ok ms c i (NAType t) rest g h = grind (arith, common_steps)
+args_ok ms c i (NACo co) rest g h = grind (arith, common_steps)
 
 -- an argument with a fault ends the judgement
-args_err : (ms : List NModule) (i : ℕ) (a : NArg) (rest : NArgs) (f : F) → given_at ms i a ≡ Err f → args_given ms no_context i (MoreNArgs a rest) ≡ Err f
-args_err ms i (NATerm e) rest f h = term_err (under i (type_or_fault ms no_context e)) (is_atom e) f (args_given ms no_context (i + 1) rest) h
-args_err ms i (NAType t) rest f h = grind (arith, common_steps)
-args_err ms i (NACo c) rest f h = grind (arith, common_steps)
+args_err : (ms : List NModule) (c : Context) (i : ℕ) (a : NArg) (rest : NArgs) (f : F) → given_at ms c i a ≡ Err f → args_given ms c i (MoreNArgs a rest) ≡ Err f
+args_err ms c i (NATerm e) rest f h = term_err (under i (type_or_fault ms c e)) (is_atom e) f (args_given ms c (i + 1) rest) h
+args_err ms c i (NAType t) rest f h = grind (arith, common_steps)
+args_err ms c i (NACo co) rest f h = grind (arith, common_steps)
 
 -- the same of arguments of src
-pub from_ok : (ms : List NModule) (i : ℕ) (a : A.NArg) (rest : List A.NArg) (g : Given) → arg_given ms i a ≡ Ok (given_of g)
-    → args_from ms i (a ∷ rest) ≡ then_given (nty_of g.ty) g.atom (args_from ms (i + 1) rest)
+pub from_ok : (ms : List NModule) (c : Context) (i : ℕ) (a : A.NArg) (rest : List A.NArg) (g : Given) → arg_given ms c i a ≡ Ok (given_of g)
+    → args_from ms c i (a ∷ rest) ≡ then_given (nty_of g.ty) g.atom (args_from ms c (i + 1) rest)
 unfolding arg_given args_from
-from_ok ms i a rest g h = args_ok ms i (narg_of a) (nargs_of rest) g h
+from_ok ms c i a rest g h = args_ok ms c i (narg_of a) (nargs_of rest) g h
 
-pub from_err : (ms : List NModule) (i : ℕ) (a : A.NArg) (rest : List A.NArg) (f : F) → arg_given ms i a ≡ Err f → args_from ms i (a ∷ rest) ≡ Err f
+pub from_err : (ms : List NModule) (c : Context) (i : ℕ) (a : A.NArg) (rest : List A.NArg) (f : F) → arg_given ms c i a ≡ Err f → args_from ms c i (a ∷ rest) ≡ Err f
 unfolding arg_given args_from
-from_err ms i a rest f h = args_err ms i (narg_of a) (nargs_of rest) f h
+from_err ms c i a rest f h = args_err ms c i (narg_of a) (nargs_of rest) f h
 
-pub from_none : (ms : List NModule) (i : ℕ) → args_from ms i [] ≡ Ok []
+pub from_none : (ms : List NModule) (c : Context) (i : ℕ) → args_from ms c i [] ≡ Ok []
 unfolding args_from
-from_none ms i = refl
+from_none ms c i = refl
 
-pub from_whole : (ms : List NModule) (i : ℕ) (args : List A.NArg) → args_from ms i args ≡ args_given ms no_context i (nargs_of args)
+pub from_whole : (ms : List NModule) (c : Context) (i : ℕ) (args : List A.NArg) → args_from ms c i args ≡ args_given ms c i (nargs_of args)
 unfolding args_from
-from_whole ms i args = refl
+from_whole ms c i args = refl
 
 givens_more : (items : List Given) (g : Given) (gs : List words.Given) → givens_of items ++ given_of g ∷ gs ≡ givens_of (items ++ g ∷ []) ++ gs
 givens_more [] g gs = refl
@@ -78,16 +79,13 @@ pub with_err : (items : List Given) (f : F) → with_givens items (Err f) ≡ Er
 unfolding with_givens
 with_err items f = refl
 
-drop_item : {X : Type 0} (xs : List X) (k : ℕ) (x : X) → k < length xs → x ≡ get_or xs k x → drop k xs ≡ x ∷ drop (k + 1) xs
-drop_item xs k x low is = rw add-one (drop-cons xs k x low ∙ ap (λ y. y ∷ drop (suc k) xs) (sym is))
-
 -- one turn of the loop over the arguments
-pub given_step : (ms : List NModule) (whole : Result (List words.Given) F) (items new : List Given) (i j k : ℕ) (args : List A.NArg) (a : A.NArg) (g : Given)
-    → whole ≡ with_givens items (args_from ms i (drop k args)) → k < length args → a ≡ get_or args k a → arg_given ms i a ≡ Ok (given_of g)
-    → new ≡ items ++ g ∷ [] → j ≡ i + 1 → whole ≡ with_givens new (args_from ms j (drop (k + 1) args))
-given_step ms whole items new i j k args a g so_far low is given pushed next =
-    rw (pushed, next) (so_far ∙ ap (λ r. with_givens items (args_from ms i r)) (drop_item args k a low is) ∙ ap (with_givens items) (from_ok ms i a (drop (k + 1) args) g given)
-    ∙ with_more items g (args_from ms (i + 1) (drop (k + 1) args)))
+pub given_step : (ms : List NModule) (c : Context) (whole : Result (List words.Given) F) (items new : List Given) (i j k : ℕ) (args : List A.NArg) (a : A.NArg) (g : Given)
+    → whole ≡ with_givens items (args_from ms c i (drop k args)) → k < length args → a ≡ get_or args k a → arg_given ms c i a ≡ Ok (given_of g)
+    → new ≡ items ++ g ∷ [] → j ≡ i + 1 → whole ≡ with_givens new (args_from ms c j (drop (k + 1) args))
+given_step ms c whole items new i j k args a g so_far low is given pushed next =
+    rw (pushed, next) (so_far ∙ ap (λ r. with_givens items (args_from ms c i r)) (drop_item args k a low is) ∙ ap (with_givens items) (from_ok ms c i a (drop (k + 1) args) g given)
+    ∙ with_more items g (args_from ms c (i + 1) (drop (k + 1) args)))
 
 -- the fields and the terms are as many where their lists are as long
 pub as_long : (ts : List T.NTy) (gs : List Given) → length ts ≡ length gs → same_length (ntys_of ts) (givens_of gs) ≡ true

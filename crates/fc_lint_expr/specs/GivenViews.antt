@@ -19,15 +19,15 @@ with_givens items (Ok gs) = Ok (givens_of items ++ gs)
 with_givens items (Err f) = Err f
 
 -- the argument of this number, given to a constructor
-abbrev pub given_at : List NModule → ℕ → NArg → Result words.Given F
-given_at ms i (NATerm e) = and_then (under i (words.type_or_fault ms words.no_context e)) (λ t. Ok (record { type = t; atom = words.is_atom e }))
-given_at ms i (NAType t) = words.not_built
-given_at ms i (NACo g) = words.not_built
+abbrev pub given_at : List NModule → words.Context → ℕ → NArg → Result words.Given F
+given_at ms c i (NATerm e) = and_then (under i (words.type_or_fault ms c e)) (λ t. Ok (record { type = t; atom = words.is_atom e }))
+given_at ms c i (NAType t) = words.not_built
+given_at ms c i (NACo g) = words.not_built
 
 -- the same of an argument of src
-unfoldable pub arg_given : List NModule → ℕ → A.NArg → Result words.Given F
-arg_given ms i a = given_at ms i (narg_of a)
+unfoldable pub arg_given : List NModule → words.Context → ℕ → A.NArg → Result words.Given F
+arg_given ms c i a = given_at ms c i (narg_of a)
 
 -- arguments of src from part i on
-unfoldable pub args_from : List NModule → ℕ → List A.NArg → Result (List words.Given) F
-args_from ms i args = words.args_given ms words.no_context i (nargs_of args)
+unfoldable pub args_from : List NModule → words.Context → ℕ → List A.NArg → Result (List words.Given) F
+args_from ms c i args = words.args_given ms c i (nargs_of args)

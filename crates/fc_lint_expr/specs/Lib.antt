@@ -1,1 +1,2 @@
 pub mod GivenViews
+pub mod LocalViews

@@ -62,7 +62,7 @@ fn is_int_hash(t: &NTy) -> bool
 }
 
 /// Whether a place of a type takes a term: an unlifted place takes an atom.
-fn atom_fits(t: &NTy, atom: bool) -> bool
+pub fn atom_fits(t: &NTy, atom: bool) -> bool
     ensures { result ≡ words.atom_fits (nty_of t.now) atom }
 {
     !is_int_hash(t) || atom

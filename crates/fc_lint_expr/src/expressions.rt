@@ -1,26 +1,23 @@
 //! The type of an expression.
-ghost use Rattle.std.specs.Prelude.{◌≡◌, ◌+◌, true, IfOk, IfErr};
-ghost use Rattle.fc_model.specs.BuiltForms.{is_nexpr_built};
+ghost use Rattle.std.specs.Prelude.{[], false};
+ghost use Rattle.fc_syntax.specs.View.{kind_of};
 ghost use Rattle.fc_model.specs.Faulting.{under};
-ghost use Rattle.fc_model.specs.NamelessView.{nexpr_of, nty_of};
+ghost use Rattle.fc_model.specs.Kinding.{kind_or_fault};
+ghost use Rattle.fc_model.specs.Nameless.{NLam};
+ghost use Rattle.fc_model.specs.NamelessView.{narg_of, nbind_of, nbinder_of, nexpr_of, nty_of};
 ghost use Rattle.fc_model.specs.Says.{Says};
-ghost use Rattle.fc_model.specs.Typing.{no_context, type_or_fault, value_type};
-ghost use Rattle.fc_model.specs.declared.flaw.Flawed.TheVariants.{Memory as memory};
+ghost use Rattle.fc_model.specs.Typing.{argument_applied, bind_judged, no_context, type_or_fault, value_type, with_value};
 ghost use Rattle.fc_types.specs.ModuleViews.{modules_of};
 ghost use Rattle.fc_lint_expr.specs.GivenViews.{arg_given, args_from, given_of, givens_of};
+ghost use Rattle.fc_lint_expr.specs.LocalViews.{context_of};
 
 use crate::arguments::{Given, constructed_type, is_atom};
-use fc_model::{Flawed, NArg, NExpr, NTy, deeper, flaw_here};
-use fc_syntax::{FaultKind, Name, Seq};
-use fc_types::{Declarations, copy_type};
+use crate::locals::{Locals, local_type};
+use crate::premises::{applied_type, bind_takes, lambda_type};
+use fc_model::{Flawed, NArg, NBind, NBinder, NExpr, NTy, deeper, flaw_here, next_part, not_built};
+use fc_syntax::{FaultKind, Kind, Name, Seq};
+use fc_types::{Declarations, copy_type, kind_of_part};
 use std::alloc::Global;
-
-/// The answer for a form that is not built yet. No call of `lint` comes to one, by its condition.
-fn not_built() -> Flawed
-    ensures { result ≡ memory }
-{
-    Flawed::Memory
-}
 
 /// The type of a definition of this name.
 fn definition_type(alloc: Global, name: &Name, declared: &Declarations) -> Result<NTy, Flawed>
@@ -32,23 +29,28 @@ fn definition_type(alloc: Global, name: &Name, declared: &Declarations) -> Resul
     }
 }
 
-/// The number of the next part, where it can be told.
-fn next_part(part: u32) -> Result<u32, Flawed>
-    ensures next { IfOk result (λ next. next ≡ part + 1) }
-    ensures memory { IfErr result (λ e. e ≡ memory) }
+/// The kind of the type of a binder of values, whose place is told from the piece that binds.
+fn binder_kind(alloc: Global, t: &NTy, declared: &Declarations) -> Result<Kind, Flawed>
+    ensures { Says kind_of result (under 0 (under 0 (kind_or_fault (modules_of declared.now) [] (nty_of t.now)))) }
 {
-    match part.checked_add(1) {
-        Some(next) => Ok(next),
-        None => Err(Flawed::Memory),
+    match kind_of_part(alloc, t, declared, 0) {
+        Ok(k) => Ok(k),
+        Err(flawed) => Err(deeper(flawed, 0)),
     }
 }
 
 /// The type of a part, whose place is told from the piece whose part it is.
 #[cycle(lint)]
-fn type_of_part(alloc: Global, e: &NExpr, declared: &Declarations, part: u32) -> Result<NTy, Flawed>
-    ensures { Says nty_of result (under part (type_or_fault (modules_of declared.now) no_context (nexpr_of e.now))) }
+fn type_of_part(
+    alloc: Global,
+    e: &NExpr,
+    declared: &Declarations,
+    locals: &Locals,
+    part: u32,
+) -> Result<NTy, Flawed>
+    ensures { Says nty_of result (under part (type_or_fault (modules_of declared.now) (context_of locals.now) (nexpr_of e.now))) }
 {
-    match type_of(alloc, e, declared) {
+    match type_of(alloc, &*e, declared, &*locals) {
         Ok(t) => Ok(t),
         Err(flawed) => Err(deeper(flawed, part)),
     }
@@ -57,13 +59,18 @@ fn type_of_part(alloc: Global, e: &NExpr, declared: &Declarations, part: u32) ->
 /// The terms that are given to a constructor.
 #[cycle(lint)]
 #[tactic(auto, using(crate::proofs::Givens::given_rules, std::proofs::lemmas::Grind::common_steps))]
-fn given_terms(alloc: Global, args: &[NArg], declared: &Declarations) -> Result<Seq<Given>, Flawed>
-    ensures { Says givens_of result (args_from (modules_of declared.now) 0 args.now) }
+fn given_terms(
+    alloc: Global,
+    args: &[NArg],
+    declared: &Declarations,
+    locals: &Locals,
+) -> Result<Seq<Given>, Flawed>
+    ensures { Says givens_of result (args_from (modules_of declared.now) (context_of locals.now) 0 args.now) }
 {
     let mut given = Seq::new(alloc);
     let mut part = 0u32;
     for arg in args {
-        let next = given_term(alloc, arg, declared, part)?;
+        let next = given_term(alloc, arg, declared, locals, part)?;
         given.push(next)?;
         part = next_part(part)?;
     }
@@ -77,13 +84,14 @@ fn given_term(
     alloc: Global,
     arg: &NArg,
     declared: &Declarations,
+    locals: &Locals,
     part: u32,
 ) -> Result<Given, Flawed>
-    ensures { Says given_of result (arg_given (modules_of declared.now) part arg.now) }
+    ensures { Says given_of result (arg_given (modules_of declared.now) (context_of locals.now) part arg.now) }
 {
     match arg {
         NArg::Term(e) => {
-            let ty = type_of_part(alloc, e, declared, part)?;
+            let ty = type_of_part(alloc, e, declared, locals, part)?;
             Ok(Given {
                 ty,
                 atom: is_atom(e),
@@ -94,29 +102,128 @@ fn given_term(
     }
 }
 
-/// The type of an expression of the forms that are built.
+/// The type of a head of this type that is applied to an argument.
+#[cycle(lint)]
+fn type_of_applied(
+    alloc: Global,
+    arg: &NArg,
+    declared: &Declarations,
+    locals: &Locals,
+    head: &NTy,
+) -> Result<NTy, Flawed>
+    ensures { Says nty_of result (argument_applied (modules_of declared.now) (context_of locals.now) (nty_of head.now) (narg_of arg.now)) }
+{
+    match arg {
+        NArg::Term(e) => {
+            let t = type_of_part(alloc, e, declared, locals, 1)?;
+            applied_type(alloc, head, &t, is_atom(e))
+        }
+        NArg::OfType(_) => Err(not_built()),
+        NArg::OfCo(_) => Err(not_built()),
+    }
+}
+
+/// The type of the body behind a binder of values, which is part 1 of the piece that binds.
+#[cycle(lint)]
+fn type_of_body<'x>(
+    alloc: Global,
+    body: &NExpr,
+    t: &'x NTy,
+    declared: &Declarations,
+    locals: &'x Locals<'x>,
+) -> Result<NTy, Flawed>
+    ensures { Says nty_of result (under 1 (type_or_fault (modules_of declared.now) (with_value (nty_of t.now) (context_of locals.now)) (nexpr_of body.now))) }
+{
+    let inner = Locals::Value(&*t, &*locals);
+    type_of_part(alloc, body, declared, &inner, 1)
+}
+
+/// The type of a lambda.
+#[cycle(lint)]
+fn type_of_lambda<'x>(
+    alloc: Global,
+    body: &NExpr,
+    binder: &'x NBinder,
+    declared: &Declarations,
+    locals: &'x Locals<'x>,
+) -> Result<NTy, Flawed>
+    ensures { Says nty_of result (type_or_fault (modules_of declared.now) (context_of locals.now) (NLam (nbinder_of binder.now) (nexpr_of body.now))) }
+{
+    match binder {
+        NBinder::Value(_, t) => {
+            let k = binder_kind(alloc, t, declared)?;
+            let u = type_of_body(alloc, body, &*t, declared, &*locals)?;
+            lambda_type(alloc, t, &k, u)
+        }
+        NBinder::OfType(_, _) => Err(not_built()),
+        NBinder::OfCo(_, _, _, _) => Err(not_built()),
+    }
+}
+
+/// Whether a bind of a let that is not recursive has its type.
+#[cycle(lint)]
+fn bind_fits(
+    alloc: Global,
+    bind: &NBind,
+    declared: &Declarations,
+    locals: &Locals,
+) -> Result<(), Flawed>
+    ensures { Says (λ _. nty_of bind.now.ty) result (bind_judged (modules_of declared.now) (context_of locals.now) false (nbind_of bind.now)) }
+{
+    let k = kind_of_part(alloc, &bind.ty, declared, 0)?;
+    let right = type_of_part(alloc, &bind.rhs, declared, locals, 1)?;
+    bind_takes(alloc, &bind.ty, &k, &right, is_atom(&bind.rhs))
+}
+
+/// The same of the bind that is part 0 of its let.
+#[cycle(lint)]
+fn first_bind_fits(
+    alloc: Global,
+    bind: &NBind,
+    declared: &Declarations,
+    locals: &Locals,
+) -> Result<(), Flawed>
+    ensures { Says (λ _. nty_of bind.now.ty) result (under 0 (bind_judged (modules_of declared.now) (context_of locals.now) false (nbind_of bind.now))) }
+{
+    match bind_fits(alloc, bind, declared, locals) {
+        Ok(()) => Ok(()),
+        Err(flawed) => Err(deeper(flawed, 0)),
+    }
+}
+
+/// The type of an expression in a scope.
 #[cycle(lint)]
 #[tactic(auto, using(fc_model::proofs::NamelessView::nview_rules, crate::proofs::Givens::from_whole))]
-fn type_of(alloc: Global, e: &NExpr, declared: &Declarations) -> Result<NTy, Flawed>
-    ensures { Says nty_of result (type_or_fault (modules_of declared.now) no_context (nexpr_of e.now)) }
+fn type_of<'x>(
+    alloc: Global,
+    e: &'x NExpr,
+    declared: &Declarations,
+    locals: &'x Locals<'x>,
+) -> Result<NTy, Flawed>
+    ensures { Says nty_of result (type_or_fault (modules_of declared.now) (context_of locals.now) (nexpr_of e.now)) }
 {
     match e {
-        NExpr::Local(_) => Err(not_built()),
+        NExpr::Local(distance) => local_type(alloc, locals, *distance),
         NExpr::Var(name) => definition_type(alloc, name, declared),
         NExpr::Lit(_) => Ok(NTy::IntHash),
-        NExpr::App(_, _) => Err(not_built()),
-        NExpr::Lam(_, _) => Err(not_built()),
-        NExpr::Let(_, _, _) => Err(not_built()),
+        NExpr::App(head, arg) => {
+            let head = type_of_part(alloc, head, declared, locals, 0)?;
+            type_of_applied(alloc, arg, declared, locals, &head)
+        }
+        NExpr::Lam(binder, body) => type_of_lambda(alloc, body, &*binder, declared, &*locals),
+        NExpr::Let(recursive, binds, body) => match binds.as_slice() {
+            [bind] if !*recursive => {
+                first_bind_fits(alloc, bind, declared, locals)?;
+                type_of_body(alloc, body, &bind.ty, declared, &*locals)
+            }
+            _ => Err(not_built()),
+        },
         NExpr::Case(_, _, _, _, _) => Err(not_built()),
         NExpr::Cast(_, _) => Err(not_built()),
         NExpr::Con(name, args) => {
-            let given = given_terms(alloc, args.as_slice(), declared)?;
-            constructed_type(
-                alloc,
-                name,
-                declared.constructor_named(name),
-                given.as_slice(),
-            )
+            let given = given_terms(alloc, args.as_slice(), declared, locals)?;
+            let con = declared.constructor_named(name);
+            constructed_type(alloc, name, con, given.as_slice())
         }
         NExpr::Prim(_, _) => Err(not_built()),
         NExpr::Fail(_) => Err(not_built()),
@@ -126,11 +233,13 @@ fn type_of(alloc: Global, e: &NExpr, declared: &Declarations) -> Result<NTy, Fla
 }
 
 /// The type of a closed expression among the declarations of its module, or the first premise that fails: the parts from left
-/// to right, before the premises of the piece itself. The faults are `Unbound`, and for a constructor `ConArity`, `ArgType` and
-/// `UnliftedNotAtom`, in this order; each with the part numbers to the piece.
+/// to right, before the premises of the piece itself. The faults are `Unbound`; for an application `NotFunction`, `ArgType` and
+/// `UnliftedNotAtom`; for a lambda `NotAType`; for a bind `NotAType`, `LetType` and `UnliftedNotAtom`; for a constructor `ConArity`,
+/// `ArgType` and `UnliftedNotAtom`, in these orders; each with the part numbers to the piece. A form that is not built yet is
+/// answered with want of memory.
 pub fn lint(alloc: Global, e: &NExpr, declared: &Declarations) -> Result<NTy, Flawed>
-    requires { is_nexpr_built (nexpr_of e.now) ≡ true }
     ensures { Says nty_of result (type_or_fault (modules_of declared.now) no_context (nexpr_of e.now)) }
 {
-    type_of(alloc, e, declared)
+    let locals = Locals::End;
+    type_of(alloc, &*e, declared, &locals)
 }

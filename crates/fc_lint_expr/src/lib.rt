@@ -3,6 +3,8 @@
 
 mod arguments;
 mod expressions;
+mod locals;
+mod premises;
 
 pub use expressions::lint;
 

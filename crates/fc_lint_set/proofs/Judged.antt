@@ -1,6 +1,5 @@
 -- Fields and constructors, one after the other.
 use Rattle.std.proofs.Common.{◌≡◌, refl, ap, sym, ◌∙◌, suc, add-one, drop-cons, subst, ℕ, ◌+◌, Bool, true, false, ◌&&◌, List, [], ◌∷◌, length, ◌<◌, drop, get_or, Result, Ok, Err, arith}
-use Rattle.std.specs.List.{list_all}
 use Rattle.std.specs.Prelude.{IsErrAnd}
 use Rattle.std.proofs.lemmas.Grind.{common_steps}
 use Rattle.std.proofs.lemmas.List.{length-map}
@@ -8,7 +7,6 @@ use Rattle.fc_syntax.specs.declared.fault.FaultKind.{FaultKind}
 use Rattle.fc_syntax.specs.declared.fault.FaultKind.TheVariants.{NotAType}
 use Rattle.fc_syntax.specs.Tree.{Kind}
 use Rattle.fc_syntax.specs.Tree.{Word}
-use Rattle.fc_model.specs.BuiltForms.{is_ncon_built, is_nty_built}
 use Rattle.fc_model.specs.Faulting.{F, and_then, need, under}
 use Rattle.fc_model.specs.Kinding.{is_value_kind, kind_or_fault}
 use Rattle.fc_model.specs.Linting.{done, Done, cons_judged, exports_judged, fields_judged, lint_or_fault, type_decl_judged}
@@ -23,6 +21,7 @@ use Rattle.fc_model.specs.declared.nameless.NDecl.TheVariants.{DataType}
 use Rattle.fc_model.specs.declared.nameless.NParam.{NParam}
 use Rattle.fc_model.specs.declared.nameless.NConDecl.{NConDecl}
 use Rattle.fc_model.specs.declared.nameless.NTy.{NTy}
+use Rattle.fc_model.proofs.Building.{drop_item}
 use Rattle.fc_lint_set.specs.Judging.{and_rest, con_value, cons_from, declarations_judged, field_value, fields_from}
 
 -- a part that holds or not, and then the rest
@@ -93,13 +92,6 @@ pub rest_err : (all : Bool) (f : F) → and_rest all (Err f) ≡ Err f
 unfolding and_rest
 rest_err all f = refl
 
-and_right : (a b : Bool) → (a && b) ≡ true → b ≡ true
-and_right true b h = h
-and_right false b h = grind arith
-
-drop_item : {X : Type 0} (xs : List X) (k : ℕ) (x : X) → k < length xs → x ≡ get_or xs k x → drop k xs ≡ x ∷ drop (k + 1) xs
-drop_item xs k x low is = rw add-one (drop-cons xs k x low ∙ ap (λ y. y ∷ drop (suc k) xs) (sym is))
-
 -- what holds so far and of a part, however it is asked
 pub both_then : (all b new : Bool) → all ≡ true → new ≡ b → new ≡ (all && b)
 both_then true b new h is = is
@@ -111,25 +103,17 @@ both_else false b new h is = is
 
 -- one turn of the loop over the fields
 pub fields_step : (ms : List NModule) (whole : Result Bool F) (all b new : Bool) (i j k : ℕ) (ts : List NTy) (t : NTy)
-    → (list_all is_nty_built (ntys_of (drop k ts)) ≡ true) × (whole ≡ and_rest all (fields_from ms i (drop k ts))) → k < length ts → t ≡ get_or ts k t
-    → field_value ms i t ≡ Ok b → new ≡ (all && b) → j ≡ i + 1
-    → (list_all is_nty_built (ntys_of (drop (k + 1) ts)) ≡ true) × (whole ≡ and_rest new (fields_from ms j (drop (k + 1) ts)))
+    → whole ≡ and_rest all (fields_from ms i (drop k ts)) → k < length ts → t ≡ get_or ts k t → field_value ms i t ≡ Ok b → new ≡ (all && b) → j ≡ i + 1
+    → whole ≡ and_rest new (fields_from ms j (drop (k + 1) ts))
 fields_step ms whole all b new i j k ts t so_far low is value more next =
-    let item = drop_item ts k t low is in (
-      and_right (is_nty_built (nty_of t)) (list_all is_nty_built (ntys_of (drop (k + 1) ts))) (subst (λ (r : List NTy). list_all is_nty_built (ntys_of r) ≡ true) item so_far.0),
-      rw (more, next) (so_far.1 ∙ ap (λ r. and_rest all (fields_from ms i r)) item ∙ fields_ok ms i t (drop (k + 1) ts) all b value),
-    )
+    rw (more, next) (so_far ∙ ap (λ r. and_rest all (fields_from ms i r)) (drop_item ts k t low is) ∙ fields_ok ms i t (drop (k + 1) ts) all b value)
 
 -- one turn of the loop over the constructors
 pub cons_step : (ms : List NModule) (whole : Result Bool F) (all b new : Bool) (i j k : ℕ) (cs : List NConDecl) (c : NConDecl)
-    → (list_all is_ncon_built (ncons_of (drop k cs)) ≡ true) × (whole ≡ and_rest all (cons_from ms i (drop k cs))) → k < length cs → c ≡ get_or cs k c
-    → con_value ms i c ≡ Ok b → new ≡ (all && b) → j ≡ i + 1
-    → (list_all is_ncon_built (ncons_of (drop (k + 1) cs)) ≡ true) × (whole ≡ and_rest new (cons_from ms j (drop (k + 1) cs)))
+    → whole ≡ and_rest all (cons_from ms i (drop k cs)) → k < length cs → c ≡ get_or cs k c → con_value ms i c ≡ Ok b → new ≡ (all && b) → j ≡ i + 1
+    → whole ≡ and_rest new (cons_from ms j (drop (k + 1) cs))
 cons_step ms whole all b new i j k cs c so_far low is value more next =
-    let item = drop_item cs k c low is in (
-      and_right (is_ncon_built (ncon_of c)) (list_all is_ncon_built (ncons_of (drop (k + 1) cs))) (subst (λ (r : List NConDecl). list_all is_ncon_built (ncons_of r) ≡ true) item so_far.0),
-      rw (more, next) (so_far.1 ∙ ap (λ r. and_rest all (cons_from ms i r)) item ∙ cons_ok ms i c (drop (k + 1) cs) all b value),
-    )
+    rw (more, next) (so_far ∙ ap (λ r. and_rest all (cons_from ms i r)) (drop_item cs k c low is) ∙ cons_ok ms i c (drop (k + 1) cs) all b value)
 
 -- the fields of a constructor are parts after its binders
 con_fields : (ms : List NModule) (part i : ℕ) (c : NConDecl) → i ≡ length c.binders → con_value ms part c ≡ under part (fields_from ms i c.fields)

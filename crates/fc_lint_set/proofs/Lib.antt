@@ -1,3 +1,1 @@
-pub mod Built
 pub mod Judged
-pub mod Words

@@ -1,7 +1,4 @@
 //! The types and the right sides of definitions.
-ghost use Rattle.std.specs.Prelude.{◌≡◌, true};
-ghost use Rattle.std.specs.List.{list_all};
-ghost use Rattle.fc_model.specs.BuiltForms.{is_ndecl_built, is_nexpr_built};
 ghost use Rattle.fc_model.specs.Faulting.{within};
 ghost use Rattle.fc_model.specs.Linting as words;
 ghost use Rattle.fc_model.specs.Linting.{def_type_judged, def_types_judged, done, ndecl_word, right_judged, right_side_judged, rights_judged};
@@ -10,12 +7,11 @@ ghost use Rattle.fc_model.specs.Says.{Says};
 ghost use Rattle.fc_syntax.specs.View.{kind_of};
 ghost use Rattle.fc_types.specs.ModuleViews.{modules_of};
 
-use crate::parts::{not_built, word_of};
-use crate::type_declarations::kind_of_part;
+use crate::parts::word_of;
 use fc_lint_expr::lint;
-use fc_model::{Flawed, NDecl, NExpr, NTy, deeper, flaw_here, in_declaration};
+use fc_model::{Flawed, NDecl, NExpr, NTy, deeper, flaw_here, in_declaration, not_built};
 use fc_syntax::{FaultKind, Kind};
-use fc_types::{Declarations, same_type};
+use fc_types::{Declarations, kind_of_part, same_type};
 use std::alloc::Global;
 
 /// The kind of the type of a definition: `UnliftedTop` at `#`, and `NotAType` at a kind with an arrow.
@@ -32,7 +28,6 @@ fn definition_kind(alloc: Global, k: &Kind) -> Result<(), Flawed>
 
 /// The type of a definition.
 fn lint_definition_type(alloc: Global, decl: &NDecl, declared: &Declarations) -> Result<(), Flawed>
-    requires { is_ndecl_built (ndecl_of decl.now) ≡ true }
     ensures { Says (λ _. done) result (def_type_judged (modules_of declared.now) (ndecl_of decl.now)) }
 {
     match decl {
@@ -54,7 +49,6 @@ fn lint_definition_type_within(
     decl: &NDecl,
     declared: &Declarations,
 ) -> Result<(), Flawed>
-    requires { is_ndecl_built (ndecl_of decl.now) ≡ true }
     ensures { Says (λ _. done) result (within (ndecl_word (ndecl_of decl.now)) (def_type_judged (modules_of declared.now) (ndecl_of decl.now))) }
 {
     match lint_definition_type(alloc, decl, declared) {
@@ -69,7 +63,6 @@ pub fn lint_definition_types(
     decls: &[NDecl],
     declared: &Declarations,
 ) -> Result<(), Flawed>
-    requires { list_all is_ndecl_built (ndecls_of decls.now) ≡ true }
     ensures { Says (λ _. done) result (def_types_judged (modules_of declared.now) (ndecls_of decls.now)) }
 {
     for decl in decls {
@@ -80,7 +73,6 @@ pub fn lint_definition_types(
 
 /// The right side of a definition of this type.
 fn lint_right_side(alloc: Global, t: &NTy, e: &NExpr, declared: &Declarations) -> Result<(), Flawed>
-    requires { is_nexpr_built (nexpr_of e.now) ≡ true }
     ensures { Says (λ _. done) result (right_side_judged (modules_of declared.now) (nty_of t.now) (nexpr_of e.now)) }
 {
     let u = match lint(alloc, e, declared) {
@@ -96,7 +88,6 @@ fn lint_right_side(alloc: Global, t: &NTy, e: &NExpr, declared: &Declarations) -
 
 /// The right side of a declaration that has one.
 fn lint_right(alloc: Global, decl: &NDecl, declared: &Declarations) -> Result<(), Flawed>
-    requires { is_ndecl_built (ndecl_of decl.now) ≡ true }
     ensures { Says (λ _. done) result (right_judged (modules_of declared.now) (ndecl_of decl.now)) }
 {
     match decl {
@@ -111,7 +102,6 @@ fn lint_right(alloc: Global, decl: &NDecl, declared: &Declarations) -> Result<()
 
 /// The same, with the word of the declaration in a flaw.
 fn lint_right_within(alloc: Global, decl: &NDecl, declared: &Declarations) -> Result<(), Flawed>
-    requires { is_ndecl_built (ndecl_of decl.now) ≡ true }
     ensures { Says (λ _. done) result (within (ndecl_word (ndecl_of decl.now)) (right_judged (modules_of declared.now) (ndecl_of decl.now))) }
 {
     match lint_right(alloc, decl, declared) {
@@ -126,7 +116,6 @@ pub fn lint_right_sides(
     decls: &[NDecl],
     declared: &Declarations,
 ) -> Result<(), Flawed>
-    requires { list_all is_ndecl_built (ndecls_of decls.now) ≡ true }
     ensures { Says (λ _. done) result (rights_judged (modules_of declared.now) (ndecls_of decls.now)) }
 {
     for decl in decls {

@@ -1,7 +1,4 @@
 //! Lint of a module.
-ghost use Rattle.std.specs.Prelude.{◌≡◌, true};
-ghost use Rattle.std.specs.List.{list_all};
-ghost use Rattle.fc_model.specs.BuiltForms.{IsNBuilt, is_ndecl_built};
 ghost use Rattle.fc_model.specs.Linting.{done, lint_or_fault};
 ghost use Rattle.fc_model.specs.NamelessView.{ndecls_of, nmodule_of};
 ghost use Rattle.fc_model.specs.Says.{Says};
@@ -18,7 +15,6 @@ use std::alloc::Global;
 /// The type declarations of a module, then the types of its definitions, and then their right sides.
 #[tactic(auto, unfolding(crate::specs::Judging::declarations_judged))]
 fn lint_declarations(alloc: Global, decls: &[NDecl], declared: &Declarations) -> Result<(), Flawed>
-    requires { list_all is_ndecl_built (ndecls_of decls.now) ≡ true }
     ensures { Says (λ _. done) result (declarations_judged (modules_of declared.now) (ndecls_of decls.now)) }
 {
     lint_types(alloc, decls, declared)?;
@@ -28,9 +24,9 @@ fn lint_declarations(alloc: Global, decls: &[NDecl], declared: &Declarations) ->
 
 /// Whether every premise holds of a module that names no other: of its exported and hidden words, of its type declarations, of
 /// the types of its definitions and of their right sides, in this order and each in declaration order. The answer is the first
-/// premise that fails, with its declaration and the part numbers there; an export without a declaration stands in none.
+/// premise that fails, with its declaration and the part numbers there; an export without a declaration stands in none. A module with a form
+/// that is not built yet may be answered with want of memory.
 pub fn lint_module(alloc: Global, m: &NModule) -> Result<(), Flawed>
-    requires { IsNBuilt (nmodule_of m.now) }
     ensures { Says (λ _. done) result (lint_or_fault (nmodule_of m.now)) }
 {
     lint_exports(alloc, m)?;

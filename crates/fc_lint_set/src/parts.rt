@@ -1,5 +1,5 @@
 //! Numbers of parts and words of declarations.
-ghost use Rattle.std.specs.Prelude.{◌≡◌, ◌+◌, IfOk, IfErr};
+ghost use Rattle.std.specs.Prelude.{◌≡◌, IfOk, IfErr};
 ghost use Rattle.fc_model.specs.Linting.{ndecl_word};
 ghost use Rattle.fc_model.specs.NamelessView.{ndecl_of};
 ghost use Rattle.fc_model.specs.declared.flaw.Flawed.TheVariants.{Memory as memory};
@@ -16,24 +16,6 @@ pub fn part_after(parts: usize) -> Result<u32, Flawed>
         Ok(part) => Ok(part),
         Err(_) => Err(Flawed::Memory),
     }
-}
-
-/// The number of the next part, where it can be told.
-pub fn next_part(part: u32) -> Result<u32, Flawed>
-    ensures next { IfOk result (λ next. next ≡ part + 1) }
-    ensures memory { IfErr result (λ e. e ≡ memory) }
-{
-    match part.checked_add(1) {
-        Some(next) => Ok(next),
-        None => Err(Flawed::Memory),
-    }
-}
-
-/// The answer for a form that is not built yet. No call of `lint_module` comes to one, by its condition.
-pub fn not_built() -> Flawed
-    ensures { result ≡ memory }
-{
-    Flawed::Memory
 }
 
 /// The word that a declaration is told by.

@@ -1,8 +1,4 @@
 //! Modules that lint, and the first faults of others, by hand from the tables of declarations and terms.
-ghost use Rattle.std.specs.Prelude.{◌≡◌, [], true, IfOk, OnOk};
-ghost use Rattle.std.specs.List.{list_all};
-ghost use Rattle.fc_model.specs.BuiltForms.{IsNBuilt, is_ndecl_built, is_nexpr_built, is_nty_built};
-ghost use Rattle.fc_model.specs.NamelessView.{ndecl_of, ndecls_of, nexpr_of, nmodule_of, nty_of, ntys_of};
 
 use crate::lint_module;
 use fc_model::{Flawed, NArg, NConDecl, NDecl, NExpr, NModule, NTy};
@@ -20,60 +16,39 @@ fn name(alloc: Global, word: &str) -> Result<Name, Memory> {
 }
 
 /// A data type by its name.
-#[tactic(auto, using(fc_model::proofs::NamelessView::nview_rules))]
-fn named(alloc: Global, word: &str) -> Result<NTy, Memory>
-    ensures { IfOk result (λ t. is_nty_built (nty_of t) ≡ true) }
-{
+fn named(alloc: Global, word: &str) -> Result<NTy, Memory> {
     Ok(NTy::Con(name(alloc, word)?))
 }
 
 /// `Int#`.
-#[tactic(auto, using(fc_model::proofs::NamelessView::nview_rules))]
-fn integer() -> Result<NTy, Memory>
-    ensures { IfOk result (λ t. is_nty_built (nty_of t) ≡ true) }
-{
+fn integer() -> Result<NTy, Memory> {
     Ok(NTy::IntHash)
 }
 
 /// A literal.
-#[tactic(auto, using(fc_model::proofs::NamelessView::nview_rules))]
-fn lit(n: i64) -> Result<NExpr, Memory>
-    ensures { IfOk result (λ e. is_nexpr_built (nexpr_of e) ≡ true) }
-{
+fn lit(n: i64) -> Result<NExpr, Memory> {
     Ok(NExpr::Lit(n))
 }
 
 /// The name of a definition.
-#[tactic(auto, using(fc_model::proofs::NamelessView::nview_rules))]
-fn var(alloc: Global, word: &str) -> Result<NExpr, Memory>
-    ensures { IfOk result (λ e. is_nexpr_built (nexpr_of e) ≡ true) }
-{
+fn var(alloc: Global, word: &str) -> Result<NExpr, Memory> {
     Ok(NExpr::Var(name(alloc, word)?))
 }
 
 /// A constructor without arguments.
-#[tactic(auto, using(fc_model::proofs::NamelessView::nview_rules))]
-fn con(alloc: Global, word: &str) -> Result<NExpr, Memory>
-    ensures { IfOk result (λ e. is_nexpr_built (nexpr_of e) ≡ true) }
-{
+fn con(alloc: Global, word: &str) -> Result<NExpr, Memory> {
     Ok(NExpr::Con(name(alloc, word)?, Seq::new(alloc)))
 }
 
 /// A constructor with one argument.
-#[tactic(auto, using(fc_model::proofs::NamelessView::nview_rules))]
-fn con_of(alloc: Global, word: &str, e: Result<NExpr, Memory>) -> Result<NExpr, Memory>
-    requires { IfOk e (λ e. is_nexpr_built (nexpr_of e) ≡ true) }
-    ensures { IfOk result (λ e. is_nexpr_built (nexpr_of e) ≡ true) }
-{
+fn con_of(alloc: Global, word: &str, e: Result<NExpr, Memory>) -> Result<NExpr, Memory> {
     let mut args = Seq::new(alloc);
     args.push(NArg::Term(e?))?;
     Ok(NExpr::Con(name(alloc, word)?, args))
 }
 
 /// A constructor's declaration with these fields.
-fn con_decl(alloc: Global, word: &str, fields: Seq<NTy>) -> Result<NConDecl, Memory>
-    ensures { IfOk result (λ c. (c.binders ≡ []) × (c.fields ≡ fields)) }
-{
+fn con_decl(alloc: Global, word: &str, fields: Seq<NTy>) -> Result<NConDecl, Memory> {
     Ok(NConDecl {
         name: Text::from_str(alloc, word)?,
         binders: Seq::new(alloc),
@@ -82,18 +57,13 @@ fn con_decl(alloc: Global, word: &str, fields: Seq<NTy>) -> Result<NConDecl, Mem
 }
 
 /// Puts in a data type whose one constructor has one field.
-#[tactic(auto, using(crate::proofs::Built::built_more))]
 fn add_data(
     decls: &mut Seq<NDecl>,
     alloc: Global,
     word: &str,
     con: &str,
     field: Result<NTy, Memory>,
-) -> Result<(), Memory>
-    requires field { IfOk field (λ t. is_nty_built (nty_of t) ≡ true) }
-    requires built { list_all is_ndecl_built (ndecls_of decls.old) ≡ true }
-    ensures { OnOk result (list_all is_ndecl_built (ndecls_of decls.new) ≡ true) }
-{
+) -> Result<(), Memory> {
     decls.push(data_of(alloc, word, con, field)?)
 }
 
@@ -103,10 +73,7 @@ fn data_of(
     word: &str,
     con: &str,
     field: Result<NTy, Memory>,
-) -> Result<NDecl, Memory>
-    requires { IfOk field (λ t. is_nty_built (nty_of t) ≡ true) }
-    ensures { IfOk result (λ d. is_ndecl_built (ndecl_of d) ≡ true) }
-{
+) -> Result<NDecl, Memory> {
     let mut fields = Seq::new(alloc);
     fields.push(field?)?;
     let mut cons = Seq::new(alloc);
@@ -120,38 +87,25 @@ fn definition(
     word: &str,
     t: Result<NTy, Memory>,
     e: Result<NExpr, Memory>,
-) -> Result<NDecl, Memory>
-    requires left { IfOk t (λ t. is_nty_built (nty_of t) ≡ true) }
-    requires right { IfOk e (λ e. is_nexpr_built (nexpr_of e) ≡ true) }
-    ensures { IfOk result (λ d. is_ndecl_built (ndecl_of d) ≡ true) }
-{
+) -> Result<NDecl, Memory> {
     let t = t?;
     let e = e?;
     Ok(NDecl::Def(Text::from_str(alloc, word)?, t, e))
 }
 
 /// Puts in a definition.
-#[tactic(auto, using(crate::proofs::Built::built_more))]
 fn add_def(
     decls: &mut Seq<NDecl>,
     alloc: Global,
     word: &str,
     t: Result<NTy, Memory>,
     e: Result<NExpr, Memory>,
-) -> Result<(), Memory>
-    requires left { IfOk t (λ t. is_nty_built (nty_of t) ≡ true) }
-    requires right { IfOk e (λ e. is_nexpr_built (nexpr_of e) ≡ true) }
-    requires built { list_all is_ndecl_built (ndecls_of decls.old) ≡ true }
-    ensures { OnOk result (list_all is_ndecl_built (ndecls_of decls.new) ≡ true) }
-{
+) -> Result<(), Memory> {
     decls.push(definition(alloc, word, t, e)?)
 }
 
 /// `(data Int (I# Int#)) (data Box (B Int)) (def x Int (con I# 1#))`.
-fn add_common(decls: &mut Seq<NDecl>, alloc: Global) -> Result<(), Memory>
-    requires { list_all is_ndecl_built (ndecls_of decls.old) ≡ true }
-    ensures { OnOk result (list_all is_ndecl_built (ndecls_of decls.new) ≡ true) }
-{
+fn add_common(decls: &mut Seq<NDecl>, alloc: Global) -> Result<(), Memory> {
     add_data(decls, alloc, "Int", "I#", integer())?;
     add_data(decls, alloc, "Box", "B", named(alloc, "Int"))?;
     add_def(
@@ -164,10 +118,7 @@ fn add_common(decls: &mut Seq<NDecl>, alloc: Global) -> Result<(), Memory>
 }
 
 /// What is put in after it, by the number of a line of the tables below: nothing wrong, or one thing, or two.
-fn add_case(decls: &mut Seq<NDecl>, alloc: Global, at: usize) -> Result<(), Memory>
-    requires { list_all is_ndecl_built (ndecls_of decls.old) ≡ true }
-    ensures { OnOk result (list_all is_ndecl_built (ndecls_of decls.new) ≡ true) }
-{
+fn add_case(decls: &mut Seq<NDecl>, alloc: Global, at: usize) -> Result<(), Memory> {
     match at {
         0 => Ok(()),
         1 => add_def(
@@ -192,10 +143,7 @@ fn add_case(decls: &mut Seq<NDecl>, alloc: Global, at: usize) -> Result<(), Memo
 }
 
 /// A definition whose type is at fault, or is not that of its right side.
-fn add_wrong_type(decls: &mut Seq<NDecl>, alloc: Global, at: usize) -> Result<(), Memory>
-    requires { list_all is_ndecl_built (ndecls_of decls.old) ≡ true }
-    ensures { OnOk result (list_all is_ndecl_built (ndecls_of decls.new) ≡ true) }
-{
+fn add_wrong_type(decls: &mut Seq<NDecl>, alloc: Global, at: usize) -> Result<(), Memory> {
     match at {
         4 => add_def(decls, alloc, "y", integer(), lit(2)),
         5 => add_def(decls, alloc, "y", named(alloc, "V"), var(alloc, "x")),
@@ -205,10 +153,7 @@ fn add_wrong_type(decls: &mut Seq<NDecl>, alloc: Global, at: usize) -> Result<()
 }
 
 /// A definition whose right side is at fault.
-fn add_wrong_right_side(decls: &mut Seq<NDecl>, alloc: Global, at: usize) -> Result<(), Memory>
-    requires { list_all is_ndecl_built (ndecls_of decls.old) ≡ true }
-    ensures { OnOk result (list_all is_ndecl_built (ndecls_of decls.new) ≡ true) }
-{
+fn add_wrong_right_side(decls: &mut Seq<NDecl>, alloc: Global, at: usize) -> Result<(), Memory> {
     match at {
         8 => add_def(decls, alloc, "y", named(alloc, "Int"), var(alloc, "z")),
         9 => add_def(
@@ -236,10 +181,7 @@ fn add_wrong_right_side(decls: &mut Seq<NDecl>, alloc: Global, at: usize) -> Res
 }
 
 /// Two declarations at fault, of which the first is not always judged first.
-fn add_two_wrong(decls: &mut Seq<NDecl>, alloc: Global, at: usize) -> Result<(), Memory>
-    requires { list_all is_ndecl_built (ndecls_of decls.old) ≡ true }
-    ensures { OnOk result (list_all is_ndecl_built (ndecls_of decls.new) ≡ true) }
-{
+fn add_two_wrong(decls: &mut Seq<NDecl>, alloc: Global, at: usize) -> Result<(), Memory> {
     match at {
         12 => {
             add_def(decls, alloc, "y", integer(), lit(2))?;
@@ -264,9 +206,7 @@ fn words(alloc: Global, all: &[&str]) -> Result<Seq<Text>, Memory> {
     Ok(words)
 }
 
-fn declarations(alloc: Global, at: usize) -> Result<Seq<NDecl>, Memory>
-    ensures { IfOk result (λ ds. list_all is_ndecl_built (ndecls_of ds) ≡ true) }
-{
+fn declarations(alloc: Global, at: usize) -> Result<Seq<NDecl>, Memory> {
     let mut decls = Seq::new(alloc);
     add_common(&mut decls, alloc)?;
     add_case(&mut decls, alloc, at)?;
@@ -278,10 +218,7 @@ fn module(
     exports: Result<Seq<Text>, Memory>,
     hidden: Result<Seq<Text>, Memory>,
     decls: Result<Seq<NDecl>, Memory>,
-) -> Result<NModule, Memory>
-    requires { IfOk decls (λ ds. list_all is_ndecl_built (ndecls_of ds) ≡ true) }
-    ensures { IfOk result (λ m. IsNBuilt (nmodule_of m)) }
-{
+) -> Result<NModule, Memory> {
     let exports = exports?;
     let hidden = hidden?;
     let decls = decls?;
@@ -295,9 +232,7 @@ fn module(
 }
 
 /// Whether a module lints.
-fn lints(alloc: Global, m: Result<NModule, Memory>) -> bool
-    requires { IfOk m (λ m. IsNBuilt (nmodule_of m)) }
-{
+fn lints(alloc: Global, m: Result<NModule, Memory>) -> bool {
     let Ok(m) = m else { return false };
     lint_module(alloc, &m).is_ok()
 }
@@ -318,9 +253,7 @@ fn is_flaw(
     kind: FaultKind,
     word: &str,
     path: &[u32],
-) -> bool
-    requires { IfOk m (λ m. IsNBuilt (nmodule_of m)) }
-{
+) -> bool {
     let Ok(m) = m else { return false };
     match lint_module(alloc, &m) {
         Err(Flawed::Flaw(flaw)) => flaw.kind == kind

@@ -1,37 +1,18 @@
 //! That the fields of type declarations are well kinded.
-ghost use Rattle.std.specs.Prelude.{◌≡◌, [], true};
-ghost use Rattle.std.specs.List.{list_all};
-ghost use Rattle.fc_model.specs.BuiltForms.{is_ncon_built, is_ndecl_built, is_nty_built};
-ghost use Rattle.fc_model.specs.Faulting.{under, within};
-ghost use Rattle.fc_model.specs.Kinding.{kind_or_fault};
+ghost use Rattle.fc_model.specs.Faulting.{within};
 ghost use Rattle.fc_model.specs.Linting.{done, ndecl_word, type_decl_judged, type_decls_judged};
-ghost use Rattle.fc_model.specs.NamelessView.{ncon_of, ncons_of, ndecl_of, ndecls_of, nty_of, ntys_of};
+ghost use Rattle.fc_model.specs.NamelessView.{ndecl_of, ndecls_of};
 ghost use Rattle.fc_model.specs.Says.{Says};
-ghost use Rattle.fc_syntax.specs.View.{kind_of};
 ghost use Rattle.fc_types.specs.ModuleViews.{modules_of};
 ghost use Rattle.fc_lint_set.specs.Judging.{con_value, cons_from, field_value, fields_from};
 
-use crate::parts::{next_part, not_built, part_after, word_of};
-use fc_model::{Flawed, NConDecl, NDecl, NTy, deeper, flaw_here, in_declaration};
-use fc_syntax::{FaultKind, Kind};
-use fc_types::{Declarations, is_value_kind, kind};
+use crate::parts::{part_after, word_of};
+use fc_model::{
+    Flawed, NConDecl, NDecl, NTy, deeper, flaw_here, in_declaration, next_part, not_built,
+};
+use fc_syntax::FaultKind;
+use fc_types::{Declarations, is_value_kind, kind_of_part};
 use std::alloc::Global;
-
-/// The kind of a part, whose place is told from the piece whose part it is.
-pub fn kind_of_part(
-    alloc: Global,
-    t: &NTy,
-    declared: &Declarations,
-    part: u32,
-) -> Result<Kind, Flawed>
-    requires { is_nty_built (nty_of t.now) ≡ true }
-    ensures { Says kind_of result (under part (kind_or_fault (modules_of declared.now) [] (nty_of t.now))) }
-{
-    match kind(alloc, t, declared) {
-        Ok(k) => Ok(k),
-        Err(flawed) => Err(deeper(flawed, part)),
-    }
-}
 
 /// Whether the field that is the part of this number is of a kind of values.
 #[tactic(auto, unfolding(crate::specs::Judging::field_value))]
@@ -41,7 +22,6 @@ fn field_is_value(
     declared: &Declarations,
     part: u32,
 ) -> Result<bool, Flawed>
-    requires { is_nty_built (nty_of field.now) ≡ true }
     ensures { Says (λ b. b) result (field_value (modules_of declared.now) part field.now) }
 {
     let k = kind_of_part(alloc, field, declared, part)?;
@@ -56,7 +36,6 @@ fn fields_are_values(
     declared: &Declarations,
     first: u32,
 ) -> Result<bool, Flawed>
-    requires { list_all is_nty_built (ntys_of fields.now) ≡ true }
     ensures { Says (λ b. b) result (fields_from (modules_of declared.now) first fields.now) }
 {
     let mut part = first;
@@ -77,7 +56,6 @@ fn constructor_has_values(
     declared: &Declarations,
     part: u32,
 ) -> Result<bool, Flawed>
-    requires { is_ncon_built (ncon_of con.now) ≡ true }
     ensures { Says (λ b. b) result (con_value (modules_of declared.now) part con.now) }
 {
     let first = part_after(con.binders.len())?;
@@ -95,7 +73,6 @@ fn constructors_have_values(
     declared: &Declarations,
     first: u32,
 ) -> Result<bool, Flawed>
-    requires { list_all is_ncon_built (ncons_of cons.now) ≡ true }
     ensures { Says (λ b. b) result (cons_from (modules_of declared.now) first cons.now) }
 {
     let mut part = first;
@@ -111,7 +88,6 @@ fn constructors_have_values(
 /// The fields of a type declaration.
 #[tactic(auto, using(crate::proofs::Judged::cons_whole))]
 fn lint_type(alloc: Global, decl: &NDecl, declared: &Declarations) -> Result<(), Flawed>
-    requires { is_ndecl_built (ndecl_of decl.now) ≡ true }
     ensures { Says (λ _. done) result (type_decl_judged (modules_of declared.now) (ndecl_of decl.now)) }
 {
     match decl {
@@ -134,7 +110,6 @@ fn lint_type(alloc: Global, decl: &NDecl, declared: &Declarations) -> Result<(),
 
 /// The same, with the word of the declaration in a flaw.
 fn lint_type_within(alloc: Global, decl: &NDecl, declared: &Declarations) -> Result<(), Flawed>
-    requires { is_ndecl_built (ndecl_of decl.now) ≡ true }
     ensures { Says (λ _. done) result (within (ndecl_word (ndecl_of decl.now)) (type_decl_judged (modules_of declared.now) (ndecl_of decl.now))) }
 {
     match lint_type(alloc, decl, declared) {
@@ -146,7 +121,6 @@ fn lint_type_within(alloc: Global, decl: &NDecl, declared: &Declarations) -> Res
 /// The type declarations of a module, in their order: `Unbound` in a field, and `NotAType` where a field is not of the kinds of
 /// values.
 pub fn lint_types(alloc: Global, decls: &[NDecl], declared: &Declarations) -> Result<(), Flawed>
-    requires { list_all is_ndecl_built (ndecls_of decls.now) ≡ true }
     ensures { Says (λ _. done) result (type_decls_judged (modules_of declared.now) (ndecls_of decls.now)) }
 {
     for decl in decls {

@@ -1,21 +1,21 @@
--- The sorts that are read off the arguments of a constructor are those of its fields' types.
+-- The sorts that are read off arguments are those of their types.
 use Rattle.std.proofs.Common.{◌≡◌, true, if◌then◌else◌, Bool, false, bytes_eq, List, [], ◌∷◌, map, Option, Some, None, Result, Ok, refl, sym, ap, ap₂, ◌∙◌, subst}
 use Rattle.fc_syntax.specs.declared.ty.Name.{Name}
 use Rattle.fc_syntax.specs.Tree.{Word}
-use Rattle.fc_model.specs.BuiltForms.{are_nargs_built, is_nexpr_built}
-use Rattle.fc_model.specs.Erasure.{arg_sorts, no_scope, sort_of, sort_of_type}
+use Rattle.fc_model.specs.Erasure.{Scope, arg_sorts, sort_of, sort_of_type}
 use Rattle.fc_model.specs.Faulting.{F, under, within, and_then}
 use Rattle.fc_model.specs.Kinding.{decls_at, kind_or_fault, same_type}
 use Rattle.fc_model.specs.Linting.{Done, done, def_type_judged, def_types_judged, definition_kind, exports_judged, lint_or_fault, type_decls_judged}
 use Rattle.fc_model.specs.Nameless.{NTy, NTVar, NTCon, NTInt, NTApp, NTFun, NTForall, NTCoForall, NExpr, NCon, NArgs}
 use Rattle.fc_model.specs.Nameless.{NDecl, NData, NNew, NFamily, NAxiom, NDef, NWrap, NModule, NModuleOf}
 use Rattle.fc_model.specs.Terms.{Lifted}
-use Rattle.fc_model.specs.Typing.{Constructor, Given, Context, args_given, constructor, def_type, no_context, same_length, types_fit}
+use Rattle.fc_model.specs.Typing.{Constructor, Given, Context, args_given, atom_fits, atoms_fit, constructor, def_type, is_atom, same_length, types_fit}
 use Rattle.fc_model.specs.Typing.{HasType, typed_local, typed_declared, typed_literal, typed_application, typed_lambda, typed_let, typed_case, typed_con, ArgsAreGiven, no_args, one_arg}
 use Rattle.fc_model.proofs.Parts.{and_then_inv, err_ok, ok_ok}
 use Rattle.fc_model.proofs.Resolved.{within_inv}
 use Rattle.fc_model.proofs.Sameness.{and_inv, false_true, same_type_eq}
 use Rattle.fc_model.proofs.TypedIs.{constructed_inv, given_args_are, type_is_given}
+use Rattle.fc_meaning.specs.Laws.{Agrees}
 use Rattle.fc_meaning.proofs.Optional.{some_is}
 
 -- a type of the kind that a definition's type has is lifted
@@ -62,32 +62,47 @@ value_lifted (NModuleOf own imports exports hidden ds) lint (Some v) w t h =
     go done j true x = def_lifted (NModuleOf own imports exports hidden ds ∷ []) ds w t j x
     go done j false x = err_ok x
 
+-- a type that takes what is no atom is lifted
+no_atom_is_lifted : (t : NTy) → atom_fits t false ≡ true → Lifted ≡ sort_of_type t
+no_atom_is_lifted (NTVar i) f = refl
+no_atom_is_lifted (NTCon n) f = refl
+no_atom_is_lifted NTInt f = false_true f
+no_atom_is_lifted (NTApp t u) f = refl
+no_atom_is_lifted (NTFun t u) f = refl
+no_atom_is_lifted (NTForall k t) f = refl
+no_atom_is_lifted (NTCoForall r t u v) f = refl
+
 module _ (m : NModule) (lint : lint_or_fault m ≡ Ok done) where
-  -- the sort of a built expression is that of its type
-  sort_is : {c : Context} {e : NExpr} {t : NTy} → HasType (m ∷ []) c e t → is_nexpr_built e ≡ true → sort_of no_scope e ≡ sort_of_type t
-  sort_is (typed_local p) b = false_true b
-  sort_is (typed_declared {n = n} {t = t} p) b = sym (value_lifted m lint n.module n.text t p)
-  sort_is typed_literal b = refl
-  sort_is (typed_application t f a fits) b = false_true b
-  sort_is (typed_lambda k t v e) b = false_true b
-  sort_is (typed_let bs e) b = false_true b
-  sort_is (typed_case j k e t r alts v) b = false_true b
-  sort_is (typed_con k gs is args l t a) b = refl
+  sort_by_cases : {c : Context} {e : NExpr} {t : NTy} (s : Scope) → Agrees c s → HasType (m ∷ []) c e t → atom_fits t (is_atom e) ≡ true → sort_of s e ≡ sort_of_type t
+  sort_by_cases s agree (typed_local {i = i} {t = t} p) f = agree i t p
+  sort_by_cases s agree (typed_declared {n = n} {t = t} p) f = sym (value_lifted m lint n.module n.text t p)
+  sort_by_cases s agree typed_literal f = refl
+  sort_by_cases s agree (typed_application t {u = u} g a fits) f = no_atom_is_lifted u f
+  sort_by_cases s agree (typed_lambda k t v e) f = refl
+  sort_by_cases s agree (typed_let {t = t} bs e) f = no_atom_is_lifted t f
+  sort_by_cases s agree (typed_case {rt = rt} j k e t r alts v) f = no_atom_is_lifted rt f
+  sort_by_cases s agree (typed_con k gs is args l t a) f = refl
 
-  sorts_are : {c : Context} {args : NArgs} {gs : List Given} → ArgsAreGiven (m ∷ []) c args gs → are_nargs_built args ≡ true → (ts : List NTy) → same_length ts gs ≡ true
-      → types_fit ts gs ≡ true → arg_sorts no_scope args ≡ map sort_of_type ts
-  sorts_are no_args b [] l f = refl
-  sorts_are no_args b (t ∷ ts) l f = false_true l
-  sorts_are (one_arg a rest) b [] l f = false_true l
-  sorts_are (one_arg {a = e} {rest = es} {t = u} {gs = gs} a rest) b (t ∷ ts) l f =
-      let c = and_inv (is_nexpr_built e) (are_nargs_built es) b in
+  -- the sort that is read off what fits the place of its type is that of the type
+  pub sort_is : (c : Context) (s : Scope) → Agrees c s → (e : NExpr) (t : NTy) → HasType (m ∷ []) c e t → atom_fits t (is_atom e) ≡ true → sort_of s e ≡ sort_of_type t
+  sort_is c s agree e t typed f = sort_by_cases s agree typed f
+
+  sorts_are : {c : Context} {args : NArgs} {gs : List Given} (s : Scope) → Agrees c s → ArgsAreGiven (m ∷ []) c args gs → (ts : List NTy) → same_length ts gs ≡ true
+      → types_fit ts gs ≡ true → atoms_fit ts gs ≡ true → arg_sorts s args ≡ map sort_of_type ts
+  sorts_are s agree no_args [] l f h = refl
+  sorts_are s agree no_args (t ∷ ts) l f h = false_true l
+  sorts_are s agree (one_arg a rest) [] l f h = false_true l
+  sorts_are s agree (one_arg {a = e} {rest = es} {t = u} {gs = gs} a rest) (t ∷ ts) l f h =
       let g = and_inv (same_type t u) (types_fit ts gs) f in
-      ap₂ ◌∷◌ (sort_is a c.0 ∙ ap sort_of_type (sym (same_type_eq t u g.0))) (sorts_are rest c.1 ts l g.1)
+      let k = and_inv (atom_fits t (is_atom e)) (atoms_fit ts gs) h in
+      let same = same_type_eq t u g.0 in
+      let fits = subst (λ x. atom_fits x (is_atom e) ≡ true) same k.0 in
+      ap₂ ◌∷◌ (sort_by_cases s agree a fits ∙ ap sort_of_type (sym same)) (sorts_are s agree rest ts l g.1 k.1)
 
-  pub sorts_of_arguments : (n : Name) (args : NArgs) (t : NTy) → are_nargs_built args ≡ true → HasType (m ∷ []) no_context (NCon n args) t → (k : Constructor)
-      → constructor (m ∷ []) n ≡ Some k → arg_sorts no_scope args ≡ map sort_of_type k.fields
-  sorts_of_arguments n args t b typed k is =
-      let p = and_then_inv (args_given (m ∷ []) no_context 0 args) _ t (type_is_given (m ∷ []) typed) in
+  pub sorts_of_arguments : (c : Context) (s : Scope) → Agrees c s → (n : Name) (args : NArgs) (t : NTy) → HasType (m ∷ []) c (NCon n args) t → (k : Constructor)
+      → constructor (m ∷ []) n ≡ Some k → arg_sorts s args ≡ map sort_of_type k.fields
+  sorts_of_arguments c s agree n args t typed k is =
+      let p = and_then_inv (args_given (m ∷ []) c 0 args) _ t (type_is_given (m ∷ []) typed) in
       let q = constructed_inv n (constructor (m ∷ []) n) p.0 t p.2 in
       let same : q.0 ≡ k = some_is (sym q.1 ∙ is) in
-      sorts_are (given_args_are (m ∷ []) no_context 0 args p.0 p.1) b q.0.fields q.2 q.3 ∙ ap (λ x. map sort_of_type x.fields) same
+      sorts_are s agree (given_args_are (m ∷ []) c 0 args p.0 p.1) q.0.fields q.2 q.3 q.4 ∙ ap (λ x. map sort_of_type x.fields) same

@@ -1,4 +1,5 @@
 pub mod ArgSorts
+pub mod BuiltExpressions
 pub mod Choosing
 pub mod Determined
 pub mod Examples

@@ -1,34 +1,92 @@
--- The right sides of the definitions of a formed module of the forms that are built are sorted when their types are gone.
-use Rattle.std.proofs.Common.{◌≡◌, ℕ, ◌+◌, true, not, if◌then◌else◌, Bool, false, ◌&&◌, List, [], ◌∷◌, map, bytes_eq, Option, Some, None, Ok, sym, subst}
+-- The right sides of the definitions of a module that lints, if it has only the forms that are built, are sorted when their
+-- types are gone.
+use Rattle.std.proofs.Common.{◌≡◌, ℕ, zero, suc, true, if◌then◌else◌, Bool, false, ◌&&◌, List, [], ◌∷◌, bytes_eq, Option, Some, None, Ok, refl, sym, ap, ◌∙◌, subst}
 use Rattle.std.specs.List.{list_all}
 use Rattle.fc_syntax.specs.declared.ty.Name.{Name}
 use Rattle.fc_syntax.specs.Tokens.{is_module_part}
-use Rattle.fc_syntax.specs.Tree.{Word, Expr, EVar, ELit, ECon, ATerm, Args, NoArgs, MoreArgs, Decl, DData, DDef, Module, ModuleOf}
-use Rattle.fc_model.specs.Canonical.{IsFormed, are_args_formed, is_decl_formed, is_expr_formed}
-use Rattle.fc_model.specs.Canonical.{is_lower_word, is_type_formed, is_upper_word, is_word}
-use Rattle.fc_model.specs.Erasure.{arg_sorts, erased, erased_args, no_scope, sort_of}
-use Rattle.fc_model.specs.Faulting.{within}
+use Rattle.fc_syntax.specs.Tree.{Word, Module, ModuleOf}
+use Rattle.fc_model.specs.Canonical.{IsBuilt, IsFormed, is_decl_built, is_decl_formed, is_empty_list, is_word}
+use Rattle.fc_model.specs.Erasure.{Scope, arg_sorts, below_value, erased, erased_args, no_scope, sort_of, sort_of_type}
+use Rattle.fc_model.specs.Faulting.{within, and_then}
 use Rattle.fc_model.specs.Kinding.{decls_at}
-use Rattle.fc_model.specs.Nameless.{NExpr, NArgs, MoreNArgs, NDecl, NData, NNew, NFamily, NAxiom, NDef, NWrap, NModule, NModuleOf}
+use Rattle.fc_model.specs.Linting.{Done, Lints, done, def_types_judged, exports_judged, lint_or_fault, right_side_judged, rights_judged, type_decls_judged}
+use Rattle.fc_model.specs.Nameless.{NTy, NExpr, NArgs, NDecl, NData, NNew, NFamily, NAxiom, NDef, NWrap, NModule, NModuleOf}
 use Rattle.fc_model.specs.Programs.{program_of, right_side}
-use Rattle.fc_model.specs.Resolution.{Top, Words, Resolves, behind, declared_name, decl_word, distinct_params, in_params, no_locals, no_word, no_words, param_word}
-use Rattle.fc_model.specs.Resolution.{resolved_arg, resolved_args, resolved_cons, resolved_decl, resolved_decls, resolved_expr, resolved_ty, resolved_var, top_of}
-use Rattle.fc_model.specs.Terms.{Term, IsSorted, AreSorted, IsAtom, HasSorts}
-use Rattle.fc_model.proofs.Parts.{and_then_inv, need_inv, ok_ok, part}
-use Rattle.fc_model.proofs.Resolved.{then_arg_inv, then_item_inv, within_inv}
-use Rattle.fc_model.proofs.Sameness.{and_inv, false_true}
+use Rattle.fc_model.specs.Resolution.{Resolves, no_words, resolved_decls, top_of}
+use Rattle.fc_model.specs.Terms.{Sort, Lifted, Unlifted, Term, Var, IsSorted, AreSorted, IsAtom, HasSorts, sort_at, upr}
+use Rattle.fc_model.specs.Typing.{Context, Given, local_value, no_context, type_or_fault, with_value}
+use Rattle.fc_model.specs.Typing.{HasType, typed_local, typed_declared, typed_literal, typed_application, typed_lambda, typed_let, typed_case, typed_con, ArgsAreGiven, no_args, one_arg, no_binds, one_bind}
+use Rattle.fc_model.proofs.Parts.{and_then_inv, err_ok, ok_ok, part}
+use Rattle.fc_model.proofs.Resolved.{within_inv}
+use Rattle.fc_model.proofs.Sameness.{and_inv}
+use Rattle.fc_model.proofs.TypedIs.{given_type_is}
+use Rattle.fc_meaning.specs.Laws.{Agrees}
+use Rattle.fc_meaning.proofs.ArgSorts.{sort_is}
+use Rattle.fc_meaning.proofs.BuiltExpressions.{AreBuiltArgs, AreBuiltDecls, IsBuiltExpr, decls_built}
 use Rattle.fc_meaning.proofs.Optional.{some_is, none_some}
-use Rattle.fc_meaning.proofs.PrimitiveRange.{literal_in_range}
 
--- closed and sorted, and an atom where its place is unlifted
-abbrev IsPlaced : NExpr → Type 0
-IsPlaced e = IsSorted [] (erased no_scope e) × IsAtom [] (sort_of no_scope e) (erased no_scope e)
+-- EXPRESSIONS
 
-abbrev ArePlaced : NArgs → Type 0
-ArePlaced args = AreSorted [] (erased_args no_scope args) × HasSorts [] (arg_sorts no_scope args) (erased_args no_scope args)
+-- each variable has a binder of the sort of its type among those in scope
+abbrev Fits : Context → Scope → List Sort → Type 0
+Fits c s g = (i : ℕ) (t : NTy) → local_value c.values i ≡ Ok t → (s.sorts i ≡ sort_of_type t) × (sort_at g (s.values i) ≡ Some (sort_of_type t))
+
+agrees : (c : Context) (s : Scope) (g : List Sort) → Fits c s g → Agrees c s
+agrees c s g fits i t p = (fits i t p).0
+
+fits_closed : Fits no_context no_scope []
+fits_closed i t p = err_ok p
+
+fits_below : (c : Context) (s : Scope) (g : List Sort) (t : NTy) → Fits c s g → Fits (with_value t c) (below_value (sort_of_type t) s) (sort_of_type t ∷ g)
+unfolding sort_at upr
+fits_below c s g t fits zero u p = (ap sort_of_type (ok_ok p), ap (λ x. Some (sort_of_type x)) (ok_ok p))
+fits_below c s g t fits (suc i) u p = fits i u p
+
+-- a variable is an atom at the sort of its binder
+variable_is_atom : (g : List Sort) (o : Sort) (n : ℕ) → sort_at g n ≡ Some o → IsAtom g o (Var n)
+variable_is_atom g Lifted n h = tt
+variable_is_atom g Unlifted n h = h
+
+-- what has a type is an atom where its sort is unlifted
+is_placed : {ms : List NModule} {c : Context} {e : NExpr} {t : NTy} (s : Scope) (g : List Sort) → Fits c s g → HasType ms c e t → IsAtom g (sort_of s e) (erased s e)
+is_placed s g fits (typed_local {i = i} {t = t} p) =
+    let q = fits i t p in variable_is_atom g (s.sorts i) (s.values i) (q.1 ∙ ap (λ o. Some o) (sym q.0))
+is_placed s g fits (typed_declared p) = tt
+is_placed s g fits typed_literal = tt
+is_placed s g fits (typed_application t f a atom) = tt
+is_placed s g fits (typed_lambda k t v e) = tt
+is_placed s g fits (typed_let bs e) = tt
+is_placed s g fits (typed_case j k e t r alts v) = tt
+is_placed s g fits (typed_con k gs is args l t a) = tt
+
+module _ (m : NModule) (lint : lint_or_fault m ≡ Ok done) where
+  mutual
+    expr_sorted : {c : Context} {e : NExpr} {t : NTy} (s : Scope) (g : List Sort) → Fits c s g → HasType (m ∷ []) c e t → IsBuiltExpr e → IsSorted g (erased s e)
+    expr_sorted s g fits (typed_local {i = i} {t = t} p) b = (sort_of_type t, (fits i t p).1)
+    expr_sorted s g fits (typed_declared p) b = tt
+    expr_sorted s g fits typed_literal b = b
+    expr_sorted s g fits (typed_application t f a atom) b = (expr_sorted s g fits f b.0, expr_sorted s g fits a b.1, is_placed s g fits a)
+    expr_sorted {c = c} s g fits (typed_lambda {t = t} k kind v e) b = expr_sorted (below_value (sort_of_type t) s) (sort_of_type t ∷ g) (fits_below c s g t fits) e b
+    expr_sorted {c = c} s g fits (typed_let {r = false} (one_bind {t = t} {e = d} k kind v right atom no_binds) e) b =
+        let placed = subst (λ o. IsAtom g o (erased s d)) (sort_is m lint c s (agrees c s g fits) d t right atom) (is_placed s g fits right) in
+        let body = expr_sorted (below_value (sort_of_type t) s) (sort_of_type t ∷ g) (fits_below c s g t fits) e b.1 in
+        (expr_sorted s g fits right b.0, placed, body)
+    expr_sorted s g fits (typed_let {r = false} no_binds e) b = absurd b.0
+    expr_sorted s g fits (typed_let {r = false} (one_bind k kind v right atom (one_bind k' kind' v' right' atom' rest)) e) b = absurd b.0
+    expr_sorted s g fits (typed_let {r = true} bs e) b = absurd b
+    expr_sorted s g fits (typed_case j k e t r alts v) b = absurd b
+    expr_sorted s g fits (typed_con k gs is args l t a) b = args_sorted s g fits args b
+
+    args_sorted : {c : Context} {args : NArgs} {gs : List Given} (s : Scope) (g : List Sort) → Fits c s g → ArgsAreGiven (m ∷ []) c args gs → AreBuiltArgs args
+        → AreSorted g (erased_args s args) × HasSorts g (arg_sorts s args) (erased_args s args)
+    args_sorted s g fits no_args b = (tt, tt)
+    args_sorted s g fits (one_arg a rest) b =
+        let others = args_sorted s g fits rest b.1 in ((expr_sorted s g fits a b.0, others.0), (is_placed s g fits a, others.1))
+
+-- DEFINITIONS
 
 -- the right side of a definition is sorted
-abbrev pub IsDefSorted : NDecl → Type 0
+abbrev IsDefSorted : NDecl → Type 0
 IsDefSorted (NData n ps cs) = Unit {0}
 IsDefSorted (NNew n ps t con) = Unit {0}
 IsDefSorted (NFamily n ps k) = Unit {0}
@@ -36,61 +94,45 @@ IsDefSorted (NAxiom n ps t u) = Unit {0}
 IsDefSorted (NDef n t e) = IsSorted [] (erased no_scope e)
 IsDefSorted (NWrap n t e) = IsSorted [] (erased no_scope e)
 
-abbrev pub AreDefsSorted : List NDecl → Type 0
+abbrev AreDefsSorted : List NDecl → Type 0
 AreDefsSorted [] = Unit {0}
 AreDefsSorted (d ∷ ds) = IsDefSorted d × AreDefsSorted ds
 
-module _ (top : Top) where
-  var_placed : (m : Option Word) (w : Word) (u : NExpr) → resolved_var top no_locals m w ≡ Ok u → IsPlaced u
-  var_placed None w u h = let p = and_then_inv (declared_name top top.terms None w) _ u h in subst IsPlaced (ok_ok p.2) (tt, tt)
-  var_placed (Some m) w u h = let p = and_then_inv (declared_name top top.terms (Some m) w) _ u h in subst IsPlaced (ok_ok p.2) (tt, tt)
+module _ (m : NModule) (lint : lint_or_fault m ≡ Ok done) where
+  right_sorted : (t : NTy) (e : NExpr) → right_side_judged (m ∷ []) t e ≡ Ok done → IsBuiltExpr e → IsSorted [] (erased no_scope e)
+  right_sorted t e h b =
+      let p = part 1 (type_or_fault (m ∷ []) no_context e) _ done h in
+      expr_sorted m lint no_scope [] fits_closed (given_type_is (m ∷ []) no_context e p.0 p.1) b
 
-  mutual
-    expr_placed : (e : Expr) (u : NExpr) → is_expr_formed e ≡ true → resolved_expr top no_locals e ≡ Ok u → IsPlaced u
-    expr_placed (EVar n) u f h = var_placed n.module n.text u h
-    expr_placed (ELit n) u f h = subst IsPlaced (ok_ok h) (literal_in_range n f, tt)
-    expr_placed (ECon n args) u f h =
-        let a = and_inv (is_upper_word n.text) (are_args_formed args) f in
-        let p = and_then_inv (declared_name top top.terms n.module n.text) _ u h in
-        let q = and_then_inv (resolved_args top no_locals 0 args) _ u p.2 in
-        subst IsPlaced (ok_ok q.2) (args_placed 0 args q.0 a.1 q.1, tt)
-    expr_placed e u f h = false_true f
+  -- nothing but that there is no fault
+  done_is : (d : Done) → d ≡ done
+  done_is done = refl
 
-    args_placed : (i : ℕ) (args : Args) (us : NArgs) → are_args_formed args ≡ true → resolved_args top no_locals i args ≡ Ok us → ArePlaced us
-    args_placed i NoArgs us f h = subst ArePlaced (ok_ok h) (tt, tt)
-    args_placed i (MoreArgs (ATerm e) rest) us f h =
-        let c = and_inv (is_expr_formed e) (are_args_formed rest) f in
-        let p = part i (resolved_arg top no_locals (ATerm e)) _ us h in
-        let q = then_arg_inv p.0 (resolved_args top no_locals (i + 1) rest) us p.2 in
-        let r = and_then_inv (resolved_expr top no_locals e) _ p.0 p.1 in
-        let first = expr_placed e r.0 c.0 r.1 in
-        let others = args_placed (i + 1) rest q.0 c.1 q.1 in
-        subst ArePlaced q.2 (subst (λ a. ArePlaced (MoreNArgs a q.0)) (ok_ok r.2) ((first.0, others.0), (first.1, others.1)))
-    args_placed i (MoreArgs a rest) us f h = false_true f
+  definition_sorted : (n : Word) (t : NTy) (e : NExpr) (ds : List NDecl) → and_then (within n (right_side_judged (m ∷ []) t e)) (λ _. rights_judged (m ∷ []) ds) ≡ Ok done → IsBuiltExpr e
+      → IsSorted [] (erased no_scope e) × (rights_judged (m ∷ []) ds ≡ Ok done)
+  definition_sorted n t e ds h b =
+      let p = and_then_inv (within n (right_side_judged (m ∷ []) t e)) _ done h in
+      let q = within_inv n (right_side_judged (m ∷ []) t e) p.0 p.1 in
+      (right_sorted t e (q ∙ ap (λ d. Ok d) (done_is p.0)) b, p.2)
 
-  decl_sorted : (ws : Words) (d : Decl) (u : NDecl) → is_decl_formed d ≡ true → resolved_decl top ws d ≡ Ok u → IsDefSorted u
-  decl_sorted ws (DData n ps cs) u f h =
-      let p = need_inv (not (ws.types n)) _ _ u h in
-      let q = and_then_inv (distinct_params no_word 0 (map param_word ps)) _ u p.1 in
-      let r = and_then_inv (resolved_cons top (in_params (map param_word ps)) ws.terms q.0 cs) _ u q.2 in
-      subst IsDefSorted (ok_ok r.2) tt
-  decl_sorted ws (DDef n t e) u f h =
-      let a = and_inv (is_lower_word n) _ f in
-      let b = and_inv (is_type_formed t) (is_expr_formed e) a.1 in
-      let p = need_inv (not (ws.terms n)) _ _ u h in
-      let q = part 0 (resolved_ty top [] t) _ u p.1 in
-      let r = part 1 (resolved_expr top no_locals e) _ u q.2 in
-      subst IsDefSorted (ok_ok r.2) (expr_placed e r.0 b.1 r.1).0
-  decl_sorted ws d u f h = false_true f
+  defs_sorted : (ds : List NDecl) → AreBuiltDecls ds → rights_judged (m ∷ []) ds ≡ Ok done → AreDefsSorted ds
+  defs_sorted [] b h = tt
+  defs_sorted (NData n ps cs ∷ ds) b h = (tt, defs_sorted ds b.1 h)
+  defs_sorted (NNew n ps t con ∷ ds) b h = (tt, defs_sorted ds b.1 h)
+  defs_sorted (NFamily n ps k ∷ ds) b h = (tt, defs_sorted ds b.1 h)
+  defs_sorted (NAxiom n ps t u ∷ ds) b h = (tt, defs_sorted ds b.1 h)
+  defs_sorted (NDef n t e ∷ ds) b h = let p = definition_sorted n t e ds h b.0 in (p.0, defs_sorted ds b.1 p.1)
+  defs_sorted (NWrap n t e ∷ ds) b h = let p = definition_sorted n t e ds h b.0 in (p.0, defs_sorted ds b.1 p.1)
 
-  decls_sorted : (ws : Words) (ds : List Decl) (us : List NDecl) → list_all is_decl_formed ds ≡ true → resolved_decls top ws ds ≡ Ok us → AreDefsSorted us
-  decls_sorted ws [] us f h = subst AreDefsSorted (ok_ok h) tt
-  decls_sorted ws (d ∷ ds) us f h =
-      let a = and_inv (is_decl_formed d) (list_all is_decl_formed ds) f in
-      let p = and_then_inv (within (decl_word d) (resolved_decl top ws d)) _ us h in
-      let q = then_item_inv p.0 (resolved_decls top (behind d ws) ds) us p.2 in
-      subst AreDefsSorted q.2
-      (decl_sorted ws d p.0 a.0 (within_inv (decl_word d) (resolved_decl top ws d) p.0 p.1), decls_sorted (behind d ws) ds q.0 a.1 q.1)
+-- the right sides of a module that lints have their types
+rights_hold : (own : Word) (imports exports hidden : List Word) (ds : List NDecl) → lint_or_fault (NModuleOf own imports exports hidden ds) ≡ Ok done
+    → rights_judged (NModuleOf own imports exports hidden ds ∷ []) ds ≡ Ok done
+rights_hold own imports exports hidden ds lint =
+    let m = NModuleOf own imports exports hidden ds in
+    let p = and_then_inv (exports_judged m) _ done lint in
+    let q = and_then_inv (type_decls_judged (m ∷ []) ds) _ done p.2 in
+    let r = and_then_inv (def_types_judged (m ∷ []) ds) _ done q.2 in
+    r.2
 
 when_found : (b : Bool) (e t : Term) (o : Option Term) → IsSorted [] e → (o ≡ Some t → IsSorted [] t) → (if b then Some e else o) ≡ Some t → IsSorted [] t
 when_found true e t o s rest h = subst (IsSorted []) (some_is h) s
@@ -115,11 +157,15 @@ module_sorted own imports exports hidden ds (Some v) w t s h = go (bytes_eq own 
     go true x = right_side_sorted ds w t s x
     go false x = absurd (none_some x)
 
-pub formed_is_sorted : (m : Module) (n : NModule) → IsFormed m → Resolves m n → (x : Name) (t : Term) → program_of (n ∷ []) x ≡ Some t → IsSorted [] t
-formed_is_sorted (ModuleOf own imports exports hidden ds) n f r x t h =
+pub formed_is_sorted : (m : Module) (n : NModule) → IsBuilt m → IsFormed m → Resolves m n → Lints m → (x : Name) (t : Term) → program_of (n ∷ []) x ≡ Some t → IsSorted [] t
+formed_is_sorted (ModuleOf own imports exports hidden ds) n b f r lints x t h =
     let a = and_inv (is_module_part own && is_word own) ((list_all is_word exports && list_all is_word hidden) && list_all is_decl_formed ds) f in
-    let b = and_inv (list_all is_word exports && list_all is_word hidden) (list_all is_decl_formed ds) a.1 in
+    let formed = and_inv (list_all is_word exports && list_all is_word hidden) (list_all is_decl_formed ds) a.1 in
+    let built = and_inv (is_empty_list imports) (list_all is_decl_built ds) b in
     let top = top_of (ModuleOf own imports exports hidden ds) in
     let p = and_then_inv (resolved_decls top no_words ds) _ n r in
-    module_sorted own imports exports hidden p.0 x.module x.text t (decls_sorted top no_words ds p.0 b.1 p.1)
-    (subst (λ k. program_of (k ∷ []) x ≡ Some t) (sym (ok_ok p.2)) h)
+    let same = sym (ok_ok p.2) in
+    let lint = subst (λ k. lint_or_fault k ≡ Ok done) same (sym (ap (λ o. and_then o (λ k. lint_or_fault k)) r) ∙ lints) in
+    let all = decls_built top no_words ds p.0 formed.1 built.1 p.1 in
+    let sorted = defs_sorted (NModuleOf own imports exports hidden p.0) lint p.0 all (rights_hold own imports exports hidden p.0 lint) in
+    module_sorted own imports exports hidden p.0 x.module x.text t sorted (subst (λ k. program_of (k ∷ []) x ≡ Some t) same h)

@@ -15,6 +15,7 @@ ghost use Rattle.fc_meaning.specs.Examples.{
   UnusedLetShowsBody,
 };
 ghost use Rattle.fc_meaning.specs.Laws.{
+  ArgumentSortIsOfType,
   DefaultTakesLambda,
   GroupUnrolls,
   HeadsAreUnique,
@@ -58,11 +59,13 @@ pub fn steps_keep_sorts()
     ensures kept { StepsKeepSorts }
 {}
 
-/// The definitions of a module that lints are sorted when their types are gone, and the sort that is read off what stands at a
-/// field is that of the field's type; for the forms that are built.
+/// The definitions of a module that lints are sorted when their types are gone, if it has only the forms that are built. The
+/// sort that is read off what stands at a field is that of the field's type, and the sort that is read off the argument of an
+/// application is that of the argument's type.
 pub fn what_lints_is_sorted()
     ensures sorted { LintedIsSorted }
     ensures sorts { SortsAreOfTypes }
+    ensures arguments { ArgumentSortIsOfType }
 {}
 
 /// What some terms show, in any program.

@@ -4,7 +4,7 @@ use Rattle.fc_syntax.specs.Tree.{Word, Decl}
 use Rattle.fc_model.specs.Resolution.{WordSet, Words, plus, plus_all, words_by, type_words, term_words, coercion_words, behind}
 use Rattle.fc_model.specs.WordSets.{all_behind}
 
-plus_both : (vs ws : List Word) (s : WordSet) → plus_all (vs ++ ws) s ≡ plus_all ws (plus_all vs s)
+pub plus_both : (vs ws : List Word) (s : WordSet) → plus_all (vs ++ ws) s ≡ plus_all ws (plus_all vs s)
 plus_both [] ws s = refl
 plus_both (v ∷ vs) ws s = plus_both vs ws (plus v s)
 

@@ -1,11 +1,16 @@
 -- Lists that are built item by item.
-use Rattle.std.proofs.Common.{◌≡◌, ◌++◌, List, [], ◌∷◌, map, Result, Ok, Err, refl, ap}
+use Rattle.std.proofs.Common.{◌≡◌, ◌∙◌, ◌+◌, ◌<◌, ℕ, ◌++◌, List, [], ◌∷◌, drop, get_or, length, map, Result, Ok, Err, refl, sym, ap}
+use Rattle.std.proofs.lemmas.List.{drop_more}
 use Rattle.fc_model.specs.Faulting.{F}
 use Rattle.fc_model.specs.Nameless.{NArgs, NoNArgs, MoreNArgs}
 use Rattle.fc_model.specs.NamelessView.{narg_of, nargs_of}
 use Rattle.fc_model.specs.Resolution.{then_item, then_arg}
 use Rattle.fc_model.specs.Building.{with_items, nargs_before, with_args}
 use Rattle.fc_model.specs.declared.nameless.NArg as A
+
+-- what is left of a list begins with the item that is reached
+pub drop_item : {X : Type 0} (xs : List X) (k : ℕ) (x : X) → k < length xs → x ≡ get_or xs k x → drop k xs ≡ x ∷ drop (k + 1) xs
+drop_item xs k x low is = drop_more xs k x low ∙ ap (λ y. y ∷ drop (k + 1) xs) (sym is)
 
 append_item : {X Y : Type 0} (view : X → Y) (items : List X) (x : X) (rest : List Y) → map view items ++ view x ∷ rest ≡ map view (items ++ x ∷ []) ++ rest
 append_item view [] x rest = refl

@@ -12,3 +12,5 @@ pub mod TypedIs
 pub mod Variables
 pub mod UnderHeader
 pub mod TypesRead
+pub mod Scopes
+pub mod Locals

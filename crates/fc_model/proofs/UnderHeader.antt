@@ -161,7 +161,8 @@ module _ (ms ns : List NModule) (same : (o : Option Word) → decls_at ms o ≡ 
   rights_same [] = refl
   rights_same (d ∷ ds) = both_same _ _ _ _ (ap (within (ndecl_word d)) (right_same d)) (λ _. rights_same ds)
 
-at_hidden : (m : Word) (imports exports h g : List Word) (ds : List NDecl) (o : Option Word) → decls_at (NModuleOf m imports exports h ds ∷ []) o ≡ decls_at (NModuleOf m imports exports g ds ∷ []) o
+-- other hidden words leave the declarations as they are
+pub at_hidden : (m : Word) (imports exports h g : List Word) (ds : List NDecl) (o : Option Word) → decls_at (NModuleOf m imports exports h ds ∷ []) o ≡ decls_at (NModuleOf m imports exports g ds ∷ []) o
 at_hidden m imports exports h g ds None = refl
 at_hidden m imports exports h g ds (Some w) = refl
 

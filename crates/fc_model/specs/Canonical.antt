@@ -5,7 +5,7 @@ use Rattle.std.specs.Fmt.{signed_decimal}
 use Rattle.fc_syntax.specs.declared.ty.Name.{Name}
 use Rattle.fc_syntax.specs.Tree.{Word, Ty, TVar, TCon, TInt, TApp, TFun, TForall, TCoForall}
 use Rattle.fc_syntax.specs.Tree.{Expr, EVar, ELit, EApp, ELam, ELet, ECase, ECast, ECon, EPrim, EFail, EJoin, EJump, Arg, ATerm, AType, ACo, Args, NoArgs, MoreArgs}
-use Rattle.fc_syntax.specs.Tree.{ConDecl, ConOf, Decl, DData, DNew, DFamily, DAxiom, DDef, DWrap, Module, ModuleOf}
+use Rattle.fc_syntax.specs.Tree.{Binder, BValue, BType, BCo, Bound, Binds, NoBinds, MoreBinds, ConDecl, ConOf, Decl, DData, DNew, DFamily, DAxiom, DDef, DWrap, Module, ModuleOf}
 use Rattle.fc_syntax.specs.Tokens.{is_lower_name, is_module_part, is_plain_name, is_upper_name}
 use Rattle.fc_model.specs.Words.{keyword_of}
 
@@ -36,15 +36,34 @@ header_text (ModuleOf m imports exports hidden ds) =
 abbrev pub name_text : Name → List ℕ
 name_text n = n.text
 
+-- Where a piece stands: by itself, or where it is flattened into the piece around it. The result of a function goes on with the
+-- list of its parts, the head of an application begins it, and the body of a lambda ends the list of its binders.
+pub data Place : Type 0 where
+  Alone : Place
+  Result : Place
+  AsHead : Place
+  Body : Place
+
+-- what does not go on with the piece around it
+abbrev pub placed : Place → List ℕ → List ℕ
+placed Alone t = t
+placed Result t = 32 ∷ t
+placed AsHead t = codes "(app " ++ t
+placed Body t = codes ") " ++ (t ++ codes ")")
+
 -- forms that are not built yet have no text
+abbrev pub type_at : Ty → Place → List ℕ
+type_at (TVar a) at = []
+type_at (TCon n) at = placed at (name_text n)
+type_at TInt at = placed at (codes "Int#")
+type_at (TApp t u) at = []
+type_at (TFun t u) Result = 32 ∷ (type_at t Alone ++ type_at u Result)
+type_at (TFun t u) at = placed at (codes "(fun " ++ (type_at t Alone ++ (type_at u Result ++ codes ")")))
+type_at (TForall a k t) at = []
+type_at (TCoForall r t u v) at = []
+
 abbrev pub type_text : Ty → List ℕ
-type_text (TVar a) = []
-type_text (TCon n) = name_text n
-type_text TInt = codes "Int#"
-type_text (TApp t u) = []
-type_text (TFun t u) = []
-type_text (TForall a k t) = []
-type_text (TCoForall r t u v) = []
+type_text t = type_at t Alone
 
 -- one space before each type
 abbrev pub types_text : List Ty → List ℕ
@@ -55,23 +74,30 @@ types_text (t ∷ ts) = 32 ∷ (type_text t ++ types_text ts)
 abbrev pub literal_text : ℤ → List ℕ
 literal_text n = signed_decimal n ++ codes "#"
 
+abbrev pub binder_text : Binder → List ℕ
+binder_text (BValue x t) = codes "(" ++ (x ++ (32 ∷ (type_text t ++ codes ")")))
+binder_text (BType a k) = []
+binder_text (BCo c r t u) = []
+
 abbrev mutual
-  pub expr_text : Expr → List ℕ
-  expr_text (EVar n) = name_text n
-  expr_text (ELit n) = literal_text n
-  expr_text (EApp f a) = []
-  expr_text (ELam b e) = []
-  expr_text (ELet r bs e) = []
-  expr_text (ECase e x t u alts) = []
-  expr_text (ECast e g) = []
-  expr_text (ECon n args) = codes "(con " ++ (name_text n ++ (args_text args ++ codes ")"))
-  expr_text (EPrim op es) = []
-  expr_text (EFail t) = []
-  expr_text (EJoin r t js e) = []
-  expr_text (EJump j args) = []
+  pub expr_at : Expr → Place → List ℕ
+  expr_at (EVar n) at = placed at (name_text n)
+  expr_at (ELit n) at = placed at (literal_text n)
+  expr_at (EApp f a) AsHead = expr_at f AsHead ++ (32 ∷ arg_text a)
+  expr_at (EApp f a) at = placed at (expr_at f AsHead ++ (32 ∷ (arg_text a ++ codes ")")))
+  expr_at (ELam b e) Body = 32 ∷ (binder_text b ++ expr_at e Body)
+  expr_at (ELam b e) at = placed at (codes "(lam (" ++ (binder_text b ++ expr_at e Body))
+  expr_at (ELet r bs e) at = placed at (codes "(let " ++ (binds_text bs ++ (32 ∷ (expr_at e Alone ++ codes ")"))))
+  expr_at (ECase e x t u alts) at = []
+  expr_at (ECast e g) at = []
+  expr_at (ECon n args) at = placed at (codes "(con " ++ (name_text n ++ (args_text args ++ codes ")")))
+  expr_at (EPrim op es) at = []
+  expr_at (EFail t) at = []
+  expr_at (EJoin r t js e) at = []
+  expr_at (EJump j args) at = []
 
   pub arg_text : Arg → List ℕ
-  arg_text (ATerm e) = expr_text e
+  arg_text (ATerm e) = expr_at e Alone
   arg_text (AType t) = []
   arg_text (ACo g) = []
 
@@ -79,6 +105,13 @@ abbrev mutual
   pub args_text : Args → List ℕ
   args_text NoArgs = []
   args_text (MoreArgs a rest) = 32 ∷ (arg_text a ++ args_text rest)
+
+  pub binds_text : Binds → List ℕ
+  binds_text NoBinds = []
+  binds_text (MoreBinds (Bound x t e) rest) = codes "(" ++ (x ++ (32 ∷ (type_text t ++ (32 ∷ (expr_at e Alone ++ (codes ")" ++ binds_text rest))))))
+
+abbrev pub expr_text : Expr → List ℕ
+expr_text e = expr_at e Alone
 
 -- DECLARATIONS
 
@@ -153,13 +186,18 @@ is_type_formed (TFun t u) = is_type_formed t && is_type_formed u
 is_type_formed (TForall a k t) = is_lower_word a && is_type_formed t
 is_type_formed (TCoForall r t u v) = is_type_formed t && (is_type_formed u && is_type_formed v)
 
+abbrev pub is_binder_formed : Binder → Bool
+is_binder_formed (BValue x t) = is_lower_word x && is_type_formed t
+is_binder_formed (BType a k) = false
+is_binder_formed (BCo c r t u) = false
+
 abbrev mutual
   pub is_expr_formed : Expr → Bool
   is_expr_formed (EVar n) = is_lower_word n.text
   is_expr_formed (ELit n) = is_literal_formed n
-  is_expr_formed (EApp f a) = false
-  is_expr_formed (ELam b e) = false
-  is_expr_formed (ELet r bs e) = false
+  is_expr_formed (EApp f a) = is_expr_formed f && is_arg_formed a
+  is_expr_formed (ELam b e) = is_binder_formed b && is_expr_formed e
+  is_expr_formed (ELet r bs e) = are_binds_formed bs && is_expr_formed e
   is_expr_formed (ECase e x t u alts) = false
   is_expr_formed (ECast e g) = false
   is_expr_formed (ECon n args) = is_upper_word n.text && are_args_formed args
@@ -176,6 +214,10 @@ abbrev mutual
   pub are_args_formed : Args → Bool
   are_args_formed NoArgs = true
   are_args_formed (MoreArgs a rest) = is_arg_formed a && are_args_formed rest
+
+  pub are_binds_formed : Binds → Bool
+  are_binds_formed NoBinds = true
+  are_binds_formed (MoreBinds (Bound x t e) rest) = (is_lower_word x && (is_type_formed t && is_expr_formed e)) && are_binds_formed rest
 
 abbrev pub is_con_formed : ConDecl → Bool
 is_con_formed (ConOf n bs fields) = is_upper_word n && list_all is_type_formed fields
@@ -206,17 +248,23 @@ is_type_built (TVar a) = false
 is_type_built (TCon n) = is_name_built n
 is_type_built TInt = true
 is_type_built (TApp t u) = false
-is_type_built (TFun t u) = false
+is_type_built (TFun t u) = is_type_built t && is_type_built u
 is_type_built (TForall a k t) = false
 is_type_built (TCoForall r t u v) = false
+
+abbrev pub is_binder_built : Binder → Bool
+is_binder_built (BValue x t) = is_type_built t
+is_binder_built (BType a k) = false
+is_binder_built (BCo c r t u) = false
 
 abbrev mutual
   pub is_expr_built : Expr → Bool
   is_expr_built (EVar n) = is_name_built n
   is_expr_built (ELit n) = true
-  is_expr_built (EApp f a) = false
-  is_expr_built (ELam b e) = false
-  is_expr_built (ELet r bs e) = false
+  is_expr_built (EApp f a) = is_expr_built f && is_arg_built a
+  is_expr_built (ELam b e) = is_binder_built b && is_expr_built e
+  is_expr_built (ELet true bs e) = false
+  is_expr_built (ELet false bs e) = is_bind_built bs && is_expr_built e
   is_expr_built (ECase e x t u alts) = false
   is_expr_built (ECast e g) = false
   is_expr_built (ECon n args) = is_name_built n && are_args_built args
@@ -233,6 +281,12 @@ abbrev mutual
   pub are_args_built : Args → Bool
   are_args_built NoArgs = true
   are_args_built (MoreArgs a rest) = is_arg_built a && are_args_built rest
+
+  -- one bind
+  pub is_bind_built : Binds → Bool
+  is_bind_built NoBinds = false
+  is_bind_built (MoreBinds (Bound x t e) NoBinds) = is_type_built t && is_expr_built e
+  is_bind_built (MoreBinds (Bound x t e) (MoreBinds b rest)) = false
 
 abbrev pub is_empty_list : {X : Type 0} → List X → Bool
 is_empty_list [] = true

@@ -1,6 +1,5 @@
 pub mod Acceptance
 pub mod Building
-pub mod BuiltForms
 pub mod Canonical
 pub mod Erasure
 pub mod Faulting
@@ -21,3 +20,4 @@ pub mod Texts
 pub mod Typing
 pub mod WordSets
 pub mod Words
+pub mod Scopes

@@ -1,9 +1,10 @@
 -- The grammar of the text form, as a relation between tokens and trees, one case for each of its lines. `TypeAt ts t rest` says
 -- that the tokens `ts` begin with a text of the type `t`, and that `rest` follows it; the others read likewise. Nested and
 -- flattened spellings give one tree. White space, comments and leading zeros are not seen here.
-use Rattle.std.specs.Prelude.{◌≡◌, ℕ, ℤ, true, List, [], ◌∷◌, map, None, Ok}
+use Rattle.std.specs.Prelude.{◌≡◌, ℕ, ℤ, true, false, List, [], ◌∷◌, map, None, Ok}
 use Rattle.fc_syntax.specs.declared.ty.Name.{Name}
-use Rattle.fc_syntax.specs.Tree.{Word, Ty, TCon, TInt, ConDecl, ConOf, Expr, EVar, ELit, ECon, ATerm, Args, NoArgs, MoreArgs, Decl, DData, DDef, Module, ModuleOf}
+use Rattle.fc_syntax.specs.Tree.{Word, Ty, TCon, TInt, TFun, ConDecl, ConOf, Binder, BValue, Bound, NoBinds, MoreBinds, Expr, EVar, ELit, EApp, ELam, ELet, ECon, ATerm, Args, NoArgs, MoreArgs}
+use Rattle.fc_syntax.specs.Tree.{Decl, DData, DDef, Module, ModuleOf}
 use Rattle.fc_syntax.specs.Tokens.{Lexeme, is_module_part, tokens_of}
 use Rattle.fc_model.specs.declared.keyword.Keyword.TheVariants as word
 use Rattle.fc_model.specs.Words.{Tok, Open, Close, Key, Lower, Upper, Literal, tok_of}
@@ -18,15 +19,23 @@ pub data NamesAt : List Tok → List Word → List Tok → Type 0 where
   names_lower : {ts rest : List Tok} {w : Word} {ns : List Word} → NamesAt ts ns rest → NamesAt (Lower w ∷ ts) (w ∷ ns) rest
   names_upper : {ts rest : List Tok} {w : Word} {ns : List Word} → NamesAt ts ns rest → NamesAt (Upper w ∷ ts) (w ∷ ns) rest
 
--- type ::= T | Int#
-pub data TypeAt : List Tok → Ty → List Tok → Type 0 where
-  type_con : {rest : List Tok} {w : Word} → TypeAt (Upper w ∷ rest) (TCon (plain_name w)) rest
-  type_int : {rest : List Tok} → TypeAt (Key word.IntHash ∷ rest) TInt rest
+-- from the first of these to what follows it, and so on: the last is the result
+abbrev pub functions : Ty → List Ty → Ty
+functions t [] = t
+functions t (u ∷ us) = TFun t (functions u us)
 
--- type* )
-pub data TypesAt : List Tok → List Ty → List Tok → Type 0 where
-  types_end : {rest : List Tok} → TypesAt (Close ∷ rest) [] rest
-  types_more : {ts us rest : List Tok} {t : Ty} {tys : List Ty} → TypeAt ts t us → TypesAt us tys rest → TypesAt ts (t ∷ tys) rest
+mutual
+  -- type ::= T | Int# | (fun type type+)
+  pub data TypeAt : List Tok → Ty → List Tok → Type 0 where
+    type_con : {rest : List Tok} {w : Word} → TypeAt (Upper w ∷ rest) (TCon (plain_name w)) rest
+    type_int : {rest : List Tok} → TypeAt (Key word.IntHash ∷ rest) TInt rest
+    type_fun : {ts us vs rest : List Tok} {t u : Ty} {tys : List Ty} → TypeAt ts t us → TypeAt us u vs → TypesAt vs tys rest
+        → TypeAt (Open ∷ Key word.Fun ∷ ts) (TFun t (functions u tys)) rest
+
+  -- type* )
+  pub data TypesAt : List Tok → List Ty → List Tok → Type 0 where
+    types_end : {rest : List Tok} → TypesAt (Close ∷ rest) [] rest
+    types_more : {ts us rest : List Tok} {t : Ty} {tys : List Ty} → TypeAt ts t us → TypesAt us tys rest → TypesAt ts (t ∷ tys) rest
 
 -- (K () type*)
 pub data ConAt : List Tok → ConDecl → List Tok → Type 0 where
@@ -37,12 +46,37 @@ pub data ConsAt : List Tok → List ConDecl → List Tok → Type 0 where
   cons_end : {rest : List Tok} → ConsAt (Close ∷ rest) [] rest
   cons_more : {ts us rest : List Tok} {c : ConDecl} {cs : List ConDecl} → ConAt ts c us → ConsAt us cs rest → ConsAt ts (c ∷ cs) rest
 
+-- (x type)
+pub data BinderAt : List Tok → Binder → List Tok → Type 0 where
+  binder_value : {ts rest : List Tok} {x : Word} {t : Ty} → TypeAt ts t (Close ∷ rest) → BinderAt (Open ∷ Lower x ∷ ts) (BValue x t) rest
+
+-- (x type)* )
+pub data BindersAt : List Tok → List Binder → List Tok → Type 0 where
+  binders_end : {rest : List Tok} → BindersAt (Close ∷ rest) [] rest
+  binders_more : {ts us rest : List Tok} {b : Binder} {bs : List Binder} → BinderAt ts b us → BindersAt us bs rest → BindersAt ts (b ∷ bs) rest
+
+-- a head applied to the first of these, then to the next
+abbrev pub applications : Expr → Args → Expr
+applications f NoArgs = f
+applications f (MoreArgs a rest) = applications (EApp f a) rest
+
+-- a lambda inside another for each binder
+abbrev pub lambdas : List Binder → Expr → Expr
+lambdas [] e = e
+lambdas (b ∷ bs) e = ELam b (lambdas bs e)
+
 mutual
-  -- expr ::= x | n# | (con K expr*)
+  -- expr ::= x | n# | (con K expr*) | (app expr expr+) | (lam ((x type)+) expr) | (let (x type expr) expr)
   pub data ExprAt : List Tok → Expr → List Tok → Type 0 where
     expr_var : {rest : List Tok} {w : Word} → ExprAt (Lower w ∷ rest) (EVar (plain_name w)) rest
     expr_lit : {rest : List Tok} {n : ℤ} → ExprAt (Literal n ∷ rest) (ELit n) rest
     expr_con : {ts rest : List Tok} {k : Word} {args : Args} → ArgsAt ts args rest → ExprAt (Open ∷ Key word.Con ∷ Upper k ∷ ts) (ECon (plain_name k) args) rest
+    expr_app : {ts us vs rest : List Tok} {f a : Expr} {args : Args} → ExprAt ts f us → ExprAt us a vs → ArgsAt vs args rest
+        → ExprAt (Open ∷ Key word.App ∷ ts) (applications (EApp f (ATerm a)) args) rest
+    expr_lam : {ts us vs rest : List Tok} {b : Binder} {bs : List Binder} {e : Expr} → BinderAt ts b us → BindersAt us bs vs → ExprAt vs e (Close ∷ rest)
+        → ExprAt (Open ∷ Key word.Lam ∷ Open ∷ ts) (ELam b (lambdas bs e)) rest
+    expr_let : {ts us vs rest : List Tok} {x : Word} {t : Ty} {d e : Expr} → TypeAt ts t us → ExprAt us d (Close ∷ vs) → ExprAt vs e (Close ∷ rest)
+        → ExprAt (Open ∷ Key word.Let ∷ Open ∷ Lower x ∷ ts) (ELet false (MoreBinds (Bound x t d) NoBinds) e) rest
 
   -- expr* )
   pub data ArgsAt : List Tok → Args → List Tok → Type 0 where

@@ -1,5 +1,6 @@
 //! The first premise that fails, on the way out to the public call.
-ghost use Rattle.std.specs.Prelude.{◌≡◌};
+ghost use Rattle.std.specs.Prelude.{◌≡◌, ◌+◌, IfOk, IfErr};
+ghost use Rattle.fc_model.specs.declared.flaw.Flawed.TheVariants.{Memory as memory};
 ghost use Rattle.fc_model.specs.Says.{Deepens, IsFlaw, StandsIn};
 
 use fc_syntax::{FaultKind, Memory, Seq, Text};
@@ -44,6 +45,24 @@ pub fn flaw_here(alloc: Global, kind: FaultKind) -> Flawed
         def: None,
         path: Seq::new(alloc),
     })
+}
+
+/// The answer for a form that is not built yet: want of memory, which says nothing of what is judged.
+pub fn not_built() -> Flawed
+    ensures { result ≡ memory }
+{
+    Flawed::Memory
+}
+
+/// The number of the next part, where it can be told.
+pub fn next_part(part: u32) -> Result<u32, Flawed>
+    ensures next { IfOk result (λ next. next ≡ part + 1) }
+    ensures memory { IfErr result (λ e. e ≡ memory) }
+{
+    match part.checked_add(1) {
+        Some(next) => Ok(next),
+        None => Err(Flawed::Memory),
+    }
 }
 
 /// The flaw of a part, seen from the piece whose part it is.

@@ -8,10 +8,11 @@ mod keyword;
 mod laws;
 mod nameless;
 mod resolving;
+mod scope;
 mod word_set;
 
 pub use declared::{Declared, Spaces};
-pub use flaw::{Flaw, Flawed, deeper, flaw_here, in_declaration};
+pub use flaw::{Flaw, Flawed, deeper, flaw_here, in_declaration, next_part, not_built};
 pub use header::written;
 pub use keyword::Keyword;
 pub use laws::judgements_agree;

@@ -1,31 +1,26 @@
 //! From names to distances. Forms that are not built yet never come here, since the reader lets none through; one of them would
 //! be answered with want of memory, which says nothing of the module.
-ghost use Rattle.std.specs.Prelude.{◌≡◌, ◌+◌, [], not, Ok, OnOk, IfOk};
+ghost use Rattle.std.specs.Prelude.{◌≡◌, ◌+◌, ◌∷◌, [], not, Ok, OnOk, IfOk};
 ghost use Rattle.fc_syntax.specs.declared.fault.FaultKind.TheVariants.{Duplicate};
-ghost use Rattle.fc_syntax.specs.Tree.{DData, DDef};
-ghost use Rattle.fc_syntax.specs.View.{ty_of, tys_of, expr_of, arg_of, args_of, con_of, cons_of, decl_of, decls_of, module_of};
+ghost use Rattle.fc_syntax.specs.Tree.{DData, DDef, ELam};
+ghost use Rattle.fc_syntax.specs.View.{bind_of, binder_of, ty_of, tys_of, expr_of, arg_of, args_of, con_of, cons_of, decl_of, decls_of, module_of};
 ghost use Rattle.fc_model.specs.Faulting.{and_then, need, under, within};
 ghost use Rattle.fc_model.specs.Nameless.{NModuleOf};
-ghost use Rattle.fc_model.specs.NamelessView.{nty_of, ntys_of, nexpr_of, narg_of, nargs_of, ncon_of, ncons_of, ndecl_of, ndecls_of, nmodule_of};
-ghost use Rattle.fc_model.specs.Resolution.{behind, con_words, no_locals, no_words, plus_all, declared_name, resolved_ty as ty_resolved, resolved_tys as tys_resolved, resolved_var, resolved_expr as expr_resolved, resolved_arg as arg_resolved, resolved_args as args_resolved, resolved_con as con_resolved, resolved_cons as cons_resolved, resolved_decl as decl_resolved, resolved_decls as decls_resolved, resolved_or_fault, decl_word};
+ghost use Rattle.fc_model.specs.NamelessView.{nbind_of, nty_of, ntys_of, nexpr_of, narg_of, nargs_of, ncon_of, ncons_of, ndecl_of, ndecls_of, nmodule_of};
+ghost use Rattle.fc_model.specs.Resolution.{behind, con_words, no_locals, no_words, plus_all, declared_name, resolved_ty as ty_resolved, resolved_tys as tys_resolved, resolved_var, resolved_expr as expr_resolved, resolved_arg as arg_resolved, resolved_bind as bind_resolved, resolved_args as args_resolved, resolved_con as con_resolved, resolved_cons as cons_resolved, resolved_decl as decl_resolved, resolved_decls as decls_resolved, resolved_or_fault, decl_word};
 ghost use Rattle.fc_model.specs.Says.{Says};
+ghost use Rattle.fc_model.specs.Scopes.{LocalIs, scope_of, words_in};
 ghost use Rattle.fc_model.specs.WordSets.{set_of, top_by, words_by_space};
 
 use crate::declared::{Declared, Spaces};
-use crate::flaw::{Flawed, deeper, flaw_here, in_declaration};
-use crate::nameless::{NArg, NConDecl, NDecl, NExpr, NModule, NTy};
+use crate::flaw::{Flawed, deeper, flaw_here, in_declaration, next_part};
+use crate::nameless::{NArg, NBind, NBinder, NConDecl, NDecl, NExpr, NModule, NTy};
+use crate::scope::Scope;
 use crate::word_set::WordSet;
-use fc_syntax::{Arg, ConDecl, Decl, Expr, FaultKind, Memory, Module, Name, Seq, Text, Ty};
+use fc_syntax::{
+    Arg, Bind, Binder, ConDecl, Decl, Expr, FaultKind, Memory, Module, Name, Seq, Text, Ty,
+};
 use std::alloc::Global;
-
-fn next_part(part: u32) -> Result<u32, Memory>
-    ensures { IfOk result (λ n. n ≡ part + 1) }
-{
-    match part.checked_add(1) {
-        Some(next) => Ok(next),
-        None => Err(Memory),
-    }
-}
 
 fn copied(alloc: Global, words: &[Text]) -> Result<Seq<Text>, Memory>
     ensures { IfOk result (λ s. s ≡ words.now) }
@@ -71,6 +66,14 @@ fn declared(alloc: Global, top: &Declared, words: &WordSet, name: &Name) -> Resu
 
 // TYPES
 
+/// A part in a box.
+fn boxed<T: Drop>(alloc: Global, part: T) -> Result<Box<T>, Memory>
+    ensures { IfOk result (λ b. b.value ≡ part) }
+{
+    Ok(Box::new(alloc, part)?)
+}
+
+#[cycle(types)]
 #[tactic(auto, using(fc_syntax::proofs::View::view_rules, crate::proofs::NamelessView::nview_rules))]
 fn resolved_ty(alloc: Global, top: &Declared, t: &Ty) -> Result<NTy, Flawed>
     ensures { Says nty_of result (ty_resolved (top_by top.now) [] (ty_of t.now)) }
@@ -80,12 +83,17 @@ fn resolved_ty(alloc: Global, top: &Declared, t: &Ty) -> Result<NTy, Flawed>
         Ty::IntHash => Ok(NTy::IntHash),
         Ty::Var(_) => Err(Flawed::Memory),
         Ty::App(_, _) => Err(Flawed::Memory),
-        Ty::Fun(_, _) => Err(Flawed::Memory),
+        Ty::Fun(from, to) => {
+            let from = ty_part(alloc, top, from, 0)?;
+            let to = ty_part(alloc, top, to, 1)?;
+            Ok(NTy::Fun(boxed(alloc, from)?, boxed(alloc, to)?))
+        }
         Ty::Forall(_, _, _) => Err(Flawed::Memory),
         Ty::CoForall(_, _, _, _) => Err(Flawed::Memory),
     }
 }
 
+#[cycle(types)]
 fn ty_part(alloc: Global, top: &Declared, t: &Ty, part: u32) -> Result<NTy, Flawed>
     ensures { Says nty_of result (under part (ty_resolved (top_by top.now) [] (ty_of t.now))) }
 {
@@ -111,30 +119,73 @@ fn resolved_tys(alloc: Global, top: &Declared, types: &[Ty]) -> Result<Seq<NTy>,
 
 // EXPRESSIONS
 
-#[tactic(auto, using(crate::proofs::NamelessView::nview_rules, crate::proofs::Variables::variable_declared))]
-fn variable(alloc: Global, top: &Declared, name: &Name) -> Result<NExpr, Flawed>
-    ensures { Says nexpr_of result (resolved_var (top_by top.now) no_locals name.now.module name.now.text) }
+/// A variable: the innermost binder of its word, else a definition.
+#[tactic(auto, using(crate::proofs::NamelessView::nview_rules, crate::proofs::Variables::variable_rules))]
+fn variable(alloc: Global, top: &Declared, scope: &Scope, name: &Name) -> Result<NExpr, Flawed>
+    ensures { Says nexpr_of result (resolved_var (top_by top.now) (scope_of (words_in scope.now)) name.now.module name.now.text) }
 {
-    let name = declared(alloc, top, &top.spaces.terms, name)?;
-    Ok(NExpr::Var(name))
+    match local(scope, name) {
+        Some(distance) => match u32::try_from(distance) {
+            Ok(distance) => Ok(NExpr::Local(distance)),
+            Err(_) => Err(Flawed::Memory),
+        },
+        None => {
+            let name = declared(alloc, top, &top.spaces.terms, name)?;
+            Ok(NExpr::Var(name))
+        }
+    }
 }
 
+/// The distance to the binder of a name without a module, where there is one.
+fn local(scope: &Scope, name: &Name) -> Option<usize>
+    ensures { LocalIs (words_in scope.now) name.now.module name.now.text result }
+{
+    match &name.module {
+        None => scope.distance(&name.text),
+        Some(_) => None,
+    }
+}
+
+/// An expression in a scope, which is as before where there is an answer.
 #[cycle(resolve)]
 #[tactic(auto, using(fc_syntax::proofs::View::view_rules, crate::proofs::NamelessView::nview_rules))]
-fn resolved_expr(alloc: Global, top: &Declared, e: &Expr) -> Result<NExpr, Flawed>
-    ensures { Says nexpr_of result (expr_resolved (top_by top.now) no_locals (expr_of e.now)) }
+fn resolved_expr(
+    alloc: Global,
+    top: &Declared,
+    scope: &mut Scope,
+    e: &Expr,
+) -> Result<NExpr, Flawed>
+    ensures says { Says nexpr_of result (expr_resolved (top_by top.now) (scope_of (words_in scope.old)) (expr_of e.now)) }
+    ensures scope { OnOk result (words_in scope.new ≡ words_in scope.old) }
 {
     match e {
-        Expr::Var(name) => variable(alloc, top, name),
+        Expr::Var(name) => variable(alloc, top, scope, name),
         Expr::Lit(n) => Ok(NExpr::Lit(*n)),
         Expr::Con(name, args) => {
             let name = declared(alloc, top, &top.spaces.terms, name)?;
-            let args = resolved_args(alloc, top, args.as_slice())?;
+            let args = resolved_args(alloc, top, scope, args.as_slice())?;
             Ok(NExpr::Con(name, args))
         }
-        Expr::App(_, _) => Err(Flawed::Memory),
-        Expr::Lam(_, _) => Err(Flawed::Memory),
-        Expr::Let(_, _, _) => Err(Flawed::Memory),
+        Expr::App(f, a) => {
+            let f = expr_part(alloc, top, scope, f, 0)?;
+            let a = arg_part(alloc, top, scope, a, 1)?;
+            Ok(NExpr::App(boxed(alloc, f)?, boxed(alloc, a)?))
+        }
+        Expr::Lam(binder, e) => lambda(alloc, top, scope, binder, e),
+        Expr::Let(recursive, binds, e) => {
+            if *recursive || binds.len() != 1 {
+                return Err(Flawed::Memory);
+            }
+            let bind = match resolved_bind(alloc, top, scope, binds.at(0)) {
+                Ok(bind) => bind,
+                Err(flawed) => return Err(flawed),
+            };
+            let e = match body(alloc, top, scope, &binds.at(0).name, e, 1) {
+                Ok(e) => e,
+                Err(flawed) => return Err(flawed),
+            };
+            Ok(NExpr::Let(false, only(alloc, bind)?, boxed(alloc, e)?))
+        }
         Expr::Case(_, _, _, _, _) => Err(Flawed::Memory),
         Expr::Cast(_, _) => Err(Flawed::Memory),
         Expr::Prim(_, _) => Err(Flawed::Memory),
@@ -144,22 +195,114 @@ fn resolved_expr(alloc: Global, top: &Declared, e: &Expr) -> Result<NExpr, Flawe
     }
 }
 
-fn expr_part(alloc: Global, top: &Declared, e: &Expr, part: u32) -> Result<NExpr, Flawed>
-    ensures { Says nexpr_of result (under part (expr_resolved (top_by top.now) no_locals (expr_of e.now))) }
+#[cycle(resolve)]
+fn expr_part(
+    alloc: Global,
+    top: &Declared,
+    scope: &mut Scope,
+    e: &Expr,
+    part: u32,
+) -> Result<NExpr, Flawed>
+    ensures says { Says nexpr_of result (under part (expr_resolved (top_by top.now) (scope_of (words_in scope.old)) (expr_of e.now))) }
+    ensures scope { OnOk result (words_in scope.new ≡ words_in scope.old) }
 {
-    match resolved_expr(alloc, top, e) {
+    match resolved_expr(alloc, top, scope, e) {
         Ok(n) => Ok(n),
         Err(flawed) => Err(deeper(flawed, part)),
     }
 }
 
+/// The type of a binder, which is its part 0 and stands in part 0 of what it binds for.
+fn binder_type(alloc: Global, top: &Declared, t: &Ty) -> Result<NTy, Flawed>
+    ensures { Says nty_of result (under 0 (under 0 (ty_resolved (top_by top.now) [] (ty_of t.now)))) }
+{
+    match ty_part(alloc, top, t, 0) {
+        Ok(n) => Ok(n),
+        Err(flawed) => Err(deeper(flawed, 0)),
+    }
+}
+
+/// An expression below the binder of a value.
 #[cycle(resolve)]
-fn resolved_arg(alloc: Global, top: &Declared, arg: &Arg) -> Result<NArg, Flawed>
-    ensures { Says narg_of result (arg_resolved (top_by top.now) no_locals (arg_of arg.now)) }
+fn body(
+    alloc: Global,
+    top: &Declared,
+    scope: &mut Scope,
+    word: &Text,
+    e: &Expr,
+    part: u32,
+) -> Result<NExpr, Flawed>
+    ensures says { Says nexpr_of result (under part (expr_resolved (top_by top.now) (scope_of (word.now ∷ words_in scope.old)) (expr_of e.now))) }
+    ensures scope { OnOk result (words_in scope.new ≡ words_in scope.old) }
+{
+    scope.enter(alloc, word)?;
+    let e = expr_part(alloc, top, scope, e, part)?;
+    scope.leave();
+    Ok(e)
+}
+
+/// A lambda over one binder.
+#[cycle(resolve)]
+#[tactic(auto, using(fc_syntax::proofs::View::view_rules, crate::proofs::NamelessView::nview_rules))]
+fn lambda(
+    alloc: Global,
+    top: &Declared,
+    scope: &mut Scope,
+    binder: &Binder,
+    e: &Expr,
+) -> Result<NExpr, Flawed>
+    ensures says { Says nexpr_of result (expr_resolved (top_by top.now) (scope_of (words_in scope.old)) (ELam (binder_of binder.now) (expr_of e.now))) }
+    ensures scope { OnOk result (words_in scope.new ≡ words_in scope.old) }
+{
+    match binder {
+        Binder::Value(word, t) => {
+            let t = binder_type(alloc, top, t)?;
+            let e = body(alloc, top, scope, word, e, 1)?;
+            let binder = NBinder::Value(word.copy(alloc)?, t);
+            Ok(NExpr::Lam(boxed(alloc, binder)?, boxed(alloc, e)?))
+        }
+        Binder::OfType(_, _) => Err(Flawed::Memory),
+        Binder::OfCo(_, _, _, _) => Err(Flawed::Memory),
+    }
+}
+
+/// A list of one bind.
+fn only(alloc: Global, bind: NBind) -> Result<Seq<NBind>, Memory>
+    ensures { IfOk result (λ binds. binds ≡ bind ∷ []) }
+{
+    let mut binds = Seq::new(alloc);
+    binds.push(bind)?;
+    Ok(binds)
+}
+
+/// A bind, which is part 0 of its let.
+#[cycle(resolve)]
+fn resolved_bind(
+    alloc: Global,
+    top: &Declared,
+    scope: &mut Scope,
+    bind: &Bind,
+) -> Result<NBind, Flawed>
+    ensures says { Says nbind_of result (under 0 (bind_resolved (top_by top.now) (scope_of (words_in scope.old)) (bind_of bind.now))) }
+    ensures scope { OnOk result (words_in scope.new ≡ words_in scope.old) }
+{
+    let ty = binder_type(alloc, top, &bind.ty)?;
+    let rhs = match expr_part(alloc, top, scope, &bind.rhs, 1) {
+        Ok(rhs) => rhs,
+        Err(flawed) => return Err(deeper(flawed, 0)),
+    };
+    let hint = bind.name.copy(alloc)?;
+    Ok(NBind { hint, ty, rhs })
+}
+
+#[cycle(resolve)]
+fn resolved_arg(alloc: Global, top: &Declared, scope: &mut Scope, arg: &Arg) -> Result<NArg, Flawed>
+    ensures says { Says narg_of result (arg_resolved (top_by top.now) (scope_of (words_in scope.old)) (arg_of arg.now)) }
+    ensures scope { OnOk result (words_in scope.new ≡ words_in scope.old) }
 {
     match arg {
         Arg::Term(e) => {
-            let e = resolved_expr(alloc, top, e)?;
+            let e = resolved_expr(alloc, top, scope, e)?;
             Ok(NArg::Term(e))
         }
         Arg::OfType(_) => Err(Flawed::Memory),
@@ -168,10 +311,17 @@ fn resolved_arg(alloc: Global, top: &Declared, arg: &Arg) -> Result<NArg, Flawed
 }
 
 #[cycle(resolve)]
-fn arg_part(alloc: Global, top: &Declared, arg: &Arg, part: u32) -> Result<NArg, Flawed>
-    ensures { Says narg_of result (under part (arg_resolved (top_by top.now) no_locals (arg_of arg.now))) }
+fn arg_part(
+    alloc: Global,
+    top: &Declared,
+    scope: &mut Scope,
+    arg: &Arg,
+    part: u32,
+) -> Result<NArg, Flawed>
+    ensures says { Says narg_of result (under part (arg_resolved (top_by top.now) (scope_of (words_in scope.old)) (arg_of arg.now))) }
+    ensures scope { OnOk result (words_in scope.new ≡ words_in scope.old) }
 {
-    match resolved_arg(alloc, top, arg) {
+    match resolved_arg(alloc, top, scope, arg) {
         Ok(n) => Ok(n),
         Err(flawed) => Err(deeper(flawed, part)),
     }
@@ -179,13 +329,19 @@ fn arg_part(alloc: Global, top: &Declared, arg: &Arg, part: u32) -> Result<NArg,
 
 #[cycle(resolve)]
 #[tactic(auto, using(crate::proofs::Building::building_rules, std::proofs::lemmas::Grind::common_steps))]
-fn resolved_args(alloc: Global, top: &Declared, args: &[Arg]) -> Result<Seq<NArg>, Flawed>
-    ensures { Says nargs_of result (args_resolved (top_by top.now) no_locals 0 (args_of args.now)) }
+fn resolved_args(
+    alloc: Global,
+    top: &Declared,
+    scope: &mut Scope,
+    args: &[Arg],
+) -> Result<Seq<NArg>, Flawed>
+    ensures says { Says nargs_of result (args_resolved (top_by top.now) (scope_of (words_in scope.old)) 0 (args_of args.now)) }
+    ensures scope { OnOk result (words_in scope.new ≡ words_in scope.old) }
 {
     let mut out = Seq::new(alloc);
     let mut at = 0u32;
     for a in args {
-        let next = arg_part(alloc, top, a, at)?;
+        let next = arg_part(alloc, top, scope, a, at)?;
         out.push(next)?;
         at = next_part(at)?;
     }
@@ -285,6 +441,14 @@ fn data_type(
     Ok(NDecl::DataType(name, Seq::new(alloc), cons))
 }
 
+/// The right side of a definition, in which nothing is bound yet.
+fn right_side(alloc: Global, top: &Declared, e: &Expr) -> Result<NExpr, Flawed>
+    ensures { Says nexpr_of result (under 1 (expr_resolved (top_by top.now) no_locals (expr_of e.now))) }
+{
+    let mut scope = Scope::new(alloc);
+    expr_part(alloc, top, &mut scope, e, 1)
+}
+
 #[tactic(auto, unfolding(crate::specs::WordSets::words_by_space))]
 fn definition(
     alloc: Global,
@@ -301,7 +465,7 @@ fn definition(
         return Err(flaw_here(alloc, FaultKind::Duplicate));
     }
     let t = ty_part(alloc, top, t, 0)?;
-    let e = expr_part(alloc, top, e, 1)?;
+    let e = right_side(alloc, top, e)?;
     earlier.terms.add(alloc, name)?;
     let name = name.copy(alloc)?;
     Ok(NDecl::Def(name, t, e))

@@ -1,6 +1,6 @@
 //! The nameless forms and the first faults of modules of two declarations.
 use crate::{Flaw, Flawed, NDecl, NExpr, NTy, resolve};
-use fc_syntax::{ConDecl, Decl, Expr, FaultKind, Module, Name, Seq, Text, Ty};
+use fc_syntax::{Binder, ConDecl, Decl, Expr, FaultKind, Memory, Module, Name, Seq, Text, Ty};
 use std::alloc::Global;
 use std::process::Abort;
 use std::test::Fail;
@@ -95,5 +95,50 @@ fn first_fault_of_names_has_its_place(rt: HostRuntime) -> Result<(), Fail> {
         Some(def) => assert_eq!(rt; def.as_str(), "x"),
         None => return Err("no declaration".into()),
     }
+    Ok(())
+}
+
+/// A lambda over a binder of `Int#`.
+fn lambda(alloc: Global, word: &str, e: Expr) -> Result<Expr, Memory> {
+    let binder = Binder::Value(Text::from_str(alloc, word)?, Ty::IntHash);
+    Ok(Expr::Lam(Box::new(alloc, binder)?, Box::new(alloc, e)?))
+}
+
+/// The distance of a local variable below two lambdas.
+fn distance_in(e: &NExpr) -> Option<u32> {
+    match e {
+        NExpr::Lam(_, e) => match &**e {
+            NExpr::Lam(_, e) => match &**e {
+                NExpr::Local(distance) => Some(*distance),
+                _ => None,
+            },
+            _ => None,
+        },
+        _ => None,
+    }
+}
+
+/// The distance of `x` below binders of these words, where one of them binds it.
+fn distance_of(alloc: Global, outer: &str, inner: &str) -> Result<Option<u32>, Fail> {
+    let variable = Expr::Var(here(alloc, "x")?);
+    let e = lambda(alloc, outer, lambda(alloc, inner, variable)?)?;
+    let f = Decl::Def(Text::from_str(alloc, "f")?, Ty::IntHash, e);
+    let m = module_of(alloc, data(alloc, "T", "K")?, f)?;
+    let Ok(n) = resolve(alloc, &m) else {
+        return Ok(None);
+    };
+    match n.decls.get(1) {
+        Some(NDecl::Def(_, _, e)) => Ok(distance_in(e)),
+        _ => Ok(None),
+    }
+}
+
+#[test]
+fn variables_are_distances(rt: HostRuntime) -> Result<(), Fail> {
+    let alloc = rt.alloc();
+    assert_eq!(rt; distance_of(alloc, "x", "y")?, Some(1));
+    assert_eq!(rt; distance_of(alloc, "y", "x")?, Some(0));
+    assert_eq!(rt; distance_of(alloc, "x", "x")?, Some(0));
+    assert_eq!(rt; distance_of(alloc, "y", "z")?, None);
     Ok(())
 }

@@ -95,6 +95,22 @@ pub con_key : (text : List ℕ) (ts : List Tok) → StartsApart text → Reads t
 unfolding declaration_keyword type_keyword expression_keyword
 con_key text ts apart r = reads_token 99 (codes "on") text ts kind.Word refl (λ at. refl) apart r
 
+pub fun_key : (text : List ℕ) (ts : List Tok) → StartsApart text → Reads text ts → Reads (codes "fun" ++ text) (Key word.Fun ∷ ts)
+unfolding declaration_keyword type_keyword
+fun_key text ts apart r = reads_token 102 (codes "un") text ts kind.Word refl (λ at. refl) apart r
+
+pub app_key : (text : List ℕ) (ts : List Tok) → StartsApart text → Reads text ts → Reads (codes "app" ++ text) (Key word.App ∷ ts)
+unfolding declaration_keyword type_keyword expression_keyword
+app_key text ts apart r = reads_token 97 (codes "pp") text ts kind.Word refl (λ at. refl) apart r
+
+pub lam_key : (text : List ℕ) (ts : List Tok) → StartsApart text → Reads text ts → Reads (codes "lam" ++ text) (Key word.Lam ∷ ts)
+unfolding declaration_keyword type_keyword expression_keyword
+lam_key text ts apart r = reads_token 108 (codes "am") text ts kind.Word refl (λ at. refl) apart r
+
+pub let_key : (text : List ℕ) (ts : List Tok) → StartsApart text → Reads text ts → Reads (codes "let" ++ text) (Key word.Let ∷ ts)
+unfolding declaration_keyword type_keyword expression_keyword
+let_key text ts apart r = reads_token 108 (codes "et") text ts kind.Word refl (λ at. refl) apart r
+
 -- a word that is a name
 no_keyword : (o : Option Keyword) (w : Word) → is_none o ≡ true → tok_of_keyword o w ≡ name_tok w
 no_keyword None w h = refl

@@ -1,11 +1,11 @@
-//! A module made by hand, with its canonical text.
+//! Modules made by hand, with their canonical texts.
 ghost use Rattle.std.specs.Prelude.{◌≡◌, ◌∷◌, [], IfOk, true};
 ghost use Rattle.std.specs.List.{list_all};
-ghost use Rattle.fc_syntax.specs.View.{decl_of, decls_of, expr_of};
-ghost use Rattle.fc_model.specs.Canonical.{is_decl_built, is_expr_built, is_name_built};
+ghost use Rattle.fc_syntax.specs.View.{binder_of, decl_of, decls_of, expr_of, ty_of};
+ghost use Rattle.fc_model.specs.Canonical.{is_binder_built, is_decl_built, is_expr_built, is_name_built, is_type_built};
 
 use crate::print_module;
-use fc_syntax::{Arg, ConDecl, Decl, Expr, Memory, Module, Name, Seq, Text, Ty};
+use fc_syntax::{Arg, Bind, Binder, ConDecl, Decl, Expr, Memory, Module, Name, Seq, Text, Ty};
 use std::alloc::Global;
 use std::test::Fail;
 
@@ -121,6 +121,213 @@ fn prints_each_declaration_on_its_line(rt: HostRuntime) -> Result<(), Fail> {
  (data Void ())
  (def f Int (con I# -9223372036854775808#))
  (def g Int (con Some (con I# f))))
+";
+    assert_eq!(rt; text.as_slice(), expected.as_slice());
+    Ok(())
+}
+
+#[tactic(auto, using(fc_syntax::proofs::View::view_rules))]
+fn upper(alloc: Global, word: &str) -> Result<Ty, Memory>
+    ensures { IfOk result (λ t. is_type_built (ty_of t) ≡ true) }
+{
+    Ok(Ty::Con(name(alloc, word)?))
+}
+
+#[tactic(auto, using(fc_syntax::proofs::View::view_rules))]
+fn int_hash() -> Ty
+    ensures { is_type_built (ty_of result) ≡ true }
+{
+    Ty::IntHash
+}
+
+// `(fun t u)`
+#[tactic(auto, using(fc_syntax::proofs::View::view_rules))]
+fn function(alloc: Global, t: Ty, u: Ty) -> Result<Ty, Memory>
+    requires taken { is_type_built (ty_of t) ≡ true }
+    requires given { is_type_built (ty_of u) ≡ true }
+    ensures { IfOk result (λ v. is_type_built (ty_of v) ≡ true) }
+{
+    Ok(Ty::Fun(Box::new(alloc, t)?, Box::new(alloc, u)?))
+}
+
+#[tactic(auto, using(fc_syntax::proofs::View::view_rules))]
+fn lower(alloc: Global, word: &str) -> Result<Expr, Memory>
+    ensures { IfOk result (λ e. is_expr_built (expr_of e) ≡ true) }
+{
+    Ok(Expr::Var(name(alloc, word)?))
+}
+
+#[tactic(auto, using(fc_syntax::proofs::View::view_rules))]
+fn literal(n: i64) -> Expr
+    ensures { is_expr_built (expr_of result) ≡ true }
+{
+    Expr::Lit(n)
+}
+
+// `(con word)`
+#[tactic(auto, using(fc_syntax::proofs::View::view_rules))]
+fn constant(alloc: Global, word: &str) -> Result<Expr, Memory>
+    ensures { IfOk result (λ e. is_expr_built (expr_of e) ≡ true) }
+{
+    Ok(Expr::Con(name(alloc, word)?, Seq::new(alloc)))
+}
+
+// `(app f a)`
+#[tactic(auto, using(fc_syntax::proofs::View::view_rules))]
+fn app(alloc: Global, f: Expr, a: Expr) -> Result<Expr, Memory>
+    requires head { is_expr_built (expr_of f) ≡ true }
+    requires argument { is_expr_built (expr_of a) ≡ true }
+    ensures { IfOk result (λ e. is_expr_built (expr_of e) ≡ true) }
+{
+    let argument = Box::new(alloc, Arg::Term(a))?;
+    Ok(Expr::App(Box::new(alloc, f)?, argument))
+}
+
+// `(word T)`
+#[tactic(auto, using(fc_syntax::proofs::View::view_rules))]
+fn binder(alloc: Global, word: &str) -> Result<Binder, Memory>
+    ensures { IfOk result (λ b. is_binder_built (binder_of b) ≡ true) }
+{
+    Ok(Binder::Value(Text::from_str(alloc, word)?, upper(alloc, "T")?))
+}
+
+// `(lam ((word T)) e)`
+#[tactic(auto, using(fc_syntax::proofs::View::view_rules))]
+fn lam(alloc: Global, word: &str, e: Expr) -> Result<Expr, Memory>
+    requires { is_expr_built (expr_of e) ≡ true }
+    ensures { IfOk result (λ v. is_expr_built (expr_of v) ≡ true) }
+{
+    let first = Box::new(alloc, binder(alloc, word)?)?;
+    Ok(Expr::Lam(first, Box::new(alloc, e)?))
+}
+
+// `(let (word T right) e)`
+#[tactic(auto, using(fc_syntax::proofs::View::view_rules))]
+fn let_one(alloc: Global, word: &str, right: Expr, e: Expr) -> Result<Expr, Memory>
+    requires right { is_expr_built (expr_of right) ≡ true }
+    requires body { is_expr_built (expr_of e) ≡ true }
+    ensures { IfOk result (λ v. is_expr_built (expr_of v) ≡ true) }
+{
+    let bind = Bind {
+        name: Text::from_str(alloc, word)?,
+        ty: upper(alloc, "T")?,
+        rhs: right,
+    };
+    Ok(Expr::Let(false, only(alloc, bind)?, Box::new(alloc, e)?))
+}
+
+// `(def d t right)`
+#[tactic(auto, using(fc_syntax::proofs::View::view_rules))]
+fn typed(alloc: Global, t: Ty, right: Expr) -> Result<Decl, Memory>
+    requires ty { is_type_built (ty_of t) ≡ true }
+    requires right { is_expr_built (expr_of right) ≡ true }
+    ensures { IfOk result (λ d. is_decl_built (decl_of d) ≡ true) }
+{
+    Ok(Decl::Def(Text::from_str(alloc, "d")?, t, right))
+}
+
+// The text of a module `M` with one declaration.
+#[tactic(auto, using(fc_syntax::proofs::View::view_rules))]
+fn printed(alloc: Global, d: Decl) -> Result<Vec<u8>, Memory>
+    requires { is_decl_built (decl_of d) ≡ true }
+{
+    let m = Module {
+        name: Text::from_str(alloc, "M")?,
+        imports: Seq::new(alloc),
+        exports: Seq::new(alloc),
+        hidden: Seq::new(alloc),
+        decls: only(alloc, d)?,
+    };
+    print_module(alloc, &m)
+}
+
+#[test]
+fn flattens_the_result_of_a_function(rt: HostRuntime) -> Result<(), Fail> {
+    let alloc = rt.alloc();
+    let inner = function(alloc, upper(alloc, "U")?, int_hash())?;
+    let t = function(alloc, upper(alloc, "T")?, inner)?;
+    let text = printed(alloc, typed(alloc, t, lower(alloc, "e")?)?)?;
+    let expected = b"(module M (imports) (exports)
+ (def d (fun T U Int#) e))
+";
+    assert_eq!(rt; text.as_slice(), expected.as_slice());
+    Ok(())
+}
+
+#[test]
+fn keeps_a_function_that_is_taken(rt: HostRuntime) -> Result<(), Fail> {
+    let alloc = rt.alloc();
+    let inner = function(alloc, upper(alloc, "T")?, upper(alloc, "U")?)?;
+    let t = function(alloc, inner, upper(alloc, "T")?)?;
+    let text = printed(alloc, typed(alloc, t, lower(alloc, "e")?)?)?;
+    let expected = b"(module M (imports) (exports)
+ (def d (fun (fun T U) T) e))
+";
+    assert_eq!(rt; text.as_slice(), expected.as_slice());
+    Ok(())
+}
+
+#[test]
+fn flattens_the_head_of_an_application(rt: HostRuntime) -> Result<(), Fail> {
+    let alloc = rt.alloc();
+    let first = app(alloc, lower(alloc, "g")?, lower(alloc, "x")?)?;
+    let second = app(alloc, lower(alloc, "h")?, lower(alloc, "y")?)?;
+    let e = app(alloc, first, second)?;
+    let text = printed(alloc, typed(alloc, upper(alloc, "T")?, e)?)?;
+    let expected = b"(module M (imports) (exports)
+ (def d T (app g x (app h y))))
+";
+    assert_eq!(rt; text.as_slice(), expected.as_slice());
+    Ok(())
+}
+
+#[test]
+fn keeps_a_lambda_that_is_applied(rt: HostRuntime) -> Result<(), Fail> {
+    let alloc = rt.alloc();
+    let head = lam(alloc, "x", lower(alloc, "x")?)?;
+    let e = app(alloc, head, constant(alloc, "K")?)?;
+    let text = printed(alloc, typed(alloc, upper(alloc, "T")?, e)?)?;
+    let expected = b"(module M (imports) (exports)
+ (def d T (app (lam ((x T)) x) (con K))))
+";
+    assert_eq!(rt; text.as_slice(), expected.as_slice());
+    Ok(())
+}
+
+#[test]
+fn flattens_the_body_of_a_lambda(rt: HostRuntime) -> Result<(), Fail> {
+    let alloc = rt.alloc();
+    let body = app(alloc, lower(alloc, "f")?, lower(alloc, "y")?)?;
+    let e = lam(alloc, "x", lam(alloc, "y", body)?)?;
+    let text = printed(alloc, typed(alloc, upper(alloc, "T")?, e)?)?;
+    let expected = b"(module M (imports) (exports)
+ (def d T (lam ((x T) (y T)) (app f y))))
+";
+    assert_eq!(rt; text.as_slice(), expected.as_slice());
+    Ok(())
+}
+
+#[test]
+fn prints_a_let(rt: HostRuntime) -> Result<(), Fail> {
+    let alloc = rt.alloc();
+    let e = let_one(alloc, "x", constant(alloc, "K")?, lower(alloc, "x")?)?;
+    let text = printed(alloc, typed(alloc, upper(alloc, "T")?, e)?)?;
+    let expected = b"(module M (imports) (exports)
+ (def d T (let (x T (con K)) x)))
+";
+    assert_eq!(rt; text.as_slice(), expected.as_slice());
+    Ok(())
+}
+
+#[test]
+fn keeps_a_lambda_in_a_let_in_a_lambda(rt: HostRuntime) -> Result<(), Fail> {
+    let alloc = rt.alloc();
+    let right = lam(alloc, "y", lower(alloc, "y")?)?;
+    let body = lam(alloc, "z", literal(-1))?;
+    let e = lam(alloc, "x", let_one(alloc, "f", right, body)?)?;
+    let text = printed(alloc, typed(alloc, upper(alloc, "T")?, e)?)?;
+    let expected = b"(module M (imports) (exports)
+ (def d T (lam ((x T)) (let (f T (lam ((y T)) y)) (lam ((z T)) -1#)))))
 ";
     assert_eq!(rt; text.as_slice(), expected.as_slice());
     Ok(())

@@ -1,10 +1,11 @@
 -- Each text of the grammar stands in front of what follows it, whatever that is.
 use Rattle.std.proofs.Common.{◌≡◌, List, [], ◌∷◌, ◌++◌, refl, sym, ap, ◌∙◌, subst, append_assoc}
-use Rattle.fc_syntax.specs.Tree.{Word, Ty, ConDecl, Expr, Args, Decl, DDef, Module}
+use Rattle.fc_syntax.specs.Tree.{Word, Ty, ConDecl, Binder, Expr, Args, Decl, DDef, Module}
 use Rattle.fc_model.specs.declared.keyword.Keyword.TheVariants as word
 use Rattle.fc_model.specs.Words.{Tok, Open, Close, Key, Lower, Upper, Literal}
-use Rattle.fc_model.specs.Texts.{NamesAt, names_end, names_lower, names_upper, TypeAt, type_con, type_int, TypesAt, types_end, types_more, ConAt, con_at, ConsAt, cons_end, cons_more}
-use Rattle.fc_model.specs.Texts.{ExprAt, expr_var, expr_lit, expr_con, ArgsAt, args_end, args_more, DeclAt, decl_data, decl_def, DeclsAt, decls_end, decls_more}
+use Rattle.fc_model.specs.Texts.{NamesAt, names_end, names_lower, names_upper, TypeAt, type_con, type_int, type_fun, TypesAt, types_end, types_more, ConAt, con_at, ConsAt, cons_end, cons_more}
+use Rattle.fc_model.specs.Texts.{BinderAt, binder_value, BindersAt, binders_end, binders_more}
+use Rattle.fc_model.specs.Texts.{ExprAt, expr_var, expr_lit, expr_con, expr_app, expr_lam, expr_let, ArgsAt, args_end, args_more, DeclAt, decl_data, decl_def, DeclsAt, decls_end, decls_more}
 use Rattle.fc_model.specs.Texts.{BodyAt, body_hidden, body_plain, ModuleAt, module_at}
 use Rattle.fc_model.specs.Texts.{SomeDeclsAt, no_decls, some_decls, SomeBodyAt, some_hidden, some_plain, BeginsWithDecls, begins_with}
 
@@ -33,6 +34,16 @@ then {R = R} {rest = rest} f p q = record {
   reads = λ r. at_on R r (append_assoc p.front q.front r) (f (p.front ++ (q.front ++ r)) (q.front ++ r) r (p.reads (q.front ++ r)) (q.reads r));
 }
 
+-- two parts, one behind the other
+abbrev Both : (P Q : List Tok → List Tok → Type 0) → List Tok → List Tok → Type 0
+Both P Q ts rest = (us : List Tok) × P ts us × Q us rest
+
+both : {P Q : List Tok → List Tok → Type 0} {ts us rest : List Tok} → Cut P ts us → Cut Q us rest → Cut (Both P Q) ts rest
+both {P = P} {Q = Q} p q = then {R = Both P Q} (λ a b c d e. (b, d, e)) p q
+
+behind : {P R : List Tok → List Tok → Type 0} {ts rest : List Tok} (ws : List Tok) → Cut P ts rest → ((a b : List Tok) → P a b → R (ws ++ a) b) → Cut R (ws ++ ts) rest
+behind ws p f = ahead ws f p
+
 closing : {P : List Tok → List Tok → Type 0} {ts rest : List Tok} → Cut P ts (Close ∷ rest) → Cut (λ a b. P a (Close ∷ b)) ts rest
 closing {P = P} {rest = rest} p = record {
   front = p.front ++ Close ∷ [];
@@ -45,13 +56,22 @@ names_cut names_end = leaf (Close ∷ []) (λ r. names_end)
 names_cut (names_lower {w = w} d) = ahead (Lower w ∷ []) (λ a b p. names_lower p) (names_cut d)
 names_cut (names_upper {w = w} d) = ahead (Upper w ∷ []) (λ a b p. names_upper p) (names_cut d)
 
-type_cut : {ts rest : List Tok} {t : Ty} → TypeAt ts t rest → Cut (λ a b. TypeAt a t b) ts rest
-type_cut (type_con {w = w}) = leaf (Upper w ∷ []) (λ r. type_con)
-type_cut type_int = leaf (Key word.IntHash ∷ []) (λ r. type_int)
+mutual
+  type_cut : {ts rest : List Tok} {t : Ty} → TypeAt ts t rest → Cut (λ a b. TypeAt a t b) ts rest
+  type_cut (type_con {w = w}) = leaf (Upper w ∷ []) (λ r. type_con)
+  type_cut type_int = leaf (Key word.IntHash ∷ []) (λ r. type_int)
+  type_cut (type_fun t u d) = behind (Open ∷ Key word.Fun ∷ []) (both (type_cut t) (both (type_cut u) (types_cut d))) (λ a b p. type_fun p.1 p.2.1 p.2.2)
 
-types_cut : {ts rest : List Tok} {tys : List Ty} → TypesAt ts tys rest → Cut (λ a b. TypesAt a tys b) ts rest
-types_cut types_end = leaf (Close ∷ []) (λ r. types_end)
-types_cut (types_more t d) = then (λ a b c p q. types_more p q) (type_cut t) (types_cut d)
+  types_cut : {ts rest : List Tok} {tys : List Ty} → TypesAt ts tys rest → Cut (λ a b. TypesAt a tys b) ts rest
+  types_cut types_end = leaf (Close ∷ []) (λ r. types_end)
+  types_cut (types_more t d) = then (λ a b c p q. types_more p q) (type_cut t) (types_cut d)
+
+binder_cut : {ts rest : List Tok} {b : Binder} → BinderAt ts b rest → Cut (λ a c. BinderAt a b c) ts rest
+binder_cut (binder_value {x = x} t) = behind (Open ∷ Lower x ∷ []) (closing (type_cut t)) (λ a b p. binder_value p)
+
+binders_cut : {ts rest : List Tok} {bs : List Binder} → BindersAt ts bs rest → Cut (λ a b. BindersAt a bs b) ts rest
+binders_cut binders_end = leaf (Close ∷ []) (λ r. binders_end)
+binders_cut (binders_more b d) = then (λ a b c p q. binders_more p q) (binder_cut b) (binders_cut d)
 
 con_cut : {ts rest : List Tok} {c : ConDecl} → ConAt ts c rest → Cut (λ a b. ConAt a c b) ts rest
 con_cut (con_at {k = k} d) = ahead (Open ∷ Upper k ∷ Open ∷ Close ∷ []) (λ a b p. con_at p) (types_cut d)
@@ -65,6 +85,11 @@ mutual
   expr_cut (expr_var {w = w}) = leaf (Lower w ∷ []) (λ r. expr_var)
   expr_cut (expr_lit {n = n}) = leaf (Literal n ∷ []) (λ r. expr_lit)
   expr_cut (expr_con {k = k} d) = ahead (Open ∷ Key word.Con ∷ Upper k ∷ []) (λ a b p. expr_con p) (args_cut d)
+  expr_cut (expr_app f a d) = behind (Open ∷ Key word.App ∷ []) (both (expr_cut f) (both (expr_cut a) (args_cut d))) (λ a b p. expr_app p.1 p.2.1 p.2.2)
+  expr_cut (expr_lam b bs e) =
+      behind (Open ∷ Key word.Lam ∷ Open ∷ []) (both (binder_cut b) (both (binders_cut bs) (closing (expr_cut e)))) (λ a b p. expr_lam p.1 p.2.1 p.2.2)
+  expr_cut (expr_let {x = x} t d e) =
+      behind (Open ∷ Key word.Let ∷ Open ∷ Lower x ∷ []) (both (type_cut t) (both (closing (expr_cut d)) (closing (expr_cut e)))) (λ a b p. expr_let p.1 p.2.1 p.2.2)
 
   args_cut : {ts rest : List Tok} {args : Args} → ArgsAt ts args rest → Cut (λ a b. ArgsAt a args b) ts rest
   args_cut args_end = leaf (Close ∷ []) (λ r. args_end)

@@ -1,13 +1,14 @@
 -- Texts of the grammar are taken by the machine.
 use Rattle.std.proofs.Common.{◌≡◌, ℕ, suc, Bool, true, List, [], ◌∷◌, ◌++◌, length, Option, Some, None, if◌then◌else◌, refl, ap, ◌∙◌}
-use Rattle.fc_syntax.specs.Tree.{Word, Ty, ConDecl, Expr, Args, Decl, Module}
+use Rattle.fc_syntax.specs.Tree.{Word, Ty, ConDecl, Binder, Expr, Args, Decl, Module}
 use Rattle.fc_syntax.specs.Tokens.{is_module_part}
 use Rattle.fc_model.specs.Words.{Tok, Open, Close, Key, Upper}
 use Rattle.fc_model.specs.declared.keyword.Keyword.TheVariants as word
-use Rattle.fc_model.specs.Texts.{NamesAt, names_end, names_lower, names_upper, TypeAt, type_con, type_int, TypesAt, types_end, types_more, ConAt, con_at, ConsAt, cons_end, cons_more}
-use Rattle.fc_model.specs.Texts.{ExprAt, expr_var, expr_lit, expr_con, ArgsAt, args_end, args_more, DeclAt, decl_data, decl_def, DeclsAt, decls_end, decls_more}
+use Rattle.fc_model.specs.Texts.{NamesAt, names_end, names_lower, names_upper, TypeAt, type_con, type_int, type_fun, TypesAt, types_end, types_more, ConAt, con_at, ConsAt, cons_end, cons_more}
+use Rattle.fc_model.specs.Texts.{BinderAt, binder_value, BindersAt, binders_end, binders_more}
+use Rattle.fc_model.specs.Texts.{ExprAt, expr_var, expr_lit, expr_con, expr_app, expr_lam, expr_let, ArgsAt, args_end, args_more, DeclAt, decl_data, decl_def, DeclsAt, decls_end, decls_more}
 use Rattle.fc_model.specs.Texts.{BodyAt, body_hidden, body_plain, ModuleAt, module_at}
-use Rattle.fc_reader.specs.Machine.{Want, AModule, AHeader, AModuleName, AnImportsWord, AnExportsWord, AnOpen, AClose, Names, Body, Decls, ADecl, Cons, ACon, Types, AType, AnExpr, Arguments, next, stuck}
+use Rattle.fc_reader.specs.Machine.{Want, AModule, AHeader, AModuleName, AnImportsWord, AnExportsWord, AnOpen, AClose, Names, Body, Decls, ADecl, Cons, ACon, Types, AType, ABinder, Binders, AnExpr, Arguments, next, stuck}
 use Rattle.fc_reader.specs.Header.{HeaderAt, header_at}
 
 -- a step of the machine, by what is next
@@ -20,17 +21,30 @@ names_taken names_end s = refl
 names_taken (names_lower d) s = names_taken d s
 names_taken (names_upper d) s = names_taken d s
 
-pub type_taken : {ts rest : List Tok} {t : Ty} → TypeAt ts t rest → (s : List Want) → stuck (AType ∷ s) ts ≡ stuck s rest
-type_taken type_con s = refl
-type_taken type_int s = refl
-
 types_go_on : {ts rest : List Tok} {t : Ty} → TypeAt ts t rest → (s : List Want) → stuck (Types ∷ s) ts ≡ stuck (AType ∷ Types ∷ s) ts
 types_go_on type_con s = refl
 types_go_on type_int s = refl
+types_go_on (type_fun a b c) s = refl
 
-pub types_taken : {ts rest : List Tok} {tys : List Ty} → TypesAt ts tys rest → (s : List Want) → stuck (Types ∷ s) ts ≡ stuck s rest
-types_taken types_end s = refl
-types_taken (types_more t d) s = types_go_on t s ∙ type_taken t (Types ∷ s) ∙ types_taken d s
+mutual
+  pub type_taken : {ts rest : List Tok} {t : Ty} → TypeAt ts t rest → (s : List Want) → stuck (AType ∷ s) ts ≡ stuck s rest
+  type_taken type_con s = refl
+  type_taken type_int s = refl
+  type_taken (type_fun t u d) s = type_taken t (AType ∷ Types ∷ s) ∙ type_taken u (Types ∷ s) ∙ types_taken d s
+
+  pub types_taken : {ts rest : List Tok} {tys : List Ty} → TypesAt ts tys rest → (s : List Want) → stuck (Types ∷ s) ts ≡ stuck s rest
+  types_taken types_end s = refl
+  types_taken (types_more t d) s = types_go_on t s ∙ type_taken t (Types ∷ s) ∙ types_taken d s
+
+pub binder_taken : {ts rest : List Tok} {b : Binder} → BinderAt ts b rest → (s : List Want) → stuck (ABinder ∷ s) ts ≡ stuck s rest
+binder_taken (binder_value t) s = type_taken t (AClose ∷ s)
+
+binders_go_on : {ts rest : List Tok} {b : Binder} → BinderAt ts b rest → (s : List Want) → stuck (Binders ∷ s) ts ≡ stuck (ABinder ∷ Binders ∷ s) ts
+binders_go_on (binder_value t) s = refl
+
+pub binders_taken : {ts rest : List Tok} {bs : List Binder} → BindersAt ts bs rest → (s : List Want) → stuck (Binders ∷ s) ts ≡ stuck s rest
+binders_taken binders_end s = refl
+binders_taken (binders_more b d) s = binders_go_on b s ∙ binder_taken b (Binders ∷ s) ∙ binders_taken d s
 
 pub con_taken : {ts rest : List Tok} {c : ConDecl} → ConAt ts c rest → (s : List Want) → stuck (ACon ∷ s) ts ≡ stuck s rest
 con_taken (con_at d) s = types_taken d s
@@ -46,12 +60,18 @@ args_go_on : {ts rest : List Tok} {e : Expr} → ExprAt ts e rest → (s : List 
 args_go_on expr_var s = refl
 args_go_on expr_lit s = refl
 args_go_on (expr_con d) s = refl
+args_go_on (expr_app f a d) s = refl
+args_go_on (expr_lam b bs e) s = refl
+args_go_on (expr_let t d e) s = refl
 
 mutual
   pub expr_taken : {ts rest : List Tok} {e : Expr} → ExprAt ts e rest → (s : List Want) → stuck (AnExpr ∷ s) ts ≡ stuck s rest
   expr_taken expr_var s = refl
   expr_taken expr_lit s = refl
   expr_taken (expr_con d) s = args_taken d s
+  expr_taken (expr_app f a d) s = expr_taken f (AnExpr ∷ Arguments ∷ s) ∙ expr_taken a (Arguments ∷ s) ∙ args_taken d s
+  expr_taken (expr_lam b bs e) s = binder_taken b (Binders ∷ AnExpr ∷ AClose ∷ s) ∙ binders_taken bs (AnExpr ∷ AClose ∷ s) ∙ expr_taken e (AClose ∷ s)
+  expr_taken (expr_let t d e) s = type_taken t (AnExpr ∷ AClose ∷ AnExpr ∷ AClose ∷ s) ∙ expr_taken d (AClose ∷ AnExpr ∷ AClose ∷ s) ∙ expr_taken e (AClose ∷ s)
 
   pub args_taken : {ts rest : List Tok} {args : Args} → ArgsAt ts args rest → (s : List Want) → stuck (Arguments ∷ s) ts ≡ stuck s rest
   args_taken args_end s = refl

@@ -8,16 +8,17 @@ use Rattle.fc_lex.proofs.Literals.{literal_parses}
 use Rattle.fc_syntax.specs.declared.fault.FaultKind.TheVariants as fault
 use Rattle.fc_syntax.specs.declared.token.TokenKind.{TokenKind}
 use Rattle.fc_syntax.specs.declared.token.TokenKind.TheVariants as kind
-use Rattle.fc_syntax.specs.Tree.{Word, Ty, ConDecl, Expr, Args, Decl, Module}
+use Rattle.fc_syntax.specs.Tree.{Word, Ty, ConDecl, Binder, Expr, EApp, ATerm, Args, NoArgs, MoreArgs, Decl, Module}
 use Rattle.fc_syntax.specs.Tokens.{ByteFault, ByteClass, Blank, LineFeed, Opening, Closing, Semicolon, Plain, Foreign, Lexeme, Before, InComment, Passes, IsBracket, StartsWord, Breaks, Move, Between, InWord, byte_class, move, lexed, is_plain, word_kind, word_lexeme, as_lexeme, then_lexemes, tokens_of}
 use Rattle.fc_syntax.specs.Tokens.{is_in_range, is_literal, is_lower_name, is_name, is_number, is_sign, is_upper_name, literal_value}
 use Rattle.fc_model.specs.declared.keyword.Keyword.{Keyword}
 use Rattle.fc_model.specs.Words.{Tok, Lower, Upper, Literal, Other, keyword_of, tok_of_keyword, tok_at, tok_of}
-use Rattle.fc_model.specs.Texts.{NamesAt, names_end, names_lower, names_upper, TypeAt, type_con, type_int, TypesAt, types_end, types_more, ConAt, con_at, ConsAt, cons_end, cons_more}
-use Rattle.fc_model.specs.Texts.{ExprAt, expr_var, expr_lit, expr_con, ArgsAt, args_end, args_more, DeclAt, decl_data, decl_def, DeclsAt, decls_end, decls_more}
+use Rattle.fc_model.specs.Texts.{NamesAt, names_end, names_lower, names_upper, TypeAt, type_con, type_int, type_fun, TypesAt, types_end, types_more, ConAt, con_at, ConsAt, cons_end, cons_more}
+use Rattle.fc_model.specs.Texts.{BinderAt, binder_value, BindersAt, binders_end, binders_more, functions, applications, lambdas}
+use Rattle.fc_model.specs.Texts.{ExprAt, expr_var, expr_lit, expr_con, expr_app, expr_lam, expr_let, ArgsAt, args_end, args_more, DeclAt, decl_data, decl_def, DeclsAt, decls_end, decls_more}
 use Rattle.fc_model.specs.Texts.{BodyAt, body_hidden, body_plain, ModuleAt, module_at, Spells}
-use Rattle.fc_model.specs.Canonical.{is_word, is_lower_word, is_upper_word, is_literal_formed, is_type_formed, is_expr_formed, are_args_formed, is_con_formed, is_decl_formed, IsFormed}
-use Rattle.fc_model.specs.Canonical.{is_type_built, is_expr_built, are_args_built, is_con_built, is_decl_built, IsBuilt}
+use Rattle.fc_model.specs.Canonical.{is_word, is_lower_word, is_upper_word, is_literal_formed, is_type_formed, is_binder_formed, is_expr_formed, is_arg_formed, are_args_formed, is_con_formed, is_decl_formed, IsFormed}
+use Rattle.fc_model.specs.Canonical.{is_type_built, is_binder_built, is_expr_built, is_arg_built, are_args_built, is_con_built, is_decl_built, IsBuilt}
 
 -- a name is one that is no word of a form, and a literal is in range
 abbrev IsGood : Tok → Type 0
@@ -169,13 +170,38 @@ formed_names names_end (_, g) = (refl, g)
 formed_names (names_lower {w = w} d) (h, g) = let p = formed_names d g in (both (lower_is_word w h) p.0, p.1)
 formed_names (names_upper {w = w} d) (h, g) = let p = formed_names d g in (both (upper_is_word w h) p.0, p.1)
 
-formed_type : {ts rest : List Tok} {t : Ty} → TypeAt ts t rest → AreGood ts → (is_type_formed t ≡ true) × AreGood rest
-formed_type type_con (h, g) = (h, g)
-formed_type type_int (_, g) = (refl, g)
+left_of : (p q : Bool) → (p && q) ≡ true → p ≡ true
+left_of true q e = refl
+left_of false q e = absurd cc
 
-formed_types : {ts rest : List Tok} {tys : List Ty} → TypesAt ts tys rest → AreGood ts → (list_all is_type_formed tys ≡ true) × AreGood rest
-formed_types types_end (_, g) = (refl, g)
-formed_types (types_more t d) g = let p = formed_type t g in let q = formed_types d p.1 in (both p.0 q.0, q.1)
+right_of : (p q : Bool) → (p && q) ≡ true → q ≡ true
+right_of true q e = e
+right_of false q e = absurd cc
+
+formed_functions : (t : Ty) (tys : List Ty) → is_type_formed t ≡ true → list_all is_type_formed tys ≡ true → is_type_formed (functions t tys) ≡ true
+formed_functions t [] h k = h
+formed_functions t (u ∷ us) h k = both h (formed_functions u us (left_of (is_type_formed u) (list_all is_type_formed us) k) (right_of (is_type_formed u) (list_all is_type_formed us) k))
+
+mutual
+  formed_type : {ts rest : List Tok} {t : Ty} → TypeAt ts t rest → AreGood ts → (is_type_formed t ≡ true) × AreGood rest
+  formed_type type_con (h, g) = (h, g)
+  formed_type type_int (_, g) = (refl, g)
+  formed_type (type_fun {u = u} {tys = tys} a b d) (_, (_, g)) =
+      let p = formed_type a g in
+      let q = formed_type b p.1 in
+      let r = formed_types d q.1 in
+      (both p.0 (formed_functions u tys q.0 r.0), r.1)
+
+  formed_types : {ts rest : List Tok} {tys : List Ty} → TypesAt ts tys rest → AreGood ts → (list_all is_type_formed tys ≡ true) × AreGood rest
+  formed_types types_end (_, g) = (refl, g)
+  formed_types (types_more t d) g = let p = formed_type t g in let q = formed_types d p.1 in (both p.0 q.0, q.1)
+
+formed_binder : {ts rest : List Tok} {b : Binder} → BinderAt ts b rest → AreGood ts → (is_binder_formed b ≡ true) × AreGood rest
+formed_binder (binder_value t) (_, (h, g)) = let p = formed_type t g in (both h p.0, p.1.1)
+
+formed_binders : {ts rest : List Tok} {bs : List Binder} → BindersAt ts bs rest → AreGood ts → (list_all is_binder_formed bs ≡ true) × AreGood rest
+formed_binders binders_end (_, g) = (refl, g)
+formed_binders (binders_more b d) g = let p = formed_binder b g in let q = formed_binders d p.1 in (both p.0 q.0, q.1)
 
 formed_con : {ts rest : List Tok} {c : ConDecl} → ConAt ts c rest → AreGood ts → (is_con_formed c ≡ true) × AreGood rest
 formed_con (con_at d) (_, (h, (_, (_, g)))) = let p = formed_types d g in (both h p.0, p.1)
@@ -184,11 +210,36 @@ formed_cons : {ts rest : List Tok} {cs : List ConDecl} → ConsAt ts cs rest →
 formed_cons cons_end (_, g) = (refl, g)
 formed_cons (cons_more c d) g = let p = formed_con c g in let q = formed_cons d p.1 in (both p.0 q.0, q.1)
 
+formed_applications : (f : Expr) (args : Args) → is_expr_formed f ≡ true → are_args_formed args ≡ true → is_expr_formed (applications f args) ≡ true
+formed_applications f NoArgs h k = h
+formed_applications f (MoreArgs a rest) h k =
+    formed_applications (EApp f a) rest (both h (left_of (is_arg_formed a) (are_args_formed rest) k)) (right_of (is_arg_formed a) (are_args_formed rest) k)
+
+formed_lambdas : (bs : List Binder) (e : Expr) → list_all is_binder_formed bs ≡ true → is_expr_formed e ≡ true → is_expr_formed (lambdas bs e) ≡ true
+formed_lambdas [] e h k = k
+formed_lambdas (b ∷ bs) e h k =
+    both (left_of (is_binder_formed b) (list_all is_binder_formed bs) h) (formed_lambdas bs e (right_of (is_binder_formed b) (list_all is_binder_formed bs) h) k)
+
 mutual
   formed_expr : {ts rest : List Tok} {e : Expr} → ExprAt ts e rest → AreGood ts → (is_expr_formed e ≡ true) × AreGood rest
   formed_expr expr_var (h, g) = (h, g)
   formed_expr expr_lit (h, g) = (h, g)
   formed_expr (expr_con d) (_, (_, (h, g))) = let p = formed_args d g in (both h p.0, p.1)
+  formed_expr (expr_app {f = f} {a = a} {args = args} df da d) (_, (_, g)) =
+      let p = formed_expr df g in
+      let q = formed_expr da p.1 in
+      let r = formed_args d q.1 in
+      (formed_applications (EApp f (ATerm a)) args (both p.0 q.0) r.0, r.1)
+  formed_expr (expr_lam {bs = bs} {e = e} db dbs de) (_, (_, (_, g))) =
+      let p = formed_binder db g in
+      let q = formed_binders dbs p.1 in
+      let r = formed_expr de q.1 in
+      (both p.0 (formed_lambdas bs e q.0 r.0), r.1.1)
+  formed_expr (expr_let dt dd de) (_, (_, (_, (h, g)))) =
+      let p = formed_type dt g in
+      let q = formed_expr dd p.1 in
+      let r = formed_expr de q.1.1 in
+      (both (both (both h (both p.0 q.0)) refl) r.0, r.1.1)
 
   formed_args : {ts rest : List Tok} {args : Args} → ArgsAt ts args rest → AreGood ts → (are_args_formed args ≡ true) × AreGood rest
   formed_args args_end (_, g) = (refl, g)
@@ -220,13 +271,36 @@ spelled_is_formed bytes m h = formed_module h.parsed (good_toks h.lexemes (good_
 
 -- ---- only the forms that are built
 
-built_type : {ts rest : List Tok} {t : Ty} → TypeAt ts t rest → is_type_built t ≡ true
-built_type type_con = refl
-built_type type_int = refl
+built_functions : (t : Ty) (tys : List Ty) → is_type_built t ≡ true → list_all is_type_built tys ≡ true → is_type_built (functions t tys) ≡ true
+built_functions t [] h k = h
+built_functions t (u ∷ us) h k = both h (built_functions u us (left_of (is_type_built u) (list_all is_type_built us) k) (right_of (is_type_built u) (list_all is_type_built us) k))
 
-built_types : {ts rest : List Tok} {tys : List Ty} → TypesAt ts tys rest → list_all is_type_built tys ≡ true
-built_types types_end = refl
-built_types (types_more t d) = both (built_type t) (built_types d)
+mutual
+  built_type : {ts rest : List Tok} {t : Ty} → TypeAt ts t rest → is_type_built t ≡ true
+  built_type type_con = refl
+  built_type type_int = refl
+  built_type (type_fun {u = u} {tys = tys} a b d) = both (built_type a) (built_functions u tys (built_type b) (built_types d))
+
+  built_types : {ts rest : List Tok} {tys : List Ty} → TypesAt ts tys rest → list_all is_type_built tys ≡ true
+  built_types types_end = refl
+  built_types (types_more t d) = both (built_type t) (built_types d)
+
+built_binder : {ts rest : List Tok} {b : Binder} → BinderAt ts b rest → is_binder_built b ≡ true
+built_binder (binder_value t) = built_type t
+
+built_binders : {ts rest : List Tok} {bs : List Binder} → BindersAt ts bs rest → list_all is_binder_built bs ≡ true
+built_binders binders_end = refl
+built_binders (binders_more b d) = both (built_binder b) (built_binders d)
+
+built_applications : (f : Expr) (args : Args) → is_expr_built f ≡ true → are_args_built args ≡ true → is_expr_built (applications f args) ≡ true
+built_applications f NoArgs h k = h
+built_applications f (MoreArgs a rest) h k =
+    built_applications (EApp f a) rest (both h (left_of (is_arg_built a) (are_args_built rest) k)) (right_of (is_arg_built a) (are_args_built rest) k)
+
+built_lambdas : (bs : List Binder) (e : Expr) → list_all is_binder_built bs ≡ true → is_expr_built e ≡ true → is_expr_built (lambdas bs e) ≡ true
+built_lambdas [] e h k = k
+built_lambdas (b ∷ bs) e h k =
+    both (left_of (is_binder_built b) (list_all is_binder_built bs) h) (built_lambdas bs e (right_of (is_binder_built b) (list_all is_binder_built bs) h) k)
 
 built_con : {ts rest : List Tok} {c : ConDecl} → ConAt ts c rest → is_con_built c ≡ true
 built_con (con_at d) = built_types d
@@ -240,6 +314,9 @@ mutual
   built_expr expr_var = refl
   built_expr expr_lit = refl
   built_expr (expr_con d) = built_args d
+  built_expr (expr_app {f = f} {a = a} {args = args} df da d) = built_applications (EApp f (ATerm a)) args (both (built_expr df) (built_expr da)) (built_args d)
+  built_expr (expr_lam {bs = bs} {e = e} db dbs de) = both (built_binder db) (built_lambdas bs e (built_binders dbs) (built_expr de))
+  built_expr (expr_let dt dd de) = both (both (built_type dt) (built_expr dd)) (built_expr de)
 
   built_args : {ts rest : List Tok} {args : Args} → ArgsAt ts args rest → are_args_built args ≡ true
   built_args args_end = refl

@@ -1,4 +1,5 @@
 pub mod Ascii
+pub mod Chains
 pub mod Cuts
 pub mod Ends
 pub mod Follow

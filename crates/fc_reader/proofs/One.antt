@@ -1,10 +1,11 @@
 -- No text begins another, and each has one tree.
-use Rattle.std.proofs.Common.{◌≡◌, List, [], ◌∷◌, refl, sym, ap, subst}
-use Rattle.fc_syntax.specs.Tree.{Word, Ty, ConDecl, ConOf, Expr, ECon, ATerm, Args, MoreArgs, Decl, DData, DDef, Module, ModuleOf}
+use Rattle.std.proofs.Common.{◌≡◌, false, List, [], ◌∷◌, refl, sym, ap, subst}
+use Rattle.fc_syntax.specs.Tree.{Word, Ty, TFun, ConDecl, ConOf, Binder, BValue, Bound, NoBinds, MoreBinds, Expr, EApp, ELam, ELet, ECon, ATerm, Args, MoreArgs, Decl, DData, DDef, Module, ModuleOf}
 use Rattle.fc_model.specs.declared.keyword.Keyword.TheVariants as word
 use Rattle.fc_model.specs.Words.{Tok, Open, Close, Key}
-use Rattle.fc_model.specs.Texts.{NamesAt, names_end, names_lower, names_upper, TypeAt, type_con, type_int, TypesAt, types_end, types_more, ConAt, con_at, ConsAt, cons_end, cons_more}
-use Rattle.fc_model.specs.Texts.{plain_name, ExprAt, expr_var, expr_lit, expr_con, ArgsAt, args_end, args_more, DeclAt, decl_data, decl_def, DeclsAt, decls_end, decls_more}
+use Rattle.fc_model.specs.Texts.{NamesAt, names_end, names_lower, names_upper, TypeAt, type_con, type_int, type_fun, TypesAt, types_end, types_more, ConAt, con_at, ConsAt, cons_end, cons_more}
+use Rattle.fc_model.specs.Texts.{BinderAt, binder_value, BindersAt, binders_end, binders_more, functions, applications, lambdas}
+use Rattle.fc_model.specs.Texts.{plain_name, ExprAt, expr_var, expr_lit, expr_con, expr_app, expr_lam, expr_let, ArgsAt, args_end, args_more, DeclAt, decl_data, decl_def, DeclsAt, decls_end, decls_more}
 use Rattle.fc_model.specs.Texts.{BodyAt, body_hidden, body_plain, ModuleAt, module_at}
 
 -- what two readings of one text have in common
@@ -24,6 +25,9 @@ behind e = cc
 no_type_at_close : {A : Type 0} {ts rest : List Tok} {t : Ty} → TypeAt (Close ∷ ts) t rest → A
 no_type_at_close d = elim d [ ]
 
+no_binder_at_close : {A : Type 0} {ts rest : List Tok} {b : Binder} → BinderAt (Close ∷ ts) b rest → A
+no_binder_at_close d = elim d [ ]
+
 no_con_at_close : {A : Type 0} {ts rest : List Tok} {c : ConDecl} → ConAt (Close ∷ ts) c rest → A
 no_con_at_close d = elim d [ ]
 
@@ -40,6 +44,12 @@ no_decls_at_hidden : {A : Type 0} {ts rest : List Tok} {ds : List Decl} → Decl
 no_decls_at_hidden (decls_more d r) = no_decl_at_hidden d
 
 -- a reading moved along an equation of its tokens
+type_on : {ts us rest : List Tok} {t : Ty} → us ≡ ts → TypeAt ts t rest → TypeAt us t rest
+type_on {rest = r} {t = t} e d = subst (λ u. TypeAt u t r) (sym e) d
+
+binders_on : {ts us rest : List Tok} {bs : List Binder} → us ≡ ts → BindersAt ts bs rest → BindersAt us bs rest
+binders_on {rest = r} {bs = bs} e d = subst (λ u. BindersAt u bs r) (sym e) d
+
 types_on : {ts us rest : List Tok} {tys : List Ty} → us ≡ ts → TypesAt ts tys rest → TypesAt us tys rest
 types_on {rest = r} {tys = tys} e d = subst (λ u. TypesAt u tys r) (sym e) d
 
@@ -63,17 +73,35 @@ names_one names_end names_end = record { value = refl; rest = refl }
 names_one (names_lower {w = w} a) (names_lower b) = let p = names_one a b in record { value = ap (λ (x : List Word). w ∷ x) p.value; rest = p.rest }
 names_one (names_upper {w = w} a) (names_upper b) = let p = names_one a b in record { value = ap (λ (x : List Word). w ∷ x) p.value; rest = p.rest }
 
-type_one : {ts r : List Tok} {t : Ty} → TypeAt ts t r → {t' : Ty} {r' : List Tok} → TypeAt ts t' r' → Same t t' r r'
-type_one type_con type_con = record { value = refl; rest = refl }
-type_one type_int type_int = record { value = refl; rest = refl }
+mutual
+  type_one : {ts r : List Tok} {t : Ty} → TypeAt ts t r → {t' : Ty} {r' : List Tok} → TypeAt ts t' r' → Same t t' r r'
+  type_one type_con type_con = record { value = refl; rest = refl }
+  type_one type_int type_int = record { value = refl; rest = refl }
+  type_one (type_fun a b c) (type_fun a' b' c') =
+      let p = type_one a a' in
+      let q = type_one b (type_on p.rest b') in
+      let s = types_one c (types_on q.rest c') in
+      record { value = ap3 (λ x y z. TFun x (functions y z)) p.value q.value s.value; rest = s.rest }
 
-types_one : {ts r : List Tok} {t : List Ty} → TypesAt ts t r → {t' : List Ty} {r' : List Tok} → TypesAt ts t' r' → Same t t' r r'
-types_one types_end types_end = record { value = refl; rest = refl }
-types_one types_end (types_more a' c') = no_type_at_close a'
-types_one (types_more a c) types_end = no_type_at_close a
-types_one (types_more a c) (types_more a' c') =
-    let p = type_one a a' in
-    let s = types_one c (types_on p.rest c') in
+  types_one : {ts r : List Tok} {t : List Ty} → TypesAt ts t r → {t' : List Ty} {r' : List Tok} → TypesAt ts t' r' → Same t t' r r'
+  types_one types_end types_end = record { value = refl; rest = refl }
+  types_one types_end (types_more a' c') = no_type_at_close a'
+  types_one (types_more a c) types_end = no_type_at_close a
+  types_one (types_more a c) (types_more a' c') =
+      let p = type_one a a' in
+      let s = types_one c (types_on p.rest c') in
+      record { value = ap2 ◌∷◌ p.value s.value; rest = s.rest }
+
+binder_one : {ts r : List Tok} {b : Binder} → BinderAt ts b r → {b' : Binder} {r' : List Tok} → BinderAt ts b' r' → Same b b' r r'
+binder_one (binder_value {x = x} a) (binder_value a') = let p = type_one a a' in record { value = ap (BValue x) p.value; rest = behind p.rest }
+
+binders_one : {ts r : List Tok} {t : List Binder} → BindersAt ts t r → {t' : List Binder} {r' : List Tok} → BindersAt ts t' r' → Same t t' r r'
+binders_one binders_end binders_end = record { value = refl; rest = refl }
+binders_one binders_end (binders_more a' c') = no_binder_at_close a'
+binders_one (binders_more a c) binders_end = no_binder_at_close a
+binders_one (binders_more a c) (binders_more a' c') =
+    let p = binder_one a a' in
+    let s = binders_one c (binders_on p.rest c') in
     record { value = ap2 ◌∷◌ p.value s.value; rest = s.rest }
 
 con_one : {ts r : List Tok} {t : ConDecl} → ConAt ts t r → {t' : ConDecl} {r' : List Tok} → ConAt ts t' r' → Same t t' r r'
@@ -93,6 +121,21 @@ mutual
   expr_one expr_var expr_var = record { value = refl; rest = refl }
   expr_one expr_lit expr_lit = record { value = refl; rest = refl }
   expr_one (expr_con {k = k} a) (expr_con a') = let p = args_one a a' in record { value = ap (ECon (plain_name k)) p.value; rest = p.rest }
+  expr_one (expr_app a b c) (expr_app a' b' c') =
+      let p = expr_one a a' in
+      let q = expr_one b (expr_on p.rest b') in
+      let s = args_one c (args_on q.rest c') in
+      record { value = ap3 (λ x y z. applications (EApp x (ATerm y)) z) p.value q.value s.value; rest = s.rest }
+  expr_one (expr_lam a b c) (expr_lam a' b' c') =
+      let p = binder_one a a' in
+      let q = binders_one b (binders_on p.rest b') in
+      let s = expr_one c (expr_on q.rest c') in
+      record { value = ap3 (λ x y z. ELam x (lambdas y z)) p.value q.value s.value; rest = behind s.rest }
+  expr_one (expr_let {x = x} a b c) (expr_let a' b' c') =
+      let p = type_one a a' in
+      let q = expr_one b (expr_on p.rest b') in
+      let s = expr_one c (expr_on (behind q.rest) c') in
+      record { value = ap3 (λ t y z. ELet false (MoreBinds (Bound x t y) NoBinds) z) p.value q.value s.value; rest = behind s.rest }
 
   args_one : {ts r : List Tok} {t : Args} → ArgsAt ts t r → {t' : Args} {r' : List Tok} → ArgsAt ts t' r' → Same t t' r r'
   args_one args_end args_end = record { value = refl; rest = refl }

@@ -1,13 +1,15 @@
 -- One rule of types, constructors, expressions and declarations each, as a reader meets it.
-use Rattle.std.proofs.Common.{◌≡◌, ℤ, List, [], ◌∷◌, ◌++◌, refl, sym, ap, ◌∙◌, subst}
-use Rattle.fc_syntax.specs.Tree.{Word, Ty, TCon, TInt, Binder, ConDecl, ConOf, Expr, EVar, ELit, ECon, ATerm, Args, NoArgs, MoreArgs, Param, Decl, DData, DDef}
+use Rattle.std.proofs.Common.{◌≡◌, false, ℤ, List, [], ◌∷◌, ◌++◌, refl, sym, ap, ◌∙◌, subst}
+use Rattle.fc_syntax.specs.Tree.{Word, Ty, TCon, TInt, TFun, Binder, BValue, Bound, NoBinds, MoreBinds, ConDecl, ConOf, Expr, EVar, ELit, EApp, ELam, ELet, ECon, ATerm, Args, NoArgs, MoreArgs, Param, Decl, DData, DDef}
 use Rattle.fc_syntax.specs.View.{expr_of, arg_of, args_of}
 use Rattle.fc_syntax.specs.declared.expr.Arg as A
 use Rattle.fc_syntax.specs.declared.expr.Expr as E
 use Rattle.fc_model.specs.declared.keyword.Keyword.TheVariants as word
 use Rattle.fc_model.specs.Words.{Tok, Open, Close, Key, Lower, Upper, Literal}
-use Rattle.fc_model.specs.Texts.{plain_name, TypeAt, type_con, type_int, TypesAt, types_end, ConAt, con_at, ConsAt, cons_end}
-use Rattle.fc_model.specs.Texts.{ExprAt, expr_var, expr_lit, expr_con, ArgsAt, args_end, args_more, DeclAt, decl_data, decl_def}
+use Rattle.fc_model.specs.Texts.{plain_name, functions, applications, lambdas, TypeAt, type_con, type_int, type_fun, TypesAt, types_end, ConAt, con_at, ConsAt, cons_end}
+use Rattle.fc_model.specs.Texts.{BinderAt, binder_value, BindersAt, binders_end}
+use Rattle.fc_model.specs.Texts.{ExprAt, expr_var, expr_lit, expr_con, expr_app, expr_lam, expr_let, ArgsAt, args_end, args_more, DeclAt, decl_data, decl_def}
+use Rattle.fc_reader.specs.Reading.{AppliedAt, AppliesAt, BindsAt}
 use Rattle.fc_reader.proofs.Forms.{Token, token}
 
 type_on : {ts rest : List Tok} {t u : Ty} → t ≡ u → TypeAt ts u rest → TypeAt ts t rest
@@ -19,8 +21,21 @@ type_con_read e f token = type_on (e ∙ ap (λ x. TCon (plain_name x)) f) type_
 pub type_int_read : {ts rest : List Tok} {v : Ty} → v ≡ TInt → Token (Key word.IntHash) ts rest → TypeAt ts v rest
 type_int_read e token = type_on e type_int
 
+pub type_form_read : {ts us rest : List Tok} {t : Ty} → Token Open ts us → TypeAt (Open ∷ us) t rest → TypeAt ts t rest
+type_form_read token d = d
+
+pub type_fun_read : {ts us vs ws rest : List Tok} {v t u to : Ty} {tys : List Ty} → v ≡ TFun t to → to ≡ functions u tys → Token (Key word.Fun) ts us → TypeAt us t vs → TypeAt vs u ws
+    → TypesAt ws tys rest → TypeAt (Open ∷ ts) v rest
+type_fun_read {t = t} e f token dt du d = type_on (e ∙ ap (TFun t) f) (type_fun dt du d)
+
 pub types_end_read : {ts rest : List Tok} → Token Close ts rest → TypesAt ts [] rest
 types_end_read token = types_end
+
+pub binder_read : {ts us vs ws rest : List Tok} {x : Word} {t : Ty} → Token Open ts us → Token (Lower x) us vs → TypeAt vs t ws → Token Close ws rest → BinderAt ts (BValue x t) rest
+binder_read token token d token = binder_value d
+
+pub binders_end_read : {ts rest : List Tok} → Token Close ts rest → BindersAt ts [] rest
+binders_end_read token = binders_end
 
 con_on : {ts rest : List Tok} {c d : ConDecl} → c ≡ d → ConAt ts d rest → ConAt ts c rest
 con_on {ts = ts} {rest = rest} e d = subst (λ x. ConAt ts x rest) (sym e) d
@@ -47,6 +62,37 @@ form_read token d = d
 pub expr_con_read : {ts us vs rest : List Tok} {v : Expr} {k : Word} {args : Args} → v ≡ ECon (plain_name k) args → Token (Key word.Con) ts us → Token (Upper k) us vs
     → ArgsAt vs args rest → ExprAt (Open ∷ ts) v rest
 expr_con_read e token token d = expr_on e (expr_con d)
+
+pub key_form_read : {ts us rest : List Tok} {t : Tok} {e : Expr} → Token t ts us → ExprAt (Open ∷ t ∷ us) e rest → ExprAt (Open ∷ ts) e rest
+key_form_read token d = d
+
+pub app_form_read : {ts us vs rest : List Tok} {f e : Expr} → Token (Key word.App) ts us → AppliesAt us f vs → AppliedAt f vs e rest → ExprAt (Open ∷ ts) e rest
+app_form_read token h d = h _ _ d
+
+pub app_read : {us vs ws : List Tok} {f a head : Expr} → head ≡ EApp f (ATerm a) → ExprAt us f vs → ExprAt vs a ws → AppliesAt us head ws
+app_read e df da = λ v rest d. expr_on (d.value ∙ ap (λ (x : Expr). applications x d.args) e) (expr_app df da d.read)
+
+pub lam_binders_read : {us vs ws xs : List Tok} {b : Binder} {bs : List Binder} → Token Open us vs → BinderAt vs b ws → BindersAt ws bs xs → BindsAt us b bs xs
+lam_binders_read token db dbs = λ e rest de. expr_lam db dbs de
+
+pub lam_read : {us xs ys rest : List Tok} {v e : Expr} {b : Binder} (bs : List Binder) → v ≡ ELam b (lambdas bs e) → BindsAt us b bs xs → ExprAt xs e ys → Token Close ys rest
+    → ExprAt (Open ∷ Key word.Lam ∷ us) v rest
+lam_read bs e db de token = expr_on e (db _ _ de)
+
+pub let_read : {us vs ws xs ys zs os rest : List Tok} {x : Word} {t : Ty} {v d e : Expr} → v ≡ ELet false (MoreBinds (Bound x t d) NoBinds) e → Token Open us vs
+    → Token (Lower x) vs ws → TypeAt ws t xs → ExprAt xs d ys → Token Close ys zs → ExprAt zs e os → Token Close os rest → ExprAt (Open ∷ Key word.Let ∷ us) v rest
+let_read e token token dt dd token de token = expr_on e (expr_let dt dd de)
+
+-- ---- a head that is applied
+
+abbrev pub AppliedSoFar : Expr → List Tok → Expr → List Tok → Type 0
+AppliedSoFar f ts g us = (e : Expr) (rest : List Tok) → AppliedAt g us e rest → AppliedAt f ts e rest
+
+pub applied_more_read : {ts us vs : List Tok} {f g h a : Expr} → h ≡ EApp g (ATerm a) → AppliedSoFar f ts g us → ExprAt us a vs → AppliedSoFar f ts h vs
+applied_more_read {a = a} e so d = λ v rest r. so v rest (record { args = MoreArgs (ATerm a) r.args; read = args_more d r.read; value = r.value ∙ ap (λ (x : Expr). applications x r.args) e })
+
+pub applied_end_read : {ts us rest : List Tok} {f g : Expr} → Token Close us rest → AppliedSoFar f ts g us → AppliedAt f ts g rest
+applied_end_read token so = so _ _ (record { args = NoArgs; read = args_end; value = refl })
 
 -- ---- arguments
 

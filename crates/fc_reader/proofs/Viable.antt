@@ -1,16 +1,17 @@
 -- What the machine has taken can always be gone on with to a text of the grammar.
 use Rattle.std.proofs.Common.{◌≡◌, ℕ, ℤ, Bool, true, false, List, [], ◌∷◌, ◌++◌, codes, length, Option, Some, None, if◌then◌else◌, refl, sym, ap, ◌∙◌, append_assoc}
 use Rattle.std.specs.Prelude.{IfSome}
-use Rattle.fc_syntax.specs.Tree.{Word, Ty, TCon, TInt, ConDecl, ConOf, Expr, EVar, ELit, ECon, ATerm, Args, NoArgs, MoreArgs, Decl, DData, DDef, Module, ModuleOf}
+use Rattle.fc_syntax.specs.Tree.{Word, Ty, TCon, TInt, TFun, ConDecl, ConOf, Binder, BValue, Bound, NoBinds, MoreBinds, Expr, EVar, ELit, EApp, ELam, ELet, ECon, ATerm, Args, NoArgs, MoreArgs, Decl, DData, DDef, Module, ModuleOf}
 use Rattle.fc_syntax.specs.Tokens.{is_module_part}
 use Rattle.fc_model.specs.declared.keyword.Keyword.TheVariants as word
 use Rattle.fc_model.specs.Words.{Tok, Open, Close, Key, Lower, Upper, Literal}
-use Rattle.fc_model.specs.Texts.{NamesAt, names_end, names_lower, names_upper, TypeAt, type_con, type_int, TypesAt, types_end, types_more, ConAt, con_at, ConsAt, cons_end, cons_more}
-use Rattle.fc_model.specs.Texts.{plain_name, ExprAt, expr_var, expr_lit, expr_con, ArgsAt, args_end, args_more, DeclAt, decl_data, decl_def, DeclsAt, decls_end, decls_more}
+use Rattle.fc_model.specs.Texts.{NamesAt, names_end, names_lower, names_upper, TypeAt, type_con, type_int, type_fun, TypesAt, types_end, types_more, ConAt, con_at, ConsAt, cons_end, cons_more}
+use Rattle.fc_model.specs.Texts.{BinderAt, binder_value, BindersAt, binders_end, binders_more, functions, applications, lambdas}
+use Rattle.fc_model.specs.Texts.{plain_name, ExprAt, expr_var, expr_lit, expr_con, expr_app, expr_lam, expr_let, ArgsAt, args_end, args_more, DeclAt, decl_data, decl_def, DeclsAt, decls_end, decls_more}
 use Rattle.fc_model.specs.Texts.{BodyAt, body_hidden, body_plain, ModuleAt, module_at}
 use Rattle.fc_model.specs.ReadFaults.{Begins, CannotGoOn}
 use Rattle.fc_reader.specs.Header.{HeaderAt, header_at}
-use Rattle.fc_reader.specs.Machine.{Want, AModule, AHeader, AModuleWord, AModuleName, AnImportsWord, AnExportsWord, AName, Names, Body, ABodyForm, Decls, ADecl, ADeclForm, Cons, ACon, Types, AType, AnExpr, AnExprForm, Arguments, ALower, AnUpper, AnOpen, AClose, AToken}
+use Rattle.fc_reader.specs.Machine.{Want, AModule, AHeader, AModuleWord, AModuleName, AnImportsWord, AnExportsWord, AName, Names, Body, ABodyForm, Decls, ADecl, ADeclForm, Cons, ACon, Types, AType, ATypeForm, ABinder, Binders, AnExpr, AnExprForm, Arguments, ALower, AnUpper, AnOpen, AClose, AToken}
 use Rattle.fc_reader.specs.Machine.{next, next_name, next_type, next_expr, next_decl_form, then_want, stuck}
 use Rattle.fc_reader.specs.Places.{FirstBad}
 use Rattle.fc_reader.specs.Reading.{IsName}
@@ -39,6 +40,9 @@ Is Cons ts rest = (cs : List ConDecl) × ConsAt ts cs rest
 Is ACon ts rest = (c : ConDecl) × ConAt ts c rest
 Is Types ts rest = (tys : List Ty) × TypesAt ts tys rest
 Is AType ts rest = (t : Ty) × TypeAt ts t rest
+Is ATypeForm ts rest = (t : Ty) × TypeAt (Open ∷ ts) t rest
+Is ABinder ts rest = (b : Binder) × BinderAt ts b rest
+Is Binders ts rest = (bs : List Binder) × BindersAt ts bs rest
 Is AnExpr ts rest = (e : Expr) × ExprAt ts e rest
 Is AnExprForm ts rest = (e : Expr) × ExprAt (Open ∷ ts) e rest
 Is Arguments ts rest = (args : Args) × ArgsAt ts args rest
@@ -128,6 +132,21 @@ type_con_back w ts _ nothing = (TCon (plain_name w), type_con)
 type_int_back : Back AType (Key word.IntHash) []
 type_int_back ts _ nothing = (TInt, type_int)
 
+type_open_back : Back AType Open (ATypeForm ∷ [])
+type_open_back ts rest (_, d, nothing) = d
+
+fun_back : Back ATypeForm (Key word.Fun) (AType ∷ AType ∷ Types ∷ [])
+fun_back ts rest (_, (t, dt), (_, (u, du), (_, (tys, d), nothing))) = (TFun t (functions u tys), type_fun dt du d)
+
+binder_back : Back ABinder Open (ALower ∷ AType ∷ AClose ∷ [])
+binder_back ts rest (_, (x, token), (_, (t, d), (_, token, nothing))) = (BValue x t, binder_value d)
+
+binders_end_back : Back Binders Close []
+binders_end_back ts _ nothing = ([], binders_end)
+
+binders_back : Back Binders Open (ALower ∷ AType ∷ AClose ∷ Binders ∷ [])
+binders_back ts rest (_, (x, token), (_, (t, d), (_, token, (_, (bs, r), nothing)))) = (BValue x t ∷ bs, binders_more (binder_value d) r)
+
 expr_back : Back AnExpr Open (AnExprForm ∷ [])
 expr_back ts rest (_, d, nothing) = d
 
@@ -139,6 +158,16 @@ lit_back n ts _ nothing = (ELit n, expr_lit)
 
 expr_con_back : Back AnExprForm (Key word.Con) (AnUpper ∷ Arguments ∷ [])
 expr_con_back ts rest (_, (k, token), (_, (args, d), nothing)) = (ECon (plain_name k) args, expr_con d)
+
+app_back : Back AnExprForm (Key word.App) (AnExpr ∷ AnExpr ∷ Arguments ∷ [])
+app_back ts rest (_, (f, df), (_, (a, da), (_, (args, d), nothing))) = (applications (EApp f (ATerm a)) args, expr_app df da d)
+
+lam_back : Back AnExprForm (Key word.Lam) (AnOpen ∷ ABinder ∷ Binders ∷ AnExpr ∷ AClose ∷ [])
+lam_back ts rest (_, token, (_, (b, db), (_, (bs, dbs), (_, (e, de), (_, token, nothing))))) = (ELam b (lambdas bs e), expr_lam db dbs de)
+
+let_back : Back AnExprForm (Key word.Let) (AnOpen ∷ ALower ∷ AType ∷ AnExpr ∷ AClose ∷ AnExpr ∷ AClose ∷ [])
+let_back ts rest (_, token, (_, (x, token), (_, (t, dt), (_, (d, dd), (_, token, (_, (e, de), (_, token, nothing))))))) =
+    (ELet false (MoreBinds (Bound x t d) NoBinds) e, expr_let dt dd de)
 
 args_end_back : Back Arguments Close []
 args_end_back ts _ nothing = (NoArgs, args_end)
@@ -187,6 +216,7 @@ body_form_back t (Some ws) h = λ ts rest d. (let p = are_last ws Decls ts rest 
 type_back : (t : Tok) → IfSome (next_type t) (Back AType t)
 type_back (Upper w) = type_con_back w
 type_back (Key word.IntHash) = type_int_back
+type_back Open = type_open_back
 type_back _ = tt
 
 expr_step_back : (t : Tok) → IfSome (next_expr t) (Back AnExpr t)
@@ -229,8 +259,15 @@ step_back ACon Open = con_back
 step_back Types Close = types_end_back
 step_back Types t = types_back t (next_type t) (type_back t)
 step_back AType t = type_back t
+step_back ATypeForm (Key word.Fun) = fun_back
+step_back ABinder Open = binder_back
+step_back Binders Close = binders_end_back
+step_back Binders Open = binders_back
 step_back AnExpr t = expr_step_back t
 step_back AnExprForm (Key word.Con) = expr_con_back
+step_back AnExprForm (Key word.App) = app_back
+step_back AnExprForm (Key word.Lam) = lam_back
+step_back AnExprForm (Key word.Let) = let_back
 step_back Arguments Close = args_end_back
 step_back Arguments t = args_back t (next_expr t) (expr_step_back t)
 step_back ALower (Lower w) = lower_word_back w
@@ -268,6 +305,9 @@ filled Cons = (Close ∷ [], λ rest. ([], cons_end))
 filled ACon = (Open ∷ Upper (codes "K") ∷ Open ∷ Close ∷ Close ∷ [], λ rest. (ConOf (codes "K") [] [], con_at types_end))
 filled Types = (Close ∷ [], λ rest. ([], types_end))
 filled AType = (Key word.IntHash ∷ [], λ rest. (TInt, type_int))
+filled ATypeForm = (Key word.Fun ∷ Key word.IntHash ∷ Key word.IntHash ∷ Close ∷ [], λ rest. (TFun TInt TInt, type_fun type_int type_int types_end))
+filled ABinder = (Open ∷ Lower (codes "x") ∷ Key word.IntHash ∷ Close ∷ [], λ rest. (BValue (codes "x") TInt, binder_value type_int))
+filled Binders = (Close ∷ [], λ rest. ([], binders_end))
 filled AnExpr = (Lower (codes "x") ∷ [], λ rest. (EVar (plain_name (codes "x")), expr_var))
 filled AnExprForm = (Key word.Con ∷ Upper (codes "K") ∷ Close ∷ [], λ rest. (ECon (plain_name (codes "K")) NoArgs, expr_con args_end))
 filled Arguments = (Close ∷ [], λ rest. (NoArgs, args_end))

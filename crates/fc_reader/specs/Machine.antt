@@ -23,6 +23,9 @@ pub data Want : Type 0 where
   ACon : Want
   Types : Want
   AType : Want
+  ATypeForm : Want
+  ABinder : Want
+  Binders : Want
   AnExpr : Want
   AnExprForm : Want
   Arguments : Want
@@ -46,6 +49,7 @@ next_name _ = None
 abbrev pub next_type : Tok → Option (List Want)
 next_type (Upper w) = Some []
 next_type (Key word.IntHash) = Some []
+next_type Open = Some (ATypeForm ∷ [])
 next_type _ = None
 
 abbrev pub next_expr : Tok → Option (List Want)
@@ -86,8 +90,15 @@ next ACon Open = Some (AnUpper ∷ AnOpen ∷ AClose ∷ Types ∷ [])
 next Types Close = Some []
 next Types t = then_want Types (next_type t)
 next AType t = next_type t
+next ATypeForm (Key word.Fun) = Some (AType ∷ AType ∷ Types ∷ [])
+next ABinder Open = Some (ALower ∷ AType ∷ AClose ∷ [])
+next Binders Close = Some []
+next Binders Open = Some (ALower ∷ AType ∷ AClose ∷ Binders ∷ [])
 next AnExpr t = next_expr t
 next AnExprForm (Key word.Con) = Some (AnUpper ∷ Arguments ∷ [])
+next AnExprForm (Key word.App) = Some (AnExpr ∷ AnExpr ∷ Arguments ∷ [])
+next AnExprForm (Key word.Lam) = Some (AnOpen ∷ ABinder ∷ Binders ∷ AnExpr ∷ AClose ∷ [])
+next AnExprForm (Key word.Let) = Some (AnOpen ∷ ALower ∷ AType ∷ AnExpr ∷ AClose ∷ AnExpr ∷ AClose ∷ [])
 next Arguments Close = Some []
 next Arguments t = then_want Arguments (next_expr t)
 next ALower (Lower w) = Some []

@@ -1,14 +1,14 @@
 -- What a reader answers.
 use Rattle.std.specs.Prelude.{◌≡◌, ⊤, ℕ, suc, List, ◌∷◌, length, Some}
 use Rattle.fc_syntax.specs.declared.token.Token.{Token}
-use Rattle.fc_syntax.specs.Tree.{Word}
+use Rattle.fc_syntax.specs.Tree.{Word, Binder, Expr, ELam, Args}
 use Rattle.fc_syntax.specs.Tokens.{AreSlices}
 use Rattle.fc_model.specs.Words.{Tok, Open, Close, Key, toks}
 use Rattle.fc_model.specs.declared.keyword.Keyword.TheVariants as word
-use Rattle.fc_model.specs.Texts.{NamesAt}
+use Rattle.fc_model.specs.Texts.{NamesAt, ExprAt, ArgsAt, applications, lambdas}
 use Rattle.fc_reader.specs.declared.parts.Stop.{Stop}
 use Rattle.fc_reader.specs.declared.parts.Stop.TheVariants as stop
-use Rattle.fc_reader.specs.Machine.{Want, AName, Names, Body, Decls, ADecl, Cons, ACon, Types, AType, AnExpr, Arguments, stuck}
+use Rattle.fc_reader.specs.Machine.{Want, AName, Names, Body, Decls, ADecl, Cons, ACon, Types, AType, ABinder, Binders, AnExpr, AnExprForm, AClose, Arguments, stuck}
 
 -- a fault is where the machine is stuck that wants w, whatever it wants behind it
 abbrev pub Stops : Want → List Tok → Stop → Type 0
@@ -27,9 +27,32 @@ IsName ts n us = (ns : List Word) (rest : List Tok) → NamesAt us ns rest → N
 pub record GoesOn (ts : List Tok) : Type 0 where
   pub names : (s : List Want) → stuck (Names ∷ s) ts ≡ stuck (AName ∷ Names ∷ s) ts
   pub types : (s : List Want) → stuck (Types ∷ s) ts ≡ stuck (AType ∷ Types ∷ s) ts
+  pub binders : (s : List Want) → stuck (Binders ∷ s) ts ≡ stuck (ABinder ∷ Binders ∷ s) ts
   pub cons : (s : List Want) → stuck (Cons ∷ s) ts ≡ stuck (ACon ∷ Cons ∷ s) ts
   pub args : (s : List Want) → stuck (Arguments ∷ s) ts ≡ stuck (AnExpr ∷ Arguments ∷ s) ts
   pub decls : (s : List Want) → stuck (Decls ∷ s) ts ≡ stuck (ADecl ∷ Decls ∷ s) ts
+
+-- the binders of a lambda behind its word, which whatever is read as its body completes
+abbrev pub BindsAt : List Tok → Binder → List Binder → List Tok → Type 0
+BindsAt ts b bs us = (e : Expr) (rest : List Tok) → ExprAt us e (Close ∷ rest) → ExprAt (Open ∷ Key word.Lam ∷ ts) (ELam b (lambdas bs e)) rest
+
+-- the machine that wants the form of a lambda takes its binders
+abbrev pub TakesBinders : List Tok → List Tok → Type 0
+TakesBinders ts us = (s : List Want) → stuck (AnExprForm ∷ s) (Key word.Lam ∷ ts) ≡ stuck (AnExpr ∷ AClose ∷ s) us
+
+-- the head f, and what it is further applied to up to the closing bracket
+pub record AppliedAt (f : Expr) (ts : List Tok) (e : Expr) (rest : List Tok) : Type 0 where
+  pub args : Args
+  pub read : ArgsAt ts args rest
+  pub value : e ≡ applications f args
+
+-- an application behind its word, which whatever it is further applied to completes
+abbrev pub AppliesAt : List Tok → Expr → List Tok → Type 0
+AppliesAt ts f us = (e : Expr) (rest : List Tok) → AppliedAt f us e rest → ExprAt (Open ∷ Key word.App ∷ ts) e rest
+
+-- the machine that wants the form of an application takes its head and its first argument
+abbrev pub TakesHead : List Tok → List Tok → Type 0
+TakesHead ts us = (s : List Want) → stuck (AnExprForm ∷ s) (Key word.App ∷ ts) ≡ stuck (Arguments ∷ s) us
 
 -- a closing bracket comes first
 pub record Closes (bytes : List ℕ) (tokens rest : List Token) : Type 0 where

@@ -4,8 +4,8 @@ ghost use Rattle.fc_syntax.specs.Tokens.{AreSlices, lexeme_of};
 ghost use Rattle.fc_model.specs.Words.{tok_of, tok_of_keyword, name_tok, toks, keyword_of as spec_keyword_of};
 ghost use Rattle.fc_reader.specs.Classes.{IsFirst, IsNamed, IsSlice, seen, word_at};
 
-use crate::names::{is_lower_name, is_upper_name};
 use crate::words::keyword_of;
+use fc_lex::{is_lower_name, is_upper_name};
 use fc_model::Keyword;
 use fc_syntax::{Token, TokenKind};
 

@@ -2,16 +2,19 @@
 ghost use Rattle.std.specs.Prelude.{◌≡◌, ◌<◌, ◌∷◌, length, IfOk, IfErr};
 ghost use Rattle.fc_syntax.specs.Tokens.{AreSlices};
 ghost use Rattle.fc_syntax.specs.Tree.{EVar, ELit, ECon};
-ghost use Rattle.fc_syntax.specs.View.{expr_of, args_of};
-ghost use Rattle.fc_model.specs.Words.{Open, toks};
+ghost use Rattle.fc_syntax.specs.View.{binder_of, binders_of, expr_of, args_of};
+ghost use Rattle.fc_model.specs.Words.{Open, Key, toks};
+ghost use Rattle.fc_model.specs.declared.keyword.Keyword.TheVariants as key;
 ghost use Rattle.fc_model.specs.Texts.{plain_name, ExprAt, ArgsAt};
 ghost use Rattle.fc_reader.specs.Machine.{AnExpr, AnExprForm, Arguments};
-ghost use Rattle.fc_reader.specs.Reading.{Stops, Takes};
+ghost use Rattle.fc_reader.specs.Reading.{AppliedAt, AppliesAt, BindsAt, Stops, Takes, TakesBinders, TakesHead};
 
 use crate::class::{Class, first};
-use crate::parts::{Stop, closes, name_text, read_upper};
+use crate::parts::{Stop, closes, name_text, read_close, read_lower, read_open, read_upper};
+use crate::trees::{application, binding, lambda_over};
+use crate::types::{read_binder, read_binders, read_type};
 use fc_model::Keyword;
-use fc_syntax::{Arg, Expr, Name, Seq, Text, Token};
+use fc_syntax::{Arg, Binder, Expr, Name, Seq, Text, Token};
 use std::alloc::Global;
 
 #[tactic(auto, using(fc_syntax::proofs::View::view_rules))]
@@ -89,7 +92,137 @@ fn read_expr_form<'a>(
             let (args, rest) = read_arguments(alloc, bytes, rest)?;
             Ok((built(name, args), rest))
         }
+        Class::Key(Keyword::App) => {
+            let (head, rest) = read_application(alloc, bytes, rest)?;
+            let (e, rest) = read_applied(alloc, bytes, head, rest)?;
+            Ok((e, rest))
+        }
+        Class::Key(Keyword::Lam) => {
+            let (e, rest) = read_lambda(alloc, bytes, rest)?;
+            Ok((e, rest))
+        }
+        Class::Key(Keyword::Let) => {
+            let (e, rest) = read_let(alloc, bytes, rest)?;
+            Ok((e, rest))
+        }
         _ => Err(Stop::Form(tokens.len())),
+    }
+}
+
+/// The head of an application with its first argument, behind its word. The readers of the forms stand alone, so that each level of brackets takes little stack.
+#[cycle(exprs)]
+#[inline(never)]
+fn read_application<'a>(
+    alloc: Global,
+    bytes: &[u8],
+    tokens: &'a [Token],
+) -> Result<(Expr, &'a [Token]), Stop>
+    requires { AreSlices bytes.now tokens.now }
+    ensures read { IfOk result (λ x. AppliesAt (toks bytes.now tokens.now) (expr_of x.0) (toks bytes.now x.1.now)) }
+    ensures taken { IfOk result (λ x. TakesHead (toks bytes.now tokens.now) (toks bytes.now x.1.now)) }
+    ensures inside { IfOk result (λ x. AreSlices bytes.now x.1.now) }
+    ensures shorter { IfOk result (λ x. length x.1.now < length tokens.now) }
+    ensures fault { IfErr result (Stops AnExprForm (Key key.App ∷ toks bytes.now tokens.now)) }
+{
+    let (f, rest) = read_expr(alloc, bytes, tokens)?;
+    let (a, rest) = read_expr(alloc, bytes, rest)?;
+    let head = application(alloc, f, a)?;
+    Ok((head, rest))
+}
+
+/// A lambda behind its word.
+#[cycle(exprs)]
+#[inline(never)]
+fn read_lambda<'a>(
+    alloc: Global,
+    bytes: &[u8],
+    tokens: &'a [Token],
+) -> Result<(Expr, &'a [Token]), Stop>
+    requires { AreSlices bytes.now tokens.now }
+    ensures read { IfOk result (λ x. ExprAt (Open ∷ Key key.Lam ∷ toks bytes.now tokens.now) (expr_of x.0) (toks bytes.now x.1.now)) }
+    ensures taken { IfOk result (λ x. Takes AnExprForm (Key key.Lam ∷ toks bytes.now tokens.now) (toks bytes.now x.1.now)) }
+    ensures inside { IfOk result (λ x. AreSlices bytes.now x.1.now) }
+    ensures shorter { IfOk result (λ x. length x.1.now < length tokens.now) }
+    ensures fault { IfErr result (Stops AnExprForm (Key key.Lam ∷ toks bytes.now tokens.now)) }
+{
+    let (binder, others, rest) = read_lambda_binders(alloc, bytes, tokens)?;
+    let (body, rest) = read_expr(alloc, bytes, rest)?;
+    let rest = read_close(bytes, rest)?;
+    let e = lambda_over(alloc, binder, others, body)?;
+    Ok((e, rest))
+}
+
+/// The binders of a lambda behind its word.
+#[inline(never)]
+fn read_lambda_binders<'a>(
+    alloc: Global,
+    bytes: &[u8],
+    tokens: &'a [Token],
+) -> Result<(Binder, Seq<Binder>, &'a [Token]), Stop>
+    requires { AreSlices bytes.now tokens.now }
+    ensures read { IfOk result (λ x. BindsAt (toks bytes.now tokens.now) (binder_of x.0) (binders_of x.1) (toks bytes.now x.2.now)) }
+    ensures taken { IfOk result (λ x. TakesBinders (toks bytes.now tokens.now) (toks bytes.now x.2.now)) }
+    ensures inside { IfOk result (λ x. AreSlices bytes.now x.2.now) }
+    ensures shorter { IfOk result (λ x. length x.2.now < length tokens.now) }
+    ensures fault { IfErr result (Stops AnExprForm (Key key.Lam ∷ toks bytes.now tokens.now)) }
+{
+    let rest = read_open(bytes, tokens)?;
+    let (binder, rest) = read_binder(alloc, bytes, rest)?;
+    let (others, rest) = read_binders(alloc, bytes, rest)?;
+    Ok((binder, others, rest))
+}
+
+/// A let behind its word.
+#[cycle(exprs)]
+#[inline(never)]
+fn read_let<'a>(
+    alloc: Global,
+    bytes: &[u8],
+    tokens: &'a [Token],
+) -> Result<(Expr, &'a [Token]), Stop>
+    requires { AreSlices bytes.now tokens.now }
+    ensures read { IfOk result (λ x. ExprAt (Open ∷ Key key.Let ∷ toks bytes.now tokens.now) (expr_of x.0) (toks bytes.now x.1.now)) }
+    ensures taken { IfOk result (λ x. Takes AnExprForm (Key key.Let ∷ toks bytes.now tokens.now) (toks bytes.now x.1.now)) }
+    ensures inside { IfOk result (λ x. AreSlices bytes.now x.1.now) }
+    ensures shorter { IfOk result (λ x. length x.1.now < length tokens.now) }
+    ensures fault { IfErr result (Stops AnExprForm (Key key.Let ∷ toks bytes.now tokens.now)) }
+{
+    let rest = read_open(bytes, tokens)?;
+    let (name, rest) = read_lower(alloc, bytes, rest)?;
+    let (ty, rest) = read_type(alloc, bytes, rest)?;
+    let (rhs, rest) = read_expr(alloc, bytes, rest)?;
+    let rest = read_close(bytes, rest)?;
+    let (body, rest) = read_expr(alloc, bytes, rest)?;
+    let rest = read_close(bytes, rest)?;
+    let e = binding(alloc, name, ty, rhs, body)?;
+    Ok((e, rest))
+}
+
+/// The head with what it is further applied to, up to the closing bracket.
+#[cycle(exprs)]
+#[inline(never)]
+fn read_applied<'a>(
+    alloc: Global,
+    bytes: &[u8],
+    f: Expr,
+    tokens: &'a [Token],
+) -> Result<(Expr, &'a [Token]), Stop>
+    requires { AreSlices bytes.now tokens.now }
+    ensures read { IfOk result (λ x. AppliedAt (expr_of f) (toks bytes.now tokens.now) (expr_of x.0) (toks bytes.now x.1.now)) }
+    ensures taken { IfOk result (λ x. Takes Arguments (toks bytes.now tokens.now) (toks bytes.now x.1.now)) }
+    ensures inside { IfOk result (λ x. AreSlices bytes.now x.1.now) }
+    ensures shorter { IfOk result (λ x. length x.1.now < length tokens.now) }
+    ensures fault { IfErr result (Stops Arguments (toks bytes.now tokens.now)) }
+{
+    let mut all = f;
+    let mut rest = tokens;
+    'each: loop {
+        if let Some(after) = closes(bytes, rest) {
+            return Ok((all, after));
+        }
+        let (a, after) = read_expr(alloc, bytes, rest)?;
+        all = application(alloc, all, a)?;
+        rest = after;
     }
 }
 

@@ -13,11 +13,11 @@ mod decls;
 mod exprs;
 mod header;
 mod limits;
-mod names;
 mod nesting;
 mod parts;
 #[cfg(test)]
 mod tests;
+mod trees;
 mod types;
 mod whole;
 mod words;

@@ -10,7 +10,7 @@ ghost use Rattle.fc_reader.specs.Reading.{Closes, GoesOn, IsName, IsPlain, Opens
 ghost use Rattle.fc_reader.specs.declared.parts.Stop.TheVariants.{Memory as memory_stop};
 
 use crate::class::{Class, first};
-use crate::names::is_module_part;
+use fc_lex::is_module_part;
 use fc_model::Keyword;
 use fc_syntax::{Memory, Text, Token};
 use std::alloc::Global;

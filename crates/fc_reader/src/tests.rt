@@ -1,6 +1,6 @@
 //! Texts with the modules and faults that they have.
 use crate::read_module;
-use fc_syntax::{Arg, ConDecl, Decl, Expr, FaultKind, Name, Place, Refusal, Seq, Text, Ty};
+use fc_syntax::{Arg, Binder, ConDecl, Decl, Expr, FaultKind, Name, Place, Refusal, Seq, Text, Ty};
 use std::alloc::Global;
 use std::process::Abort;
 use std::test::Fail;
@@ -375,6 +375,39 @@ fn refuses_what_nests_too_deep(rt: HostRuntime) -> Result<(), Fail> {
 }
 
 #[test]
+fn reads_every_form_as_deep_as_brackets_may_nest(rt: HostRuntime) -> Result<(), Fail> {
+    let table = [
+        (b"(def x".as_slice(), b" (fun".as_slice(), 1998, 10026),
+        (b"(def x".as_slice(), b" (fun T".as_slice(), 1998, 14022),
+        (b"(def x T".as_slice(), b" (app".as_slice(), 1998, 10028),
+        (b"(def x T".as_slice(), b" (app f".as_slice(), 1998, 14024),
+        (b"(def x T".as_slice(), b" (app f a".as_slice(), 1998, 18020),
+        (
+            b"(def x T".as_slice(),
+            b" (lam ((y T))".as_slice(),
+            1996,
+            25986,
+        ),
+        (b"(def x T".as_slice(), b" (let (y T".as_slice(), 999, 10028),
+        (
+            b"(def x T".as_slice(),
+            b" (let (y T 1#)".as_slice(),
+            1997,
+            27996,
+        ),
+    ];
+    for (front, piece, count, length) in table {
+        let mut text = module_with(rt.alloc(), front, piece, count, b"")?;
+        text.pop();
+        assert_eq!(rt;
+            fault(&rt, rt.alloc(), text.as_slice()),
+            Some((FaultKind::BadForm, length))
+        );
+    }
+    Ok(())
+}
+
+#[test]
 fn refuses_too_many_fields(rt: HostRuntime) -> Result<(), Fail> {
     for count in [0, 15, 16] {
         let text = module_with(rt.alloc(), b"(data U () (K ()", b" Int#", count, b"))")?;
@@ -443,5 +476,305 @@ fn refuses_a_module_too_large(rt: HostRuntime) -> Result<(), Fail> {
         fault(&rt, rt.alloc(), text.as_slice()),
         Some((FaultKind::TooMany, 42))
     );
+    Ok(())
+}
+
+#[test]
+fn refuses_functions_at_their_first_fault(rt: HostRuntime) -> Result<(), Fail> {
+    let table = [
+        (b"(def x (fun) 1#)".as_slice(), 41),
+        (b"(def x (fun Int#) 1#)".as_slice(), 46),
+        (b"(def x (fun Int# 1#) 1#)".as_slice(), 47),
+        (b"(def x (fun Int# Int# 1#) 1#)".as_slice(), 52),
+        (b"(def x (fun (fun Int#) Int#) 1#)".as_slice(), 51),
+        (b"(def x () 1#)".as_slice(), 38),
+        (b"(def x (T) 1#)".as_slice(), 38),
+        (b"(def x (Int# Int#) 1#)".as_slice(), 38),
+        (b"(def x (lam ((y T)) y) 1#)".as_slice(), 38),
+        (b"(def x fun 1#)".as_slice(), 37),
+        (b"(data T () (K () (fun Int#)))".as_slice(), 56),
+        (b"(data T () (K () (fun T t)))".as_slice(), 54),
+    ];
+    for (decls, at) in table {
+        let text = module_with(rt.alloc(), decls, b"", 0, b"")?;
+        assert_eq!(rt;
+            fault(&rt, rt.alloc(), text.as_slice()),
+            Some((FaultKind::BadForm, at))
+        );
+    }
+    Ok(())
+}
+
+#[test]
+fn refuses_applications_and_lambdas_at_their_first_fault(rt: HostRuntime) -> Result<(), Fail> {
+    let table = [
+        (b"(def x T (app))".as_slice(), 43),
+        (b"(def x T (app f))".as_slice(), 45),
+        (b"(def x T (app f Int#))".as_slice(), 46),
+        (b"(def x T (app f a K))".as_slice(), 48),
+        (b"(def x T (app K a))".as_slice(), 44),
+        (b"(def x T (app f (type T)))".as_slice(), 47),
+        (b"(def x T (app (app f) a))".as_slice(), 50),
+        (b"(def x T (lam))".as_slice(), 43),
+        (b"(def x T (lam y y))".as_slice(), 44),
+        (b"(def x T (lam () y))".as_slice(), 45),
+        (b"(def x T (lam (y T) y))".as_slice(), 45),
+        (b"(def x T (lam ((Y T)) y))".as_slice(), 46),
+        (b"(def x T (lam ((y)) y))".as_slice(), 47),
+        (b"(def x T (lam ((y T T)) y))".as_slice(), 50),
+        (b"(def x T (lam ((y T) z) y))".as_slice(), 51),
+        (b"(def x T (lam ((y T))))".as_slice(), 51),
+        (b"(def x T (lam ((y T)) y z))".as_slice(), 54),
+        (b"(def x T (lam ((type a *)) y))".as_slice(), 46),
+        (b"(def x T (lam ((fun T)) y))".as_slice(), 46),
+    ];
+    for (decls, at) in table {
+        let text = module_with(rt.alloc(), decls, b"", 0, b"")?;
+        assert_eq!(rt;
+            fault(&rt, rt.alloc(), text.as_slice()),
+            Some((FaultKind::BadForm, at))
+        );
+    }
+    let text = b"(module M (imports) (exports) (def x T (lam ((y T)";
+    assert_eq!(rt;
+        fault(&rt, rt.alloc(), text),
+        Some((FaultKind::BadForm, 50))
+    );
+    Ok(())
+}
+
+#[test]
+fn refuses_lets_at_their_first_fault(rt: HostRuntime) -> Result<(), Fail> {
+    let table = [
+        (b"(def x T (let))".as_slice(), 43),
+        (b"(def x T (let y T 1# y))".as_slice(), 44),
+        (b"(def x T (let () y))".as_slice(), 45),
+        (b"(def x T (let ((y T 1#)) y))".as_slice(), 45),
+        (b"(def x T (let (Y T 1#) y))".as_slice(), 45),
+        (b"(def x T (let (y 1# 1#) y))".as_slice(), 47),
+        (b"(def x T (let (y T) y))".as_slice(), 48),
+        (b"(def x T (let (y T 1# 2#) y))".as_slice(), 52),
+        (b"(def x T (let (y T 1#)))".as_slice(), 52),
+        (b"(def x T (let (y T 1#) (z T 2#) y))".as_slice(), 54),
+        (b"(def x T (let (y T 1#) y z))".as_slice(), 55),
+        (b"(def x T (letrec ((y T 1#)) y))".as_slice(), 40),
+    ];
+    for (decls, at) in table {
+        let text = module_with(rt.alloc(), decls, b"", 0, b"")?;
+        assert_eq!(rt;
+            fault(&rt, rt.alloc(), text.as_slice()),
+            Some((FaultKind::BadForm, at))
+        );
+    }
+    Ok(())
+}
+
+/// From what to what a function type is.
+fn from_to<'a>(ty: &'a Ty) -> Option<(&'a Ty, &'a Ty)> {
+    match ty {
+        Ty::Fun(from, to) => Some((&**from, &**to)),
+        _ => None,
+    }
+}
+
+/// Whether a type is from the first word to functions from the second to the third.
+fn is_right_nested(ty: &Ty, first: &str, second: &str, third: &str) -> bool {
+    let Some((from, to)) = from_to(ty) else {
+        return false;
+    };
+    let Some((next, last)) = from_to(to) else {
+        return false;
+    };
+    is_named(from, first) && is_named(next, second) && is_named(last, third)
+}
+
+#[test]
+fn reads_functions(rt: HostRuntime) -> Result<(), Fail> {
+    for ty in [
+        b"(fun A B C)".as_slice(),
+        b"(fun A (fun B C))".as_slice(),
+        b"( fun A(fun B C) )".as_slice(),
+    ] {
+        let text = module_with(rt.alloc(), b"(def f ", ty, 1, b" 1#)")?;
+        assert!(rt; text.len() <= 4194304);
+        let m = read_module(rt.alloc(), "m.core", text.as_slice())?;
+        let Some(Decl::Def(_, found, _)) = m.decls.get(0) else {
+            panic!(rt; "no definition");
+        };
+        assert!(rt; is_right_nested(found, "A", "B", "C"));
+    }
+    let text = module_with(rt.alloc(), b"(def f (fun (fun A B) C) 1#)", b"", 0, b"")?;
+    assert!(rt; text.len() <= 4194304);
+    let m = read_module(rt.alloc(), "m.core", text.as_slice())?;
+    let Some(Decl::Def(_, Ty::Fun(from, to), _)) = m.decls.get(0) else {
+        panic!(rt; "no function");
+    };
+    let Some((a, b)) = from_to(&**from) else {
+        panic!(rt; "no function to a function");
+    };
+    assert!(rt; is_named(a, "A") && is_named(b, "B") && is_named(&**to, "C"));
+    Ok(())
+}
+
+/// The head of an application and its argument.
+fn head_and_argument<'a>(e: &'a Expr) -> Option<(&'a Expr, &'a Expr)> {
+    match e {
+        Expr::App(f, a) => match &**a {
+            Arg::Term(a) => Some((&**f, a)),
+            _ => None,
+        },
+        _ => None,
+    }
+}
+
+/// Whether an expression is this variable.
+fn is_variable(e: &Expr, word: &str) -> bool {
+    match e {
+        Expr::Var(name) => is_word(name, word),
+        _ => false,
+    }
+}
+
+/// Whether an expression is the first word applied to the second, and that to the third.
+fn is_left_nested(e: &Expr, first: &str, second: &str, third: &str) -> bool {
+    let Some((inner, last)) = head_and_argument(e) else {
+        return false;
+    };
+    let Some((head, next)) = head_and_argument(inner) else {
+        return false;
+    };
+    is_variable(head, first) && is_variable(next, second) && is_variable(last, third)
+}
+
+#[test]
+fn reads_applications(rt: HostRuntime) -> Result<(), Fail> {
+    for e in [
+        b"(app f a b)".as_slice(),
+        b"(app (app f a) b)".as_slice(),
+        b"(app(app f a)b)".as_slice(),
+    ] {
+        let text = module_with(rt.alloc(), b"(def x T ", e, 1, b")")?;
+        assert!(rt; text.len() <= 4194304);
+        let m = read_module(rt.alloc(), "m.core", text.as_slice())?;
+        let Some(Decl::Def(_, _, rhs)) = m.decls.get(0) else {
+            panic!(rt; "no definition");
+        };
+        assert!(rt; is_left_nested(rhs, "f", "a", "b"));
+    }
+    let text = module_with(rt.alloc(), b"(def x T (app f (app a b)))", b"", 0, b"")?;
+    assert!(rt; text.len() <= 4194304);
+    let m = read_module(rt.alloc(), "m.core", text.as_slice())?;
+    let Some(Decl::Def(_, _, rhs)) = m.decls.get(0) else {
+        panic!(rt; "no definition");
+    };
+    let Some((f, inner)) = head_and_argument(rhs) else {
+        panic!(rt; "no application");
+    };
+    let Some((a, b)) = head_and_argument(inner) else {
+        panic!(rt; "no application as an argument");
+    };
+    assert!(rt; is_variable(f, "f") && is_variable(a, "a") && is_variable(b, "b"));
+    Ok(())
+}
+
+/// The body of a lambda that binds this word with this type.
+fn body_under<'a>(e: &'a Expr, word: &str, of: &str) -> Option<&'a Expr> {
+    let Expr::Lam(binder, body) = e else {
+        return None;
+    };
+    let Binder::Value(name, ty) = &**binder else {
+        return None;
+    };
+    if name.as_str() == word && is_named(ty, of) {
+        return Some(&**body);
+    }
+    None
+}
+
+#[test]
+fn reads_lambdas(rt: HostRuntime) -> Result<(), Fail> {
+    for e in [
+        b"(lam ((a A) (b B) (c C)) b)".as_slice(),
+        b"(lam ((a A)) (lam ((b B) (c C)) b))".as_slice(),
+        b"(lam ((a A) (b B)) (lam ((c C)) b))".as_slice(),
+    ] {
+        let text = module_with(rt.alloc(), b"(def x T ", e, 1, b")")?;
+        assert!(rt; text.len() <= 4194304);
+        let m = read_module(rt.alloc(), "m.core", text.as_slice())?;
+        let Some(Decl::Def(_, _, rhs)) = m.decls.get(0) else {
+            panic!(rt; "no definition");
+        };
+        let Some(inner) = body_under(rhs, "a", "A") else {
+            panic!(rt; "no first binder");
+        };
+        let Some(inner) = body_under(inner, "b", "B") else {
+            panic!(rt; "no second binder");
+        };
+        let Some(inner) = body_under(inner, "c", "C") else {
+            panic!(rt; "no third binder");
+        };
+        assert!(rt; is_variable(inner, "b"));
+    }
+    Ok(())
+}
+
+#[test]
+fn reads_lets(rt: HostRuntime) -> Result<(), Fail> {
+    let decls = b"(def x T (let (y (fun A B) (lam ((a A)) f)) (app y z)))";
+    let text = module_with(rt.alloc(), decls, b"", 0, b"")?;
+    assert!(rt; text.len() <= 4194304);
+    let m = read_module(rt.alloc(), "m.core", text.as_slice())?;
+    let Some(Decl::Def(_, _, Expr::Let(false, binds, body))) = m.decls.get(0) else {
+        panic!(rt; "no let");
+    };
+    let Some(bind) = binds.get(0) else {
+        panic!(rt; "no binding");
+    };
+    assert!(rt; binds.len() == 1 && bind.name.as_str() == "y");
+    let Some((a, b)) = from_to(&bind.ty) else {
+        panic!(rt; "no function type");
+    };
+    assert!(rt; is_named(a, "A") && is_named(b, "B"));
+    assert!(rt; body_under(&bind.rhs, "a", "A").is_some_and(|e| is_variable(e, "f")));
+    let Some((f, z)) = head_and_argument(&**body) else {
+        panic!(rt; "no application");
+    };
+    assert!(rt; is_variable(f, "y") && is_variable(z, "z"));
+    Ok(())
+}
+
+#[test]
+fn refuses_too_many_parts_as_too_deep(rt: HostRuntime) -> Result<(), Fail> {
+    let table = [
+        (
+            b"(def x (fun".as_slice(),
+            b" Int#".as_slice(),
+            b") 1#)".as_slice(),
+            499,
+        ),
+        (
+            b"(def x T (app f".as_slice(),
+            b" a".as_slice(),
+            b"))".as_slice(),
+            498,
+        ),
+        (
+            b"(def x T (lam (".as_slice(),
+            b"(a Int#)".as_slice(),
+            b") a))".as_slice(),
+            497,
+        ),
+    ];
+    for (front, piece, back, most) in table {
+        let text = module_with(rt.alloc(), front, piece, most, back)?;
+        assert!(rt; is_read(&rt, rt.alloc(), text.as_slice()));
+        for count in [most + 1, 5000] {
+            let text = module_with(rt.alloc(), front, piece, count, back)?;
+            assert_eq!(rt;
+                fault(&rt, rt.alloc(), text.as_slice()),
+                Some((FaultKind::TooDeep, 30))
+            );
+        }
+    }
     Ok(())
 }

@@ -1,17 +1,18 @@
-//! Types and constructors. Readers answer as those of single tokens do.
-ghost use Rattle.std.specs.Prelude.{◌≡◌, ◌<◌, length, IfOk, IfErr};
+//! Types, binders and constructors. Readers answer as those of single tokens do.
+ghost use Rattle.std.specs.Prelude.{◌≡◌, ◌<◌, ◌∷◌, length, IfOk, IfErr};
 ghost use Rattle.fc_syntax.specs.Tokens.{AreSlices};
 ghost use Rattle.fc_syntax.specs.Tree.{TCon, TInt};
-ghost use Rattle.fc_syntax.specs.View.{ty_of, tys_of, con_of, cons_of};
-ghost use Rattle.fc_model.specs.Words.{toks};
-ghost use Rattle.fc_model.specs.Texts.{plain_name, TypeAt, TypesAt, ConAt, ConsAt};
-ghost use Rattle.fc_reader.specs.Machine.{AType, Types, ACon, Cons};
+ghost use Rattle.fc_syntax.specs.View.{ty_of, tys_of, binder_of, binders_of, con_of, cons_of};
+ghost use Rattle.fc_model.specs.Words.{Open, toks};
+ghost use Rattle.fc_model.specs.Texts.{plain_name, TypeAt, TypesAt, BinderAt, BindersAt, ConAt, ConsAt};
+ghost use Rattle.fc_reader.specs.Machine.{AType, ATypeForm, Types, ABinder, Binders, ACon, Cons};
 ghost use Rattle.fc_reader.specs.Reading.{Stops, Takes};
 
 use crate::class::{Class, first};
-use crate::parts::{Stop, closes, name_text, read_close, read_open, read_upper};
+use crate::parts::{Stop, closes, name_text, read_close, read_lower, read_open, read_upper};
+use crate::trees::{chain, function};
 use fc_model::Keyword;
-use fc_syntax::{ConDecl, Name, Seq, Text, Token, Ty};
+use fc_syntax::{Binder, ConDecl, Name, Seq, Text, Token, Ty};
 use std::alloc::Global;
 
 #[tactic(auto, using(fc_syntax::proofs::View::view_rules))]
@@ -29,6 +30,7 @@ fn integer_type() -> Ty
 }
 
 /// A type.
+#[cycle(types)]
 pub(crate) fn read_type<'a>(
     alloc: Global,
     bytes: &[u8],
@@ -50,11 +52,45 @@ pub(crate) fn read_type<'a>(
             Ok((named_type(name), rest))
         }
         Class::Key(Keyword::IntHash) => Ok((integer_type(), rest)),
+        Class::Open => {
+            let (t, rest) = read_type_form(alloc, bytes, rest)?;
+            Ok((t, rest))
+        }
+        _ => Err(Stop::Form(tokens.len())),
+    }
+}
+
+/// A type behind its opening bracket.
+#[cycle(types)]
+fn read_type_form<'a>(
+    alloc: Global,
+    bytes: &[u8],
+    tokens: &'a [Token],
+) -> Result<(Ty, &'a [Token]), Stop>
+    requires { AreSlices bytes.now tokens.now }
+    ensures read { IfOk result (λ x. TypeAt (Open ∷ toks bytes.now tokens.now) (ty_of x.0) (toks bytes.now x.1.now)) }
+    ensures taken { IfOk result (λ x. Takes ATypeForm (toks bytes.now tokens.now) (toks bytes.now x.1.now)) }
+    ensures inside { IfOk result (λ x. AreSlices bytes.now x.1.now) }
+    ensures shorter { IfOk result (λ x. length x.1.now < length tokens.now) }
+    ensures fault { IfErr result (Stops ATypeForm (toks bytes.now tokens.now)) }
+{
+    let Some((class, _, rest)) = first(bytes, tokens) else {
+        return Err(Stop::Form(0));
+    };
+    match class {
+        Class::Key(Keyword::Fun) => {
+            let (from, rest) = read_type(alloc, bytes, rest)?;
+            let (next, rest) = read_type(alloc, bytes, rest)?;
+            let (others, rest) = read_types(alloc, bytes, rest)?;
+            let to = chain(alloc, next, others)?;
+            Ok((function(alloc, from, to)?, rest))
+        }
         _ => Err(Stop::Form(tokens.len())),
     }
 }
 
 /// Types up to the closing bracket.
+#[cycle(types)]
 fn read_types<'a>(
     alloc: Global,
     bytes: &[u8],
@@ -75,6 +111,53 @@ fn read_types<'a>(
         }
         let (t, after) = read_type(alloc, bytes, rest)?;
         all.push(t)?;
+        rest = after;
+    }
+}
+
+/// A binder of a value.
+pub(crate) fn read_binder<'a>(
+    alloc: Global,
+    bytes: &[u8],
+    tokens: &'a [Token],
+) -> Result<(Binder, &'a [Token]), Stop>
+    requires { AreSlices bytes.now tokens.now }
+    ensures read { IfOk result (λ x. BinderAt (toks bytes.now tokens.now) (binder_of x.0) (toks bytes.now x.1.now)) }
+    ensures taken { IfOk result (λ x. Takes ABinder (toks bytes.now tokens.now) (toks bytes.now x.1.now)) }
+    ensures inside { IfOk result (λ x. AreSlices bytes.now x.1.now) }
+    ensures shorter { IfOk result (λ x. length x.1.now < length tokens.now) }
+    ensures fault { IfErr result (Stops ABinder (toks bytes.now tokens.now)) }
+{
+    let Some((Class::Open, _, rest)) = first(bytes, tokens) else {
+        return Err(Stop::Form(tokens.len()));
+    };
+    let (name, rest) = read_lower(alloc, bytes, rest)?;
+    let (ty, rest) = read_type(alloc, bytes, rest)?;
+    let rest = read_close(bytes, rest)?;
+    Ok((Binder::Value(name, ty), rest))
+}
+
+/// Binders up to the closing bracket.
+pub(crate) fn read_binders<'a>(
+    alloc: Global,
+    bytes: &[u8],
+    tokens: &'a [Token],
+) -> Result<(Seq<Binder>, &'a [Token]), Stop>
+    requires { AreSlices bytes.now tokens.now }
+    ensures read { IfOk result (λ x. BindersAt (toks bytes.now tokens.now) (binders_of x.0) (toks bytes.now x.1.now)) }
+    ensures taken { IfOk result (λ x. Takes Binders (toks bytes.now tokens.now) (toks bytes.now x.1.now)) }
+    ensures inside { IfOk result (λ x. AreSlices bytes.now x.1.now) }
+    ensures shorter { IfOk result (λ x. length x.1.now < length tokens.now) }
+    ensures fault { IfErr result (Stops Binders (toks bytes.now tokens.now)) }
+{
+    let mut all = Seq::new(alloc);
+    let mut rest = tokens;
+    'each: loop {
+        if let Some(after) = closes(bytes, rest) {
+            return Ok((all, after));
+        }
+        let (b, after) = read_binder(alloc, bytes, rest)?;
+        all.push(b)?;
         rest = after;
     }
 }

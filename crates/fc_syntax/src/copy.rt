@@ -19,6 +19,7 @@ fn boxed<T: Drop>(alloc: Global, value: Result<T, Memory>) -> Result<Box<T>, Mem
 }
 
 impl Text {
+    /// The same word again. Fails only where memory is wanting.
     pub fn copy(&self, alloc: Global) -> Result<Text, Memory>
         ensures { IfOk result (λ t. t ≡ self.now) }
     {
@@ -27,6 +28,7 @@ impl Text {
 }
 
 impl Name {
+    /// The same name again. Fails only where memory is wanting.
     pub fn copy(&self, alloc: Global) -> Result<Name, Memory>
         ensures { IfOk result (λ n. n ≡ self.now) }
     {
@@ -42,6 +44,7 @@ impl Name {
 }
 
 impl Kind {
+    /// The same kind again. Fails only where memory is wanting.
     #[tactic(auto, using(crate::proofs::View::view_rules))]
     pub fn copy(&self, alloc: Global) -> Result<Kind, Memory>
         ensures { IfOk result (λ k. kind_of k ≡ kind_of self.now) }
@@ -59,6 +62,7 @@ impl Kind {
 }
 
 impl Ty {
+    /// The same type again. Fails only where memory is wanting.
     #[tactic(auto, using(crate::proofs::View::view_rules))]
     pub fn copy(&self, alloc: Global) -> Result<Ty, Memory>
         ensures { IfOk result (λ t. ty_of t ≡ ty_of self.now) }
@@ -94,6 +98,7 @@ impl Ty {
 }
 
 impl Co {
+    /// The same coercion again. Fails only where memory is wanting.
     #[cycle(copy_co)]
     #[tactic(auto, using(crate::proofs::View::view_rules))]
     pub fn copy(&self, alloc: Global) -> Result<Co, Memory>
@@ -186,6 +191,7 @@ fn copy_all(alloc: Global, cos: &[Co]) -> Result<Seq<Co>, Memory>
 }
 
 impl Binder {
+    /// The same binder again. Fails only where memory is wanting.
     #[tactic(auto, using(crate::proofs::View::view_rules))]
     pub fn copy(&self, alloc: Global) -> Result<Binder, Memory>
         ensures { IfOk result (λ b. binder_of b ≡ binder_of self.now) }
@@ -209,6 +215,7 @@ impl Binder {
 }
 
 impl Head {
+    /// The same head again. Fails only where memory is wanting.
     pub fn copy(&self, alloc: Global) -> Result<Head, Memory>
         ensures { IfOk result (λ h. h ≡ self.now) }
     {
@@ -232,6 +239,7 @@ pub(crate) fn copy_binders(alloc: Global, items: &[Binder]) -> Result<Seq<Binder
 }
 
 impl Expr {
+    /// The same expression again. Fails only where memory is wanting.
     #[cycle(copy_expr)]
     #[tactic(auto, using(crate::proofs::View::view_rules))]
     pub fn copy(&self, alloc: Global) -> Result<Expr, Memory>
@@ -294,6 +302,7 @@ impl Expr {
 }
 
 impl Arg {
+    /// The same argument again. Fails only where memory is wanting.
     #[cycle(copy_expr)]
     #[tactic(auto, using(crate::proofs::View::view_rules))]
     pub fn copy(&self, alloc: Global) -> Result<Arg, Memory>
@@ -308,6 +317,7 @@ impl Arg {
 }
 
 impl Bind {
+    /// The same binding again. Fails only where memory is wanting.
     #[cycle(copy_expr)]
     pub fn copy(&self, alloc: Global) -> Result<Bind, Memory>
         ensures { IfOk result (λ b. bind_of b ≡ bind_of self.now) }
@@ -320,6 +330,7 @@ impl Bind {
 }
 
 impl JoinBind {
+    /// The same join point again. Fails only where memory is wanting.
     #[cycle(copy_expr)]
     pub fn copy(&self, alloc: Global) -> Result<JoinBind, Memory>
         ensures { IfOk result (λ b. join_of b ≡ join_of self.now) }
@@ -332,6 +343,7 @@ impl JoinBind {
 }
 
 impl Alt {
+    /// The same alternative again. Fails only where memory is wanting.
     #[cycle(copy_expr)]
     pub fn copy(&self, alloc: Global) -> Result<Alt, Memory>
         ensures { IfOk result (λ a. alt_of a ≡ alt_of self.now) }

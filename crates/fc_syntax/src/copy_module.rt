@@ -11,6 +11,7 @@ use crate::ty::Ty;
 use std::alloc::Global;
 
 impl Param {
+    /// The same parameter again. Fails only where memory is wanting.
     pub fn copy(&self, alloc: Global) -> Result<Param, Memory>
         ensures { IfOk result (λ p. param_of p ≡ param_of self.now) }
     {
@@ -25,6 +26,7 @@ impl Param {
 }
 
 impl Plain {
+    /// The same parameter without a role again. Fails only where memory is wanting.
     pub fn copy(&self, alloc: Global) -> Result<Plain, Memory>
         ensures { IfOk result (λ p. plain_of p ≡ plain_of self.now) }
     {
@@ -35,6 +37,7 @@ impl Plain {
 }
 
 impl ConDecl {
+    /// The same constructor again. Fails only where memory is wanting.
     pub fn copy(&self, alloc: Global) -> Result<ConDecl, Memory>
         ensures { IfOk result (λ c. con_of c ≡ con_of self.now) }
     {
@@ -50,6 +53,7 @@ impl ConDecl {
 }
 
 impl Decl {
+    /// The same declaration again. Fails only where memory is wanting.
     pub fn copy(&self, alloc: Global) -> Result<Decl, Memory>
         ensures { IfOk result (λ d. decl_of d ≡ decl_of self.now) }
     {
@@ -97,6 +101,7 @@ impl Decl {
 }
 
 impl Module {
+    /// The same module again. Fails only where memory is wanting.
     pub fn copy(&self, alloc: Global) -> Result<Module, Memory>
         ensures { IfOk result (λ m. module_of m ≡ module_of self.now) }
     {

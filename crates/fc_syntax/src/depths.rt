@@ -21,25 +21,28 @@ fn above(parts: u32, most: u32) -> u32
 fn depth_of_type(t: &Ty, most: u32) -> u32
     ensures { result ≡ min (ty_depth (ty_of t.now)) most }
 {
+    let Some(below) = most.checked_sub(1) else {
+        return 0;
+    };
     match t {
-        Ty::Var(_) => most.min(1),
-        Ty::Con(_) => most.min(1),
-        Ty::IntHash => most.min(1),
+        Ty::Var(_) => 1,
+        Ty::Con(_) => 1,
+        Ty::IntHash => 1,
         Ty::App(t, u) => {
-            let left = depth_of_type(&**t, most);
-            let right = depth_of_type(&**u, most);
+            let left = depth_of_type(&**t, below);
+            let right = depth_of_type(&**u, below);
             above(left.max(right), most)
         }
         Ty::Fun(t, u) => {
-            let left = depth_of_type(&**t, most);
-            let right = depth_of_type(&**u, most);
+            let left = depth_of_type(&**t, below);
+            let right = depth_of_type(&**u, below);
             above(left.max(right), most)
         }
-        Ty::Forall(_, _, t) => above(depth_of_type(&**t, most), most),
+        Ty::Forall(_, _, t) => above(depth_of_type(&**t, below), most),
         Ty::CoForall(_, t, u, v) => {
-            let left = depth_of_type(&**t, most);
-            let right = depth_of_type(&**u, most);
-            let body = depth_of_type(&**v, most);
+            let left = depth_of_type(&**t, below);
+            let right = depth_of_type(&**u, below);
+            let body = depth_of_type(&**v, below);
             above(left.max(right.max(body)), most)
         }
     }
@@ -50,46 +53,49 @@ fn depth_of_type(t: &Ty, most: u32) -> u32
 fn depth_of_co(g: &Co, most: u32) -> u32
     ensures { result ≡ min (co_depth (co_of g.now)) most }
 {
+    let Some(below) = most.checked_sub(1) else {
+        return 0;
+    };
     match g {
-        Co::Var(_) => most.min(1),
-        Co::Refl(_, t) => above(depth_of_type(t, most), most),
-        Co::Sym(g) => above(depth_of_co(&**g, most), most),
+        Co::Var(_) => 1,
+        Co::Refl(_, t) => above(depth_of_type(t, below), most),
+        Co::Sym(g) => above(depth_of_co(&**g, below), most),
         Co::Trans(g, h) => {
-            let left = depth_of_co(&**g, most);
-            let right = depth_of_co(&**h, most);
+            let left = depth_of_co(&**g, below);
+            let right = depth_of_co(&**h, below);
             above(left.max(right), most)
         }
-        Co::Tc(_, _, gs) => above(depth_of_cos(gs.as_slice(), most), most),
+        Co::Tc(_, _, gs) => above(depth_of_cos(gs.as_slice(), below), most),
         Co::Capp(g, h) => {
-            let left = depth_of_co(&**g, most);
-            let right = depth_of_co(&**h, most);
+            let left = depth_of_co(&**g, below);
+            let right = depth_of_co(&**h, below);
             above(left.max(right), most)
         }
         Co::FunCo(g, h) => {
-            let left = depth_of_co(&**g, most);
-            let right = depth_of_co(&**h, most);
+            let left = depth_of_co(&**g, below);
+            let right = depth_of_co(&**h, below);
             above(left.max(right), most)
         }
-        Co::AllCo(_, _, g) => above(depth_of_co(&**g, most), most),
+        Co::AllCo(_, _, g) => above(depth_of_co(&**g, below), most),
         Co::CoAllCo(_, _, f, g, h) => {
-            let left = depth_of_co(&**f, most);
-            let right = depth_of_co(&**g, most);
-            let body = depth_of_co(&**h, most);
+            let left = depth_of_co(&**f, below);
+            let right = depth_of_co(&**g, below);
+            let body = depth_of_co(&**h, below);
             above(left.max(right.max(body)), most)
         }
         Co::Inst(g, h) => {
-            let left = depth_of_co(&**g, most);
-            let right = depth_of_co(&**h, most);
+            let left = depth_of_co(&**g, below);
+            let right = depth_of_co(&**h, below);
             above(left.max(right), most)
         }
-        Co::Nth(_, g) => above(depth_of_co(&**g, most), most),
-        Co::Left(g) => above(depth_of_co(&**g, most), most),
-        Co::Right(g) => above(depth_of_co(&**g, most), most),
-        Co::Sub(g) => above(depth_of_co(&**g, most), most),
-        Co::Ax(_, gs) => above(depth_of_cos(gs.as_slice(), most), most),
+        Co::Nth(_, g) => above(depth_of_co(&**g, below), most),
+        Co::Left(g) => above(depth_of_co(&**g, below), most),
+        Co::Right(g) => above(depth_of_co(&**g, below), most),
+        Co::Sub(g) => above(depth_of_co(&**g, below), most),
+        Co::Ax(_, gs) => above(depth_of_cos(gs.as_slice(), below), most),
         Co::Univ(t, u) => {
-            let left = depth_of_type(t, most);
-            let right = depth_of_type(u, most);
+            let left = depth_of_type(t, below);
+            let right = depth_of_type(u, below);
             above(left.max(right), most)
         }
     }
@@ -109,12 +115,15 @@ fn depth_of_cos(items: &[Co], most: u32) -> u32
 fn depth_of_binder(b: &Binder, most: u32) -> u32
     ensures { result ≡ min (binder_depth (binder_of b.now)) most }
 {
+    let Some(below) = most.checked_sub(1) else {
+        return 0;
+    };
     match b {
-        Binder::Value(_, t) => above(depth_of_type(t, most), most),
-        Binder::OfType(_, _) => most.min(1),
+        Binder::Value(_, t) => above(depth_of_type(t, below), most),
+        Binder::OfType(_, _) => 1,
         Binder::OfCo(_, _, t, u) => {
-            let left = depth_of_type(t, most);
-            let right = depth_of_type(u, most);
+            let left = depth_of_type(t, below);
+            let right = depth_of_type(u, below);
             above(left.max(right), most)
         }
     }
@@ -135,46 +144,49 @@ fn depth_of_binders(items: &[Binder], most: u32) -> u32
 fn depth_of_expr(e: &Expr, most: u32) -> u32
     ensures { result ≡ min (of_expr (expr_of e.now)) most }
 {
+    let Some(below) = most.checked_sub(1) else {
+        return 0;
+    };
     match e {
-        Expr::Var(_) => most.min(1),
-        Expr::Lit(_) => most.min(1),
+        Expr::Var(_) => 1,
+        Expr::Lit(_) => 1,
         Expr::App(f, a) => {
-            let left = depth_of_expr(&**f, most);
-            let right = depth_of_arg(&**a, most);
+            let left = depth_of_expr(&**f, below);
+            let right = depth_of_arg(&**a, below);
             above(left.max(right), most)
         }
         Expr::Lam(b, e) => {
-            let binder = depth_of_binder(&**b, most);
-            let body = depth_of_expr(&**e, most);
+            let binder = depth_of_binder(&**b, below);
+            let body = depth_of_expr(&**e, below);
             above(binder.max(body), most)
         }
         Expr::Let(_, binds, e) => {
-            let binds = depth_of_binds(binds.as_slice(), most);
-            let body = depth_of_expr(&**e, most);
+            let binds = depth_of_binds(binds.as_slice(), below);
+            let body = depth_of_expr(&**e, below);
             above(binds.max(body), most)
         }
         Expr::Case(e, _, t, u, alts) => {
-            let scrutinee = depth_of_expr(&**e, most);
-            let of_binder = depth_of_type(t, most);
-            let of_result = depth_of_type(u, most);
-            let alts = depth_of_alts(alts.as_slice(), most);
+            let scrutinee = depth_of_expr(&**e, below);
+            let of_binder = depth_of_type(t, below);
+            let of_result = depth_of_type(u, below);
+            let alts = depth_of_alts(alts.as_slice(), below);
             above(scrutinee.max(of_binder.max(of_result)).max(alts), most)
         }
         Expr::Cast(e, g) => {
-            let left = depth_of_expr(&**e, most);
-            let right = depth_of_co(g, most);
+            let left = depth_of_expr(&**e, below);
+            let right = depth_of_co(g, below);
             above(left.max(right), most)
         }
-        Expr::Con(_, args) => above(depth_of_args(args.as_slice(), most), most),
-        Expr::Prim(_, es) => above(depth_of_exprs(es.as_slice(), most), most),
-        Expr::Fail(t) => above(depth_of_type(t, most), most),
+        Expr::Con(_, args) => above(depth_of_args(args.as_slice(), below), most),
+        Expr::Prim(_, es) => above(depth_of_exprs(es.as_slice(), below), most),
+        Expr::Fail(t) => above(depth_of_type(t, below), most),
         Expr::Join(_, t, joins, e) => {
-            let of_result = depth_of_type(t, most);
-            let joins = depth_of_joins(joins.as_slice(), most);
-            let body = depth_of_expr(&**e, most);
+            let of_result = depth_of_type(t, below);
+            let joins = depth_of_joins(joins.as_slice(), below);
+            let body = depth_of_expr(&**e, below);
             above(of_result.max(joins.max(body)), most)
         }
-        Expr::Jump(_, args) => above(depth_of_args(args.as_slice(), most), most),
+        Expr::Jump(_, args) => above(depth_of_args(args.as_slice(), below), most),
     }
 }
 
@@ -193,8 +205,11 @@ fn depth_of_arg(a: &Arg, most: u32) -> u32
 fn depth_of_bind(x: &Bind, most: u32) -> u32
     ensures { result ≡ min (bound_depth (bind_of x.now)) most }
 {
-    let left = depth_of_type(&x.ty, most);
-    let right = depth_of_expr(&x.rhs, most);
+    let Some(below) = most.checked_sub(1) else {
+        return 0;
+    };
+    let left = depth_of_type(&x.ty, below);
+    let right = depth_of_expr(&x.rhs, below);
     above(left.max(right), most)
 }
 
@@ -202,8 +217,11 @@ fn depth_of_bind(x: &Bind, most: u32) -> u32
 fn depth_of_join(x: &JoinBind, most: u32) -> u32
     ensures { result ≡ min (joined_depth (join_of x.now)) most }
 {
-    let left = depth_of_binders(x.params.as_slice(), most);
-    let right = depth_of_expr(&x.rhs, most);
+    let Some(below) = most.checked_sub(1) else {
+        return 0;
+    };
+    let left = depth_of_binders(x.params.as_slice(), below);
+    let right = depth_of_expr(&x.rhs, below);
     above(left.max(right), most)
 }
 
@@ -211,8 +229,11 @@ fn depth_of_join(x: &JoinBind, most: u32) -> u32
 fn depth_of_alt(x: &Alt, most: u32) -> u32
     ensures { result ≡ min (branch_depth (alt_of x.now)) most }
 {
-    let left = depth_of_binders(x.binders.as_slice(), most);
-    let right = depth_of_expr(&x.body, most);
+    let Some(below) = most.checked_sub(1) else {
+        return 0;
+    };
+    let left = depth_of_binders(x.binders.as_slice(), below);
+    let right = depth_of_expr(&x.body, below);
     above(left.max(right), most)
 }
 
@@ -284,8 +305,11 @@ fn depth_of_types(items: &[Ty], most: u32) -> u32
 fn depth_of_constructor(x: &ConDecl, most: u32) -> u32
     ensures { result ≡ min (con_depth (con_of x.now)) most }
 {
-    let left = depth_of_binders(x.binders.as_slice(), most);
-    let right = depth_of_types(x.fields.as_slice(), most);
+    let Some(below) = most.checked_sub(1) else {
+        return 0;
+    };
+    let left = depth_of_binders(x.binders.as_slice(), below);
+    let right = depth_of_types(x.fields.as_slice(), below);
     above(left.max(right), most)
 }
 
@@ -312,31 +336,34 @@ fn depth_of_params(count: usize, most: u32) -> u32
 pub fn depth(d: &Decl, most: u32) -> u32
     ensures { result ≡ min (depth_of (decl_of d.now)) most }
 {
+    let Some(below) = most.checked_sub(1) else {
+        return 0;
+    };
     match d {
         Decl::DataType(_, params, cons) => {
-            let left = depth_of_params(params.len(), most);
-            let right = depth_of_constructors(cons.as_slice(), most);
+            let left = depth_of_params(params.len(), below);
+            let right = depth_of_constructors(cons.as_slice(), below);
             above(left.max(right), most)
         }
         Decl::NewType(_, params, t, _) => {
-            let left = depth_of_params(params.len(), most);
-            let right = depth_of_type(t, most);
+            let left = depth_of_params(params.len(), below);
+            let right = depth_of_type(t, below);
             above(left.max(right), most)
         }
-        Decl::Family(_, params, _) => above(depth_of_params(params.len(), most), most),
+        Decl::Family(_, params, _) => above(depth_of_params(params.len(), below), most),
         Decl::Axiom(_, params, t, u) => {
-            let left = depth_of_params(params.len(), most);
-            let right = depth_of_type(t, most).max(depth_of_type(u, most));
+            let left = depth_of_params(params.len(), below);
+            let right = depth_of_type(t, below).max(depth_of_type(u, below));
             above(left.max(right), most)
         }
         Decl::Def(_, t, e) => {
-            let left = depth_of_type(t, most);
-            let right = depth_of_expr(e, most);
+            let left = depth_of_type(t, below);
+            let right = depth_of_expr(e, below);
             above(left.max(right), most)
         }
         Decl::Wrap(_, t, e) => {
-            let left = depth_of_type(t, most);
-            let right = depth_of_expr(e, most);
+            let left = depth_of_type(t, below);
+            let right = depth_of_expr(e, below);
             above(left.max(right), most)
         }
     }

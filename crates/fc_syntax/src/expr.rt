@@ -131,22 +131,25 @@ pub enum Expr {
     Jump(Text, Seq<Arg>),
 }
 
+// An application, a lambda or a chain of lets may have as many parts as a text has, so what they go on with is dropped in a loop.
 impl Drop for Expr {
     #[cycle(ast_drop)]
-    fn drop(self) {
-        match self {
-            Expr::Var(_) => {}
-            Expr::Lit(_) => {}
-            Expr::App(_, _) => {}
-            Expr::Lam(_, _) => {}
-            Expr::Let(_, _, _) => {}
-            Expr::Case(_, _, _, _, _) => {}
-            Expr::Cast(_, _) => {}
-            Expr::Con(_, _) => {}
-            Expr::Prim(_, _) => {}
-            Expr::Fail(_) => {}
-            Expr::Join(_, _, _, _) => {}
-            Expr::Jump(_, _) => {}
+    fn drop(mut self) {
+        loop {
+            match self {
+                Expr::Var(_) => return,
+                Expr::Lit(_) => return,
+                Expr::App(head, _) => self = Box::into_inner(head),
+                Expr::Lam(_, body) => self = Box::into_inner(body),
+                Expr::Let(_, _, body) => self = Box::into_inner(body),
+                Expr::Case(_, _, _, _, _) => return,
+                Expr::Cast(inner, _) => self = Box::into_inner(inner),
+                Expr::Con(_, _) => return,
+                Expr::Prim(_, _) => return,
+                Expr::Fail(_) => return,
+                Expr::Join(_, _, _, body) => self = Box::into_inner(body),
+                Expr::Jump(_, _) => return,
+            }
         }
     }
 }

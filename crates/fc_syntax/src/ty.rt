@@ -69,16 +69,19 @@ pub enum Ty {
     CoForall(Role, Box<Ty>, Box<Ty>, Box<Ty>),
 }
 
+// A function or a forall may have as many parts as a text has, so what they end with is dropped in a loop.
 impl Drop for Ty {
-    fn drop(self) {
-        match self {
-            Ty::Var(_) => {}
-            Ty::Con(_) => {}
-            Ty::IntHash => {}
-            Ty::App(_, _) => {}
-            Ty::Fun(_, _) => {}
-            Ty::Forall(_, _, _) => {}
-            Ty::CoForall(_, _, _, _) => {}
+    fn drop(mut self) {
+        loop {
+            match self {
+                Ty::Var(_) => return,
+                Ty::Con(_) => return,
+                Ty::IntHash => return,
+                Ty::App(head, _) => self = Box::into_inner(head),
+                Ty::Fun(_, result) => self = Box::into_inner(result),
+                Ty::Forall(_, _, body) => self = Box::into_inner(body),
+                Ty::CoForall(_, _, _, body) => self = Box::into_inner(body),
+            }
         }
     }
 }

@@ -9,7 +9,7 @@ mod tables;
 
 pub use copies::copy_type;
 pub use declarations::Declarations;
-pub use kinds::{is_value_kind, kind};
+pub use kinds::{is_value_kind, kind, kind_of_part};
 pub use sameness::{same_kind, same_name, same_type};
 pub use tables::DeclaredCon;
 

@@ -1,7 +1,4 @@
 //! Types and declarations of a small module: what the tables of names and kinds give, by hand.
-ghost use Rattle.std.specs.Prelude.{◌≡◌, true, IfOk};
-ghost use Rattle.fc_model.specs.BuiltForms.{is_nty_built};
-ghost use Rattle.fc_model.specs.NamelessView.{nty_of};
 
 use crate::{Declarations, copy_type, kind, same_type};
 use fc_model::{Flawed, NConDecl, NDecl, NExpr, NModule, NTy};
@@ -19,10 +16,7 @@ fn name(alloc: Global, module: &str, word: &str) -> Result<Name, Memory> {
 }
 
 /// A type of the module `M`.
-#[tactic(auto, using(fc_model::proofs::NamelessView::nview_rules))]
-fn named(alloc: Global, word: &str) -> Result<NTy, Memory>
-    ensures { IfOk result (λ t. is_nty_built (nty_of t) ≡ true) }
-{
+fn named(alloc: Global, word: &str) -> Result<NTy, Memory> {
     Ok(NTy::Con(name(alloc, "M", word)?))
 }
 
@@ -230,9 +224,7 @@ fn first_of_two_declarations_counts(rt: HostRuntime) -> Result<(), Fail> {
 }
 
 /// The kind of a name: `*`, `#`, `20` for `Unbound` at the name itself, or `?`.
-fn told_kind(alloc: Global, t: Result<NTy, Memory>, declared: &Declarations) -> &'static str
-    requires { IfOk t (λ t. is_nty_built (nty_of t) ≡ true) }
-{
+fn told_kind(alloc: Global, t: Result<NTy, Memory>, declared: &Declarations) -> &'static str {
     let Ok(t) = t else { return "?" };
     match kind(alloc, &t, declared) {
         Ok(Kind::Star) => "*",
@@ -249,10 +241,7 @@ fn told_kind(alloc: Global, t: Result<NTy, Memory>, declared: &Declarations) -> 
     }
 }
 
-#[tactic(auto, using(fc_model::proofs::NamelessView::nview_rules))]
-fn integer() -> Result<NTy, Memory>
-    ensures { IfOk result (λ t. is_nty_built (nty_of t) ≡ true) }
-{
+fn integer() -> Result<NTy, Memory> {
     Ok(NTy::IntHash)
 }
 
@@ -275,5 +264,96 @@ fn kinds_of_names_and_of_the_integer_type(rt: HostRuntime) -> Result<(), Fail> {
         );
     }
     assert_eq!(rt; told_kind(alloc, integer(), &declared), "#");
+    Ok(())
+}
+
+/// Functions between types of the forms that are built.
+fn function(
+    alloc: Global,
+    from: Result<NTy, Memory>,
+    to: Result<NTy, Memory>,
+) -> Result<NTy, Memory> {
+    let from = boxed(alloc, from)?;
+    Ok(NTy::Fun(from, boxed(alloc, to)?))
+}
+
+/// Function types with ends that are declared.
+fn functions(alloc: Global, at: usize) -> Result<NTy, Memory> {
+    match at {
+        0 => function(alloc, named(alloc, "T"), named(alloc, "U")),
+        1 => function(alloc, integer(), named(alloc, "T")),
+        2 => function(alloc, named(alloc, "T"), integer()),
+        _ => function(
+            alloc,
+            function(alloc, named(alloc, "T"), integer()),
+            named(alloc, "U"),
+        ),
+    }
+}
+
+/// Functions are lifted, whatever the kinds of their ends.
+#[test]
+fn kinds_of_functions(rt: HostRuntime) -> Result<(), Fail> {
+    let alloc = rt.alloc();
+    let m = module(alloc)?;
+    let declared = Declarations::new(alloc, &m)?;
+    for at in 0..4usize {
+        assert_eq!(rt;
+            told_kind(alloc, functions(alloc, at), &declared),
+            "*",
+            "at {at}"
+        );
+    }
+    Ok(())
+}
+
+/// Function types with an end that is not declared, `V` or `W`.
+fn faulty_functions(alloc: Global, at: usize) -> Result<NTy, Memory> {
+    match at {
+        0 => function(alloc, named(alloc, "V"), named(alloc, "T")),
+        1 => function(alloc, named(alloc, "T"), named(alloc, "V")),
+        2 => function(alloc, named(alloc, "V"), named(alloc, "W")),
+        3 => function(
+            alloc,
+            function(alloc, named(alloc, "T"), named(alloc, "V")),
+            named(alloc, "W"),
+        ),
+        _ => function(
+            alloc,
+            named(alloc, "T"),
+            function(alloc, named(alloc, "V"), named(alloc, "W")),
+        ),
+    }
+}
+
+/// Whether the first fault of a type is `Unbound` at these part numbers, of which the innermost stands first.
+fn is_unbound_at(
+    alloc: Global,
+    t: Result<NTy, Memory>,
+    declared: &Declarations,
+    path: &[u32],
+) -> bool {
+    let Ok(t) = t else { return false };
+    match kind(alloc, &t, declared) {
+        Err(Flawed::Flaw(flaw)) => flaw.kind == FaultKind::Unbound
+            && flaw.def.is_none()
+            && flaw.path.as_slice() == path,
+        _ => false,
+    }
+}
+
+/// The parts of a function type are its ends, from left to right.
+#[test]
+fn first_faults_of_functions(rt: HostRuntime) -> Result<(), Fail> {
+    let alloc = rt.alloc();
+    let m = module(alloc)?;
+    let declared = Declarations::new(alloc, &m)?;
+    let cases: [&[u32]; 5] = [&[0], &[1], &[0], &[1, 0], &[0, 1]];
+    for (at, path) in cases.iter().enumerate() {
+        assert!(rt;
+            is_unbound_at(alloc, faulty_functions(alloc, at), &declared, path),
+            "at {at}"
+        );
+    }
     Ok(())
 }

@@ -1,12 +1,10 @@
-use Rattle.std.proofs.Common.{◌≡◌, true, drop}
-use Rattle.std.specs.List.{list_all}
-use Rattle.fc_model.specs.BuiltForms.{is_ncon_built}
+use Rattle.std.proofs.Common.{◌≡◌, drop}
 use Rattle.fc_model.specs.NamelessView.{ncons_of}
 use Rattle.fc_types.specs.ModuleViews.{modules_of}
 use Rattle.fc_lint_set.specs.Judging.{and_rest, cons_from}
 use Rattle.fc_lint_set.proofs.type_declarations.constructors_have_values.Given as goal
 
--- the rest is built, and what is still to come answers as the whole
+-- what is still to come answers as the whole
 abbrev pub invariant-loop-con : goal.invariant-loop-con
-invariant-loop-con l = (list_all is_ncon_built (ncons_of (drop l.con-index l.cons)) ≡ true)
-    × (cons_from (modules_of l.declared) l.first l.cons ≡ and_rest l.all (cons_from (modules_of l.declared) l.part (drop l.con-index l.cons)))
+invariant-loop-con l =
+    cons_from (modules_of l.declared) l.first l.cons ≡ and_rest l.all (cons_from (modules_of l.declared) l.part (drop l.con-index l.cons))

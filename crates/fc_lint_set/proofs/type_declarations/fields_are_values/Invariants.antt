@@ -1,12 +1,10 @@
-use Rattle.std.proofs.Common.{◌≡◌, true, drop}
-use Rattle.std.specs.List.{list_all}
-use Rattle.fc_model.specs.BuiltForms.{is_nty_built}
+use Rattle.std.proofs.Common.{◌≡◌, drop}
 use Rattle.fc_model.specs.NamelessView.{ntys_of}
 use Rattle.fc_types.specs.ModuleViews.{modules_of}
 use Rattle.fc_lint_set.specs.Judging.{and_rest, fields_from}
 use Rattle.fc_lint_set.proofs.type_declarations.fields_are_values.Given as goal
 
--- the rest is built, and what is still to come answers as the whole
+-- what is still to come answers as the whole
 abbrev pub invariant-loop-field : goal.invariant-loop-field
-invariant-loop-field l = (list_all is_nty_built (ntys_of (drop l.field-index l.fields)) ≡ true)
-    × (fields_from (modules_of l.declared) l.first l.fields ≡ and_rest l.all (fields_from (modules_of l.declared) l.part (drop l.field-index l.fields)))
+invariant-loop-field l =
+    fields_from (modules_of l.declared) l.first l.fields ≡ and_rest l.all (fields_from (modules_of l.declared) l.part (drop l.field-index l.fields))

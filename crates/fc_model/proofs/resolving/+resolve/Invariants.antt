@@ -1,10 +1,13 @@
 use Rattle.std.proofs.Common.{◌≡◌, drop}
 use Rattle.fc_syntax.specs.View.{args_of}
-use Rattle.fc_model.specs.Resolution.{no_locals, resolved_args}
+use Rattle.fc_model.specs.Resolution.{resolved_args}
+use Rattle.fc_model.specs.Scopes.{scope_of, words_in}
 use Rattle.fc_model.specs.Building.{with_args}
 use Rattle.fc_model.specs.WordSets.{top_by}
 use Rattle.fc_model.proofs.resolving.+resolve.Given as goal
 
 -- what is resolved, with what is still to come, answers as the whole
 abbrev pub invariant-resolved_args-loop-a : goal.invariant-resolved_args-loop-a
-invariant-resolved_args-loop-a l = resolved_args (top_by l.top) no_locals 0 (args_of l.args) ≡ with_args l.out (resolved_args (top_by l.top) no_locals l.at (args_of (drop l.a-index l.args)))
+invariant-resolved_args-loop-a l =
+    (resolved_args (top_by l.top) (scope_of (words_in l.fn.scope)) 0 (args_of l.args) ≡ with_args l.out (resolved_args (top_by l.top) (scope_of (words_in l.fn.scope)) l.at (args_of (drop l.a-index l.args))))
+    × (words_in l.scope ≡ words_in l.fn.scope)

@@ -1,17 +1,17 @@
-use Rattle.std.proofs.Common.{arith, ◌≡◌, ◌+◌, ◌∷◌, drop, sym, ap, ◌∙◌}
-use Rattle.std.proofs.lemmas.List.{drop_more}
+use Rattle.std.proofs.Common.{arith, ◌≡◌, ◌+◌, ◌∷◌, drop, ap, ◌∙◌}
 use Rattle.fc_syntax.specs.View.{decls_of}
 use Rattle.fc_model.specs.NamelessView.{ndecl_of}
 use Rattle.fc_model.specs.Resolution.{resolved_decls}
 use Rattle.fc_model.specs.Building.{with_items}
 use Rattle.fc_model.specs.WordSets.{top_by, words_by_space}
+use Rattle.fc_model.proofs.Building.{drop_item}
 use Rattle.fc_model.proofs.Declarations.{declaration_more}
 use Rattle.fc_model.proofs.resolving.declarations.Goals as goal
 
 pub loop-decl-preserved : goal.loop-decl-preserved
 loop-decl-preserved c =
     let rest = drop (c.loop-decl.decl-index + 1) c.args.decls.now in
-    let here : drop c.loop-decl.decl-index c.args.decls.now ≡ c.decl-item.result ∷ rest = drop_more c.args.decls.now c.loop-decl.decl-index c.decl-item.result (omega arith) ∙ ap (λ y. y ∷ rest) (sym c.decl-item.is) in
+    let here : drop c.loop-decl.decl-index c.args.decls.now ≡ c.decl-item.result ∷ rest = drop_item c.args.decls.now c.loop-decl.decl-index c.decl-item.result (omega arith) c.decl-item.is in
     c.loop-decl.invariant
     ∙ ap (λ ds. with_items ndecl_of c.loop-decl.out (resolved_decls (top_by c.args.top.now) (words_by_space c.loop-decl.earlier) (decls_of ds))) here
     ∙ declaration_more (top_by c.args.top.now) (words_by_space c.loop-decl.earlier) _ c.loop-decl.out _ c.decl-item.result rest c.in_ok-next.next

@@ -1,7 +1,10 @@
 use Rattle.std.proofs.Common.{◌≡◌, ◌++◌, drop}
-use Rattle.fc_syntax.specs.View.{args_of}
-use Rattle.fc_model.specs.Canonical.{args_text}
+use Rattle.fc_syntax.specs.View.{args_of, binds_of}
+use Rattle.fc_model.specs.Canonical.{args_text, binds_text}
 use Rattle.fc_printer.proofs.exprs.+exprs.Given as goal
 
 abbrev pub invariant-put_args-loop-a : goal.invariant-put_args-loop-a
 invariant-put_args-loop-a l = l.to.items ++ args_text (args_of (drop l.a-index l.args)) ≡ l.fn.to.items ++ args_text (args_of l.args)
+
+abbrev pub invariant-put_binds-loop-b : goal.invariant-put_binds-loop-b
+invariant-put_binds-loop-b l = l.to.items ++ binds_text (binds_of (drop l.b-index l.binds)) ≡ l.fn.to.items ++ binds_text (binds_of l.binds)

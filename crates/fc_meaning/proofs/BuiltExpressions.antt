@@ -1,0 +1,155 @@
+-- The right sides of the definitions of a formed module of the forms that are built, without names.
+use Rattle.std.proofs.Common.{◌≡◌, ℕ, ◌+◌, true, false, not, ◌&&◌, List, [], ◌∷◌, map, length, Option, Some, None, Ok, subst}
+use Rattle.std.specs.List.{list_all}
+use Rattle.fc_syntax.specs.declared.fault.FaultKind.TheVariants.{Duplicate}
+use Rattle.fc_syntax.specs.Tree.{Word, Expr, EVar, ELit, EApp, ELam, ELet, ECon, ATerm, AType, ACo, Args, NoArgs, MoreArgs, BValue, Bound, Binds, NoBinds, MoreBinds, Decl, DData, DDef}
+use Rattle.fc_model.specs.Canonical.{are_args_built, are_args_formed, are_binds_formed, is_bind_built, is_decl_built, is_decl_formed, is_expr_built, is_expr_formed}
+use Rattle.fc_model.specs.Canonical.{is_lower_word, is_name_built, is_type_built, is_type_formed, is_upper_word}
+use Rattle.fc_model.specs.Faulting.{need, within}
+use Rattle.fc_model.specs.Nameless.{NExpr, NLocal, NVar, NLit, NApp, NLam, NLet, NCon, NATerm, NBValue, NBound, NArgs, NoNArgs, MoreNArgs, NBinds, NoNBinds, MoreNBinds}
+use Rattle.fc_model.specs.Nameless.{NDecl, NData, NNew, NFamily, NAxiom, NDef, NWrap}
+use Rattle.fc_model.specs.Resolution.{Top, Locals, Words, Found, IsValue, IsJoin, Nowhere, behind, bind_words, decl_word, declared_name, distinct_params, enter, enter_values, found_term, in_params}
+use Rattle.fc_model.specs.Resolution.{no_locals, no_word, param_word, resolved_arg, resolved_args, resolved_bind, resolved_binder, resolved_binds, resolved_cons, resolved_decl, resolved_decls}
+use Rattle.fc_model.specs.Resolution.{resolved_expr, resolved_ty, resolved_var, variable}
+use Rattle.fc_model.specs.Terms.{InRange}
+use Rattle.fc_model.proofs.Parts.{and_then_inv, err_ok, need_inv, ok_ok, part}
+use Rattle.fc_model.proofs.Resolved.{then_arg_inv, then_item_inv, within_inv}
+use Rattle.fc_model.proofs.Sameness.{and_inv, false_true}
+use Rattle.fc_meaning.proofs.PrimitiveRange.{literal_in_range}
+
+abbrev mutual
+  -- of the forms that are built, and each literal is in range
+  pub IsBuiltExpr : NExpr → Type 0
+  IsBuiltExpr (NLocal i) = Unit {0}
+  IsBuiltExpr (NVar n) = Unit {0}
+  IsBuiltExpr (NLit n) = InRange n
+  IsBuiltExpr (NApp f (NATerm a)) = IsBuiltExpr f × IsBuiltExpr a
+  IsBuiltExpr (NLam (NBValue t) e) = IsBuiltExpr e
+  IsBuiltExpr (NLet false bs e) = IsBuiltBind bs × IsBuiltExpr e
+  IsBuiltExpr (NCon n args) = AreBuiltArgs args
+  IsBuiltExpr e = ⊥
+
+  pub AreBuiltArgs : NArgs → Type 0
+  AreBuiltArgs NoNArgs = Unit {0}
+  AreBuiltArgs (MoreNArgs (NATerm e) rest) = IsBuiltExpr e × AreBuiltArgs rest
+  AreBuiltArgs (MoreNArgs a rest) = ⊥
+
+  -- one bind
+  pub IsBuiltBind : NBinds → Type 0
+  IsBuiltBind (MoreNBinds (NBound t d) NoNBinds) = IsBuiltExpr d
+  IsBuiltBind bs = ⊥
+
+-- the right side of a definition is
+abbrev pub IsBuiltDecl : NDecl → Type 0
+IsBuiltDecl (NData n ps cs) = Unit {0}
+IsBuiltDecl (NNew n ps t con) = Unit {0}
+IsBuiltDecl (NFamily n ps k) = Unit {0}
+IsBuiltDecl (NAxiom n ps t u) = Unit {0}
+IsBuiltDecl (NDef n t e) = IsBuiltExpr e
+IsBuiltDecl (NWrap n t e) = IsBuiltExpr e
+
+abbrev pub AreBuiltDecls : List NDecl → Type 0
+AreBuiltDecls [] = Unit {0}
+AreBuiltDecls (d ∷ ds) = IsBuiltDecl d × AreBuiltDecls ds
+
+module _ (top : Top) where
+  variable_built : (o : Found) (w : Word) (u : NExpr) → variable top o w ≡ Ok u → IsBuiltExpr u
+  variable_built (IsValue i) w u h = subst IsBuiltExpr (ok_ok h) tt
+  variable_built (IsJoin i) w u h = err_ok h
+  variable_built Nowhere w u h = let p = and_then_inv (declared_name top top.terms None w) _ u h in subst IsBuiltExpr (ok_ok p.2) tt
+
+  name_built : (s : Locals) (m : Option Word) (w : Word) (u : NExpr) → resolved_var top s m w ≡ Ok u → IsBuiltExpr u
+  name_built s None w u h = variable_built (found_term s.terms w) w u h
+  name_built s (Some m) w u h = let p = and_then_inv (declared_name top top.terms (Some m) w) _ u h in subst IsBuiltExpr (ok_ok p.2) tt
+
+  mutual
+    expr_built : (s : Locals) (e : Expr) (u : NExpr) → is_expr_formed e ≡ true → is_expr_built e ≡ true → resolved_expr top s e ≡ Ok u → IsBuiltExpr u
+    expr_built s (EVar n) u f b h = name_built s n.module n.text u h
+    expr_built s (ELit n) u f b h = subst IsBuiltExpr (ok_ok h) (literal_in_range n f)
+    expr_built s (EApp e (ATerm a)) u f b h =
+        let x = and_inv (is_expr_formed e) (is_expr_formed a) f in
+        let y = and_inv (is_expr_built e) (is_expr_built a) b in
+        let p = part 0 (resolved_expr top s e) _ u h in
+        let q = part 1 (resolved_arg top s (ATerm a)) _ u p.2 in
+        let r = and_then_inv (resolved_expr top s a) _ q.0 q.1 in
+        let first = expr_built s e p.0 x.0 y.0 p.1 in
+        let second = expr_built s a r.0 x.1 y.1 r.1 in
+        subst IsBuiltExpr (ok_ok q.2) (subst (λ z. IsBuiltExpr (NApp p.0 z)) (ok_ok r.2) (first, second))
+    expr_built s (EApp e (AType t)) u f b h = let y = and_inv (is_expr_built e) false b in false_true y.1
+    expr_built s (EApp e (ACo g)) u f b h = let y = and_inv (is_expr_built e) false b in false_true y.1
+    expr_built s (ELam (BValue w t) e) u f b h =
+        let x = and_inv (is_lower_word w && is_type_formed t) (is_expr_formed e) f in
+        let y = and_inv (is_type_built t) (is_expr_built e) b in
+        let p = part 0 (resolved_binder top s (BValue w t)) _ u h in
+        let q = part 0 (resolved_ty top s.types t) _ p.0 p.1 in
+        let r = part 1 (resolved_expr top (enter (BValue w t) s) e) _ u p.2 in
+        let body = expr_built (enter (BValue w t) s) e r.0 x.1 y.1 r.1 in
+        subst IsBuiltExpr (ok_ok r.2) (subst (λ z. IsBuiltExpr (NLam z r.0)) (ok_ok q.2) body)
+    expr_built s (ELet false bs e) u f b h =
+        let x = and_inv (are_binds_formed bs) (is_expr_formed e) f in
+        let y = and_inv (is_bind_built bs) (is_expr_built e) b in
+        let p = and_then_inv (resolved_binds top s no_word 0 bs) _ u h in
+        let q = part (length (bind_words bs)) (resolved_expr top (enter_values (bind_words bs) s) e) _ u p.2 in
+        let bind = bind_built s bs p.0 x.0 y.0 p.1 in
+        let body = expr_built (enter_values (bind_words bs) s) e q.0 x.1 y.1 q.1 in
+        subst IsBuiltExpr (ok_ok q.2) (bind, body)
+    expr_built s (ECon n args) u f b h =
+        let x = and_inv (is_upper_word n.text) (are_args_formed args) f in
+        let y = and_inv (is_name_built n) (are_args_built args) b in
+        let p = and_then_inv (declared_name top top.terms n.module n.text) _ u h in
+        let q = and_then_inv (resolved_args top s 0 args) _ u p.2 in
+        subst IsBuiltExpr (ok_ok q.2) (args_built s 0 args q.0 x.1 y.1 q.1)
+    expr_built s e u f b h = false_true b
+
+    args_built : (s : Locals) (i : ℕ) (args : Args) (us : NArgs) → are_args_formed args ≡ true → are_args_built args ≡ true → resolved_args top s i args ≡ Ok us → AreBuiltArgs us
+    args_built s i NoArgs us f b h = subst AreBuiltArgs (ok_ok h) tt
+    args_built s i (MoreArgs (ATerm e) rest) us f b h =
+        let x = and_inv (is_expr_formed e) (are_args_formed rest) f in
+        let y = and_inv (is_expr_built e) (are_args_built rest) b in
+        let p = part i (resolved_arg top s (ATerm e)) _ us h in
+        let q = then_arg_inv p.0 (resolved_args top s (i + 1) rest) us p.2 in
+        let r = and_then_inv (resolved_expr top s e) _ p.0 p.1 in
+        let first = expr_built s e r.0 x.0 y.0 r.1 in
+        let others = args_built s (i + 1) rest q.0 x.1 y.1 q.1 in
+        subst AreBuiltArgs q.2 (subst (λ a. AreBuiltArgs (MoreNArgs a q.0)) (ok_ok r.2) (first, others))
+    args_built s i (MoreArgs a rest) us f b h = false_true b
+
+    bind_built : (s : Locals) (bs : Binds) (us : NBinds) → are_binds_formed bs ≡ true → is_bind_built bs ≡ true → resolved_binds top s no_word 0 bs ≡ Ok us → IsBuiltBind us
+    bind_built s (MoreBinds (Bound w t d) NoBinds) us f b h =
+        let x = and_inv (is_lower_word w && (is_type_formed t && is_expr_formed d)) true f in
+        let x' = and_inv (is_lower_word w) (is_type_formed t && is_expr_formed d) x.0 in
+        let right = and_inv (is_type_formed t) (is_expr_formed d) x'.1 in
+        let y = and_inv (is_type_built t) (is_expr_built d) b in
+        let p = part 0 (need (not (no_word w)) Duplicate (resolved_bind top s (Bound w t d))) _ us h in
+        let q = part 0 (resolved_ty top s.types t) _ p.0 p.1 in
+        let r = part 1 (resolved_expr top s d) _ p.0 q.2 in
+        let built = expr_built s d r.0 right.1 y.1 r.1 in
+        subst IsBuiltBind (ok_ok p.2) (subst (λ z. IsBuiltBind (MoreNBinds z NoNBinds)) (ok_ok r.2) built)
+    bind_built s bs us f b h = false_true b
+
+  decl_built : (ws : Words) (d : Decl) (u : NDecl) → is_decl_formed d ≡ true → is_decl_built d ≡ true → resolved_decl top ws d ≡ Ok u → IsBuiltDecl u
+  decl_built ws (DData n ps cs) u f b h =
+      let p = need_inv (not (ws.types n)) _ _ u h in
+      let q = and_then_inv (distinct_params no_word 0 (map param_word ps)) _ u p.1 in
+      let r = and_then_inv (resolved_cons top (in_params (map param_word ps)) ws.terms q.0 cs) _ u q.2 in
+      subst IsBuiltDecl (ok_ok r.2) tt
+  decl_built ws (DDef n t e) u f b h =
+      let x = and_inv (is_lower_word n) (is_type_formed t && is_expr_formed e) f in
+      let right = and_inv (is_type_formed t) (is_expr_formed e) x.1 in
+      let y = and_inv (is_type_built t) (is_expr_built e) b in
+      let p = need_inv (not (ws.terms n)) _ _ u h in
+      let q = part 0 (resolved_ty top [] t) _ u p.1 in
+      let r = part 1 (resolved_expr top no_locals e) _ u q.2 in
+      subst IsBuiltDecl (ok_ok r.2) (expr_built no_locals e r.0 right.1 y.1 r.1)
+  decl_built ws d u f b h = false_true f
+
+  pub decls_built : (ws : Words) (ds : List Decl) (us : List NDecl) → list_all is_decl_formed ds ≡ true → list_all is_decl_built ds ≡ true → resolved_decls top ws ds ≡ Ok us
+      → AreBuiltDecls us
+  decls_built ws [] us f b h = subst AreBuiltDecls (ok_ok h) tt
+  decls_built ws (d ∷ ds) us f b h =
+      let x = and_inv (is_decl_formed d) (list_all is_decl_formed ds) f in
+      let y = and_inv (is_decl_built d) (list_all is_decl_built ds) b in
+      let p = and_then_inv (within (decl_word d) (resolved_decl top ws d)) _ us h in
+      let q = then_item_inv p.0 (resolved_decls top (behind d ws) ds) us p.2 in
+      let first = decl_built ws d p.0 x.0 y.0 (within_inv (decl_word d) (resolved_decl top ws d) p.0 p.1) in
+      subst AreBuiltDecls q.2 (first, decls_built (behind d ws) ds q.0 x.1 y.1 q.1)

@@ -1,0 +1,14 @@
+pub mod Built
+pub mod ComingBack
+pub mod DeclarationsStanding
+pub mod Distances
+pub mod HintedView
+pub mod ModulesComingBack
+pub mod ModulesResolving
+pub mod ModulesWritten
+pub mod Resolving
+pub mod Seen
+pub mod Shortened
+pub mod Standing
+pub mod Unique
+pub mod Written

@@ -1,0 +1,5 @@
+pub mod Hinted
+pub mod HintedView
+pub mod Naming
+pub mod Scopes
+pub mod Laws
