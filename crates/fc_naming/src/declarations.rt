@@ -73,6 +73,7 @@ fn named_decl(alloc: Global, own: &Text, decl: &NDecl) -> Result<Decl, Memory>
     }
 }
 
+/// Declarations as they are written in the module `own`, in their order.
 pub fn named_decls(alloc: Global, own: &Text, decls: &[NDecl]) -> Result<Seq<Decl>, Memory>
     ensures { IfOk result (λ r. AreEach (IsNamedDecl own.now) (hdecls_of decls.now) (decls_of r)) }
 {
