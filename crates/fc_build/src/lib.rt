@@ -8,6 +8,3 @@ mod top;
 mod words;
 
 pub use top::run;
-
-#[cfg(test)]
-mod tests;

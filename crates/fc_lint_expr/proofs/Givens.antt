@@ -1,5 +1,5 @@
 -- Terms that are given to a constructor, one after the other.
-use Rattle.std.proofs.Common.{◌≡◌, refl, ap, sym, ◌∙◌, suc, add-one, drop-cons, ℕ, ◌+◌, Bool, List, [], ◌∷◌, ◌++◌, length, true, false, ◌<◌, drop, get_or, Result, Ok, Err, arith}
+use Rattle.std.proofs.Common.{◌≡◌, refl, ap, ◌∙◌, ℕ, ◌+◌, Bool, List, [], ◌∷◌, ◌++◌, length, true, false, ◌<◌, drop, get_or, Result, Ok, Err, arith}
 use Rattle.std.proofs.lemmas.Grind.{common_steps}
 use Rattle.fc_model.specs.Faulting.{F, and_then, under}
 use Rattle.fc_model.specs.Nameless.{NTy, NArg, NATerm, NAType, NACo, NArgs, MoreNArgs, NModule}

@@ -1,2 +1,4 @@
+pub mod AlternativeBinders
 pub mod Binds
 pub mod Givens
+pub mod LocalBinders

@@ -1,2 +1,3 @@
+pub mod AltViews
 pub mod GivenViews
 pub mod LocalViews

@@ -47,7 +47,7 @@ pub fn is_atom(e: &NExpr) -> bool
 
 /// Whether a type is `Int#`.
 #[tactic(auto, using(fc_model::proofs::NamelessView::nview_rules))]
-fn is_int_hash(t: &NTy) -> bool
+pub fn is_int_hash(t: &NTy) -> bool
     ensures { result ≡ is_int (nty_of t.now) }
 {
     match t {

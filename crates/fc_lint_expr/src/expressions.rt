@@ -1,21 +1,26 @@
 //! The type of an expression.
-ghost use Rattle.std.specs.Prelude.{[], false};
-ghost use Rattle.fc_syntax.specs.View.{kind_of};
+ghost use Rattle.std.specs.Prelude.{false};
 ghost use Rattle.fc_model.specs.Faulting.{under};
-ghost use Rattle.fc_model.specs.Kinding.{kind_or_fault};
 ghost use Rattle.fc_model.specs.Nameless.{NLam};
-ghost use Rattle.fc_model.specs.NamelessView.{narg_of, nbind_of, nbinder_of, nexpr_of, nty_of};
+ghost use Rattle.fc_model.specs.NamelessView.{nalt_of, nalts_of, narg_of, nbind_of, nbinder_of, nexpr_of, nty_of};
 ghost use Rattle.fc_model.specs.Says.{Says};
-ghost use Rattle.fc_model.specs.Typing.{argument_applied, bind_judged, no_context, type_or_fault, value_type, with_value};
+ghost use Rattle.fc_model.specs.Typing.{Start, alt_judged, alts_judged, argument_applied, bind_judged, no_context, type_or_fault, value_type, with_value};
 ghost use Rattle.fc_types.specs.ModuleViews.{modules_of};
+ghost use Rattle.fc_lint_expr.specs.AltViews.{before_of};
 ghost use Rattle.fc_lint_expr.specs.GivenViews.{arg_given, args_from, given_of, givens_of};
 ghost use Rattle.fc_lint_expr.specs.LocalViews.{context_of};
 
+use crate::alternatives::{
+    Before, Wanted, alternative_takes, binder_kind, binders_have_kinds, case_kinds, case_type,
+    head_goes,
+};
 use crate::arguments::{Given, constructed_type, is_atom};
 use crate::locals::{Locals, local_type};
 use crate::premises::{applied_type, bind_takes, lambda_type};
-use fc_model::{Flawed, NArg, NBind, NBinder, NExpr, NTy, deeper, flaw_here, next_part, not_built};
-use fc_syntax::{FaultKind, Kind, Name, Seq};
+use fc_model::{
+    Flawed, NAlt, NArg, NBind, NBinder, NExpr, NTy, deeper, flaw_here, next_part, not_built,
+};
+use fc_syntax::{FaultKind, Name, Seq};
 use fc_types::{Declarations, copy_type, kind_of_part};
 use std::alloc::Global;
 
@@ -26,16 +31,6 @@ fn definition_type(alloc: Global, name: &Name, declared: &Declarations) -> Resul
     match declared.definition_named(name) {
         None => Err(flaw_here(alloc, FaultKind::Unbound)),
         Some(ty) => Ok(copy_type(alloc, ty)?),
-    }
-}
-
-/// The kind of the type of a binder of values, whose place is told from the piece that binds.
-fn binder_kind(alloc: Global, t: &NTy, declared: &Declarations) -> Result<Kind, Flawed>
-    ensures { Says kind_of result (under 0 (under 0 (kind_or_fault (modules_of declared.now) [] (nty_of t.now)))) }
-{
-    match kind_of_part(alloc, t, declared, 0) {
-        Ok(k) => Ok(k),
-        Err(flawed) => Err(deeper(flawed, 0)),
     }
 }
 
@@ -151,7 +146,7 @@ fn type_of_lambda<'x>(
 {
     match binder {
         NBinder::Value(_, t) => {
-            let k = binder_kind(alloc, t, declared)?;
+            let k = binder_kind(alloc, t, declared, 0)?;
             let u = type_of_body(alloc, body, &*t, declared, &*locals)?;
             lambda_type(alloc, t, &k, u)
         }
@@ -191,6 +186,75 @@ fn first_bind_fits(
     }
 }
 
+/// Whether an alternative fits its case; what stands before the next one.
+#[cycle(lint)]
+#[tactic(auto, using(crate::proofs::AlternativeBinders::binders_alone))]
+fn alternative_fits<'x>(
+    alloc: Global,
+    alternative: &'x NAlt,
+    declared: &Declarations,
+    locals: &'x Locals<'x>,
+    wanted: Wanted,
+    before: Before,
+) -> Result<Before, Flawed>
+    ensures { Says before_of result (alt_judged (modules_of declared.now) (context_of locals.now) (nty_of wanted.entry.scrutinee.now) (nty_of wanted.entry.answer.now) (before_of before) (nalt_of alternative.now)) }
+{
+    let binders = alternative.binders.as_slice();
+    let part = binders_have_kinds(alloc, binders, declared)?;
+    let inner = Locals::Binders(binders, &*locals);
+    let t = type_of_part(alloc, &alternative.body, declared, &inner, part)?;
+    let next = head_goes(
+        alloc,
+        &alternative.head,
+        binders,
+        declared,
+        wanted.scrutinee,
+        before,
+    )?;
+    alternative_takes(alloc, &t, wanted.answer, next)
+}
+
+/// The same of the alternative that is the part of this number of its case.
+#[cycle(lint)]
+fn alternative_part_fits<'x>(
+    alloc: Global,
+    alternative: &'x NAlt,
+    declared: &Declarations,
+    locals: &'x Locals<'x>,
+    wanted: Wanted,
+    before: Before,
+    number: u32,
+) -> Result<Before, Flawed>
+    ensures { Says before_of result (under number (alt_judged (modules_of declared.now) (context_of locals.now) (nty_of wanted.entry.scrutinee.now) (nty_of wanted.entry.answer.now) (before_of before) (nalt_of alternative.now))) }
+{
+    match alternative_fits(alloc, &*alternative, declared, &*locals, wanted, before) {
+        Ok(next) => Ok(next),
+        Err(flawed) => Err(deeper(flawed, number)),
+    }
+}
+
+/// Whether the alternatives fit a case whose binder is of this type; what stands behind the last one.
+#[cycle(lint)]
+fn alternatives_fit<'x>(
+    alloc: Global,
+    alternatives: &'x [NAlt],
+    of: &'x NTy,
+    declared: &Declarations,
+    locals: &'x Locals<'x>,
+    wanted: Wanted,
+) -> Result<Before, Flawed>
+    ensures { Says before_of result (alts_judged (modules_of declared.now) (with_value (nty_of of.now) (context_of locals.now)) (nty_of wanted.entry.scrutinee.now) (nty_of wanted.entry.answer.now) 3 Start (nalts_of alternatives.now)) }
+{
+    let inner = Locals::Value(&*of, &*locals);
+    let mut before = Before::Start;
+    let mut part = 3u32;
+    for alternative in alternatives {
+        before = alternative_part_fits(alloc, alternative, declared, &inner, wanted, before, part)?;
+        part = next_part(part)?;
+    }
+    Ok(before)
+}
+
 /// The type of an expression in a scope.
 #[cycle(lint)]
 #[tactic(auto, using(fc_model::proofs::NamelessView::nview_rules, crate::proofs::Givens::from_whole))]
@@ -218,7 +282,23 @@ fn type_of<'x>(
             }
             _ => Err(not_built()),
         },
-        NExpr::Case(_, _, _, _, _) => Err(not_built()),
+        NExpr::Case(scrutinee, _, of, answer, alternatives) => {
+            let s = type_of_part(alloc, scrutinee, declared, locals, 0)?;
+            let k = case_kinds(alloc, of, answer, declared)?;
+            let wanted = Wanted {
+                scrutinee: &s,
+                answer,
+            };
+            alternatives_fit(
+                alloc,
+                alternatives.as_slice(),
+                of,
+                declared,
+                &*locals,
+                wanted,
+            )?;
+            case_type(alloc, of, &s, answer, &k)
+        }
         NExpr::Cast(_, _) => Err(not_built()),
         NExpr::Con(name, args) => {
             let given = given_terms(alloc, args.as_slice(), declared, locals)?;
@@ -235,8 +315,10 @@ fn type_of<'x>(
 /// The type of a closed expression among the declarations of its module, or the first premise that fails: the parts from left
 /// to right, before the premises of the piece itself. The faults are `Unbound`; for an application `NotFunction`, `ArgType` and
 /// `UnliftedNotAtom`; for a lambda `NotAType`; for a bind `NotAType`, `LetType` and `UnliftedNotAtom`; for a constructor `ConArity`,
-/// `ArgType` and `UnliftedNotAtom`, in these orders; each with the part numbers to the piece. A form that is not built yet is
-/// answered with want of memory.
+/// `ArgType` and `UnliftedNotAtom`; for a case `ScrutineeType` and `NotAType`; for the default of a case `AltOrder`, for a literal's
+/// alternative `LitAlt` and `AltOrder`, for a constructor's `AltConstructor`, `AltOrder` and `ConArity`, and for each of them then
+/// `AltType`; in these orders; each with the part numbers to the piece. A form that is not built yet is answered with want of
+/// memory.
 pub fn lint(alloc: Global, e: &NExpr, declared: &Declarations) -> Result<NTy, Flawed>
     ensures { Says nty_of result (type_or_fault (modules_of declared.now) no_context (nexpr_of e.now)) }
 {

@@ -1,12 +1,10 @@
 //! The type of an expression, or the first premise of typing that fails.
 #![tactic(auto)]
 
+mod alternatives;
 mod arguments;
 mod expressions;
 mod locals;
 mod premises;
 
 pub use expressions::lint;
-
-#[cfg(test)]
-mod tests;

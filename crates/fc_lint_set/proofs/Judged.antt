@@ -1,5 +1,5 @@
 -- Fields and constructors, one after the other.
-use Rattle.std.proofs.Common.{◌≡◌, refl, ap, sym, ◌∙◌, suc, add-one, drop-cons, subst, ℕ, ◌+◌, Bool, true, false, ◌&&◌, List, [], ◌∷◌, length, ◌<◌, drop, get_or, Result, Ok, Err, arith}
+use Rattle.std.proofs.Common.{◌≡◌, refl, ap, sym, ◌∙◌, subst, ℕ, ◌+◌, Bool, true, false, ◌&&◌, List, [], ◌∷◌, length, ◌<◌, drop, get_or, Result, Ok, Err, arith}
 use Rattle.std.specs.Prelude.{IsErrAnd}
 use Rattle.std.proofs.lemmas.Grind.{common_steps}
 use Rattle.std.proofs.lemmas.List.{length-map}
@@ -11,7 +11,7 @@ use Rattle.fc_model.specs.Faulting.{F, and_then, need, under}
 use Rattle.fc_model.specs.Kinding.{is_value_kind, kind_or_fault}
 use Rattle.fc_model.specs.Linting.{done, Done, cons_judged, exports_judged, fields_judged, lint_or_fault, type_decl_judged}
 use Rattle.fc_model.specs.Nameless.{NModule}
-use Rattle.fc_model.specs.NamelessView.{nbinder_of, ncon_of, ncons_of, ndecl_of, ndecls_of, nmodule_of, nparam_of, nty_of, ntys_of}
+use Rattle.fc_model.specs.NamelessView.{nbinder_of, ncons_of, ndecl_of, ndecls_of, nmodule_of, nparam_of, nty_of, ntys_of}
 use Rattle.fc_model.specs.Says.{Deepens, IsFlaw, Refuses, Says}
 use Rattle.fc_model.specs.declared.flaw.Flawed.{Flawed}
 use Rattle.fc_model.specs.declared.flaw.Flawed.TheVariants.{Memory, Flaw as OfFlaw}

@@ -8,6 +8,3 @@ mod parts;
 mod type_declarations;
 
 pub use modules::lint_module;
-
-#[cfg(test)]
-mod tests;

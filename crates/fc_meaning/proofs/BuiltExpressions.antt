@@ -1,13 +1,18 @@
 -- The right sides of the definitions of a formed module of the forms that are built, without names.
-use Rattle.std.proofs.Common.{◌≡◌, ℕ, ◌+◌, true, false, not, ◌&&◌, List, [], ◌∷◌, map, length, Option, Some, None, Ok, subst}
+use Rattle.std.proofs.Common.{◌≡◌, ℕ, ◌+◌, true, false, not, ◌&&◌, List, [], ◌∷◌, map, length, Option, Some, None, Result, Ok, Err, refl, sym, subst}
 use Rattle.std.specs.List.{list_all}
 use Rattle.fc_syntax.specs.declared.fault.FaultKind.TheVariants.{Duplicate}
-use Rattle.fc_syntax.specs.Tree.{Word, Expr, EVar, ELit, EApp, ELam, ELet, ECon, ATerm, AType, ACo, Args, NoArgs, MoreArgs, BValue, Bound, Binds, NoBinds, MoreBinds, Decl, DData, DDef}
+use Rattle.fc_syntax.specs.declared.expr.Head.{Head}
+use Rattle.fc_syntax.specs.declared.expr.Head.TheVariants as head
+use Rattle.fc_syntax.specs.Tree.{Word, Expr, EVar, ELit, EApp, ELam, ELet, ECase, ECon, ATerm, AType, ACo, Args, NoArgs, MoreArgs, Binder, BValue, Bound, Binds, NoBinds, MoreBinds}
+use Rattle.fc_syntax.specs.Tree.{Branch, Alts, NoAlts, MoreAlts, Decl, DData, DDef}
+use Rattle.fc_model.specs.Canonical.{are_alts_built, are_alts_formed, is_alt_built, is_alt_formed, is_binder_formed, is_empty_list, is_head_built, is_head_formed}
 use Rattle.fc_model.specs.Canonical.{are_args_built, are_args_formed, are_binds_formed, is_bind_built, is_decl_built, is_decl_formed, is_expr_built, is_expr_formed}
 use Rattle.fc_model.specs.Canonical.{is_lower_word, is_name_built, is_type_built, is_type_formed, is_upper_word}
-use Rattle.fc_model.specs.Faulting.{need, within}
-use Rattle.fc_model.specs.Nameless.{NExpr, NLocal, NVar, NLit, NApp, NLam, NLet, NCon, NATerm, NBValue, NBound, NArgs, NoNArgs, MoreNArgs, NBinds, NoNBinds, MoreNBinds}
-use Rattle.fc_model.specs.Nameless.{NDecl, NData, NNew, NFamily, NAxiom, NDef, NWrap}
+use Rattle.fc_model.specs.Faulting.{F, need, within}
+use Rattle.fc_model.specs.Nameless.{NExpr, NLocal, NVar, NLit, NApp, NLam, NLet, NCase, NCon, NATerm, NBinder, NBValue, NBound, NArgs, NoNArgs, MoreNArgs, NBinds, NoNBinds, MoreNBinds}
+use Rattle.fc_model.specs.Nameless.{NAlt, NBranch, NAlts, NoNAlts, MoreNAlts, NDecl, NData, NNew, NFamily, NAxiom, NDef, NWrap}
+use Rattle.fc_model.specs.Resolution.{Value, enter_all, no_words, resolved_alt, resolved_alts, resolved_binders, resolved_head, then_alt, with_term}
 use Rattle.fc_model.specs.Resolution.{Top, Locals, Words, Found, IsValue, IsJoin, Nowhere, behind, bind_words, decl_word, declared_name, distinct_params, enter, enter_values, found_term, in_params}
 use Rattle.fc_model.specs.Resolution.{no_locals, no_word, param_word, resolved_arg, resolved_args, resolved_bind, resolved_binder, resolved_binds, resolved_cons, resolved_decl, resolved_decls}
 use Rattle.fc_model.specs.Resolution.{resolved_expr, resolved_ty, resolved_var, variable}
@@ -16,6 +21,12 @@ use Rattle.fc_model.proofs.Parts.{and_then_inv, err_ok, need_inv, ok_ok, part}
 use Rattle.fc_model.proofs.Resolved.{then_arg_inv, then_item_inv, within_inv}
 use Rattle.fc_model.proofs.Sameness.{and_inv, false_true}
 use Rattle.fc_meaning.proofs.PrimitiveRange.{literal_in_range}
+
+-- only a constructor has binders
+abbrev pub HasOwnBinders : Head → List NBinder → Type 0
+HasOwnBinders head.Default bs = bs ≡ []
+HasOwnBinders (head.Lit n) bs = bs ≡ []
+HasOwnBinders (head.Con n) bs = Unit {0}
 
 abbrev mutual
   -- of the forms that are built, and each literal is in range
@@ -26,6 +37,7 @@ abbrev mutual
   IsBuiltExpr (NApp f (NATerm a)) = IsBuiltExpr f × IsBuiltExpr a
   IsBuiltExpr (NLam (NBValue t) e) = IsBuiltExpr e
   IsBuiltExpr (NLet false bs e) = IsBuiltBind bs × IsBuiltExpr e
+  IsBuiltExpr (NCase e xt rt alts) = IsBuiltExpr e × AreBuiltAlts alts
   IsBuiltExpr (NCon n args) = AreBuiltArgs args
   IsBuiltExpr e = ⊥
 
@@ -38,6 +50,10 @@ abbrev mutual
   pub IsBuiltBind : NBinds → Type 0
   IsBuiltBind (MoreNBinds (NBound t d) NoNBinds) = IsBuiltExpr d
   IsBuiltBind bs = ⊥
+
+  pub AreBuiltAlts : NAlts → Type 0
+  AreBuiltAlts NoNAlts = Unit {0}
+  AreBuiltAlts (MoreNAlts (NBranch h bs e) rest) = HasOwnBinders h bs × IsBuiltExpr e × AreBuiltAlts rest
 
 -- the right side of a definition is
 abbrev pub IsBuiltDecl : NDecl → Type 0
@@ -52,6 +68,10 @@ abbrev pub AreBuiltDecls : List NDecl → Type 0
 AreBuiltDecls [] = Unit {0}
 AreBuiltDecls (d ∷ ds) = IsBuiltDecl d × AreBuiltDecls ds
 
+then_alt_inv : (a : NAlt) (r : Result NAlts F) (alts : NAlts) → then_alt a r ≡ Ok alts → (rest : NAlts) × (r ≡ Ok rest) × (MoreNAlts a rest ≡ alts)
+then_alt_inv a (Ok rest) alts h = (rest, refl, ok_ok h)
+then_alt_inv a (Err f) alts h = err_ok h
+
 module _ (top : Top) where
   variable_built : (o : Found) (w : Word) (u : NExpr) → variable top o w ≡ Ok u → IsBuiltExpr u
   variable_built (IsValue i) w u h = subst IsBuiltExpr (ok_ok h) tt
@@ -61,6 +81,17 @@ module _ (top : Top) where
   name_built : (s : Locals) (m : Option Word) (w : Word) (u : NExpr) → resolved_var top s m w ≡ Ok u → IsBuiltExpr u
   name_built s None w u h = variable_built (found_term s.terms w) w u h
   name_built s (Some m) w u h = let p = and_then_inv (declared_name top top.terms (Some m) w) _ u h in subst IsBuiltExpr (ok_ok p.2) tt
+
+  none_resolved : (s : Locals) (bs : List Binder) (cs : List NBinder) → is_empty_list bs ≡ true → resolved_binders top s no_words 0 bs ≡ Ok cs → cs ≡ []
+  none_resolved s [] cs b h = sym (ok_ok h)
+  none_resolved s (x ∷ bs) cs b h = false_true b
+
+  head_built : (s : Locals) (k : Head) (bs : List Binder) (l : Head) (cs : List NBinder) → is_head_built k bs ≡ true → resolved_head top k ≡ Ok l
+      → resolved_binders top s no_words 0 bs ≡ Ok cs → HasOwnBinders l cs
+  head_built s head.Default bs l cs b h g = subst (λ z. HasOwnBinders z cs) (ok_ok h) (none_resolved s bs cs b g)
+  head_built s (head.Lit n) bs l cs b h g = subst (λ z. HasOwnBinders z cs) (ok_ok h) (none_resolved s bs cs b g)
+  head_built s (head.Con n) bs l cs b h g =
+      let p = and_then_inv (declared_name top top.terms n.module n.text) _ l h in subst (λ z. HasOwnBinders z cs) (ok_ok p.2) tt
 
   mutual
     expr_built : (s : Locals) (e : Expr) (u : NExpr) → is_expr_formed e ≡ true → is_expr_built e ≡ true → resolved_expr top s e ≡ Ok u → IsBuiltExpr u
@@ -93,6 +124,17 @@ module _ (top : Top) where
         let bind = bind_built s bs p.0 x.0 y.0 p.1 in
         let body = expr_built (enter_values (bind_words bs) s) e q.0 x.1 y.1 q.1 in
         subst IsBuiltExpr (ok_ok q.2) (bind, body)
+    expr_built s (ECase e w t v alts) u f b h =
+        let x = and_inv (is_expr_formed e) ((is_lower_word w && (is_type_formed t && is_type_formed v)) && are_alts_formed alts) f in
+        let x' = and_inv (is_lower_word w && (is_type_formed t && is_type_formed v)) (are_alts_formed alts) x.1 in
+        let y = and_inv (is_expr_built e) ((is_type_built t && is_type_built v) && are_alts_built alts) b in
+        let y' = and_inv (is_type_built t && is_type_built v) (are_alts_built alts) y.1 in
+        let p = part 0 (resolved_expr top s e) _ u h in
+        let q = part 1 (resolved_ty top s.types t) _ u p.2 in
+        let r = part 2 (resolved_ty top s.types v) _ u q.2 in
+        let z = and_then_inv (resolved_alts top (with_term (Value w) s) 3 alts) _ u r.2 in
+        let scrutinee = expr_built s e p.0 x.0 y.0 p.1 in
+        subst IsBuiltExpr (ok_ok z.2) (scrutinee, alts_built (with_term (Value w) s) 3 alts z.0 x'.1 y'.1 z.1)
     expr_built s (ECon n args) u f b h =
         let x = and_inv (is_upper_word n.text) (are_args_formed args) f in
         let y = and_inv (is_name_built n) (are_args_built args) b in
@@ -126,6 +168,23 @@ module _ (top : Top) where
         let built = expr_built s d r.0 right.1 y.1 r.1 in
         subst IsBuiltBind (ok_ok p.2) (subst (λ z. IsBuiltBind (MoreNBinds z NoNBinds)) (ok_ok r.2) built)
     bind_built s bs us f b h = false_true b
+
+    alts_built : (s : Locals) (i : ℕ) (alts : Alts) (us : NAlts) → are_alts_formed alts ≡ true → are_alts_built alts ≡ true → resolved_alts top s i alts ≡ Ok us → AreBuiltAlts us
+    alts_built s i NoAlts us f b h = subst AreBuiltAlts (ok_ok h) tt
+    alts_built s i (MoreAlts (Branch k bs e) rest) us f b h =
+        let x = and_inv (is_alt_formed (Branch k bs e)) (are_alts_formed rest) f in
+        let x' = and_inv (is_head_formed k && list_all is_binder_formed bs) (is_expr_formed e) x.0 in
+        let y = and_inv (is_alt_built (Branch k bs e)) (are_alts_built rest) b in
+        let y' = and_inv (is_head_built k bs) (is_expr_built e) y.0 in
+        let p = part i (resolved_alt top s (Branch k bs e)) _ us h in
+        let q = then_alt_inv p.0 (resolved_alts top s (i + 1) rest) us p.2 in
+        let r = and_then_inv (resolved_head top k) _ p.0 p.1 in
+        let v = and_then_inv (resolved_binders top s no_words 0 bs) _ p.0 r.2 in
+        let z = part (length bs) (resolved_expr top (enter_all bs s) e) _ p.0 v.2 in
+        let own = head_built s k bs r.0 v.0 y'.0 r.1 v.1 in
+        let body = expr_built (enter_all bs s) e z.0 x'.1 y'.1 z.1 in
+        let others = alts_built s (i + 1) rest q.0 x.1 y.1 q.1 in
+        subst AreBuiltAlts q.2 (subst (λ a. AreBuiltAlts (MoreNAlts a q.0)) (ok_ok z.2) (own, body, others))
 
   decl_built : (ws : Words) (d : Decl) (u : NDecl) → is_decl_formed d ≡ true → is_decl_built d ≡ true → resolved_decl top ws d ≡ Ok u → IsBuiltDecl u
   decl_built ws (DData n ps cs) u f b h =

@@ -1,20 +1,22 @@
 -- The right sides of the definitions of a module that lints, if it has only the forms that are built, are sorted when their
 -- types are gone.
-use Rattle.std.proofs.Common.{◌≡◌, ℕ, zero, suc, true, if◌then◌else◌, Bool, false, ◌&&◌, List, [], ◌∷◌, bytes_eq, Option, Some, None, Ok, refl, sym, ap, ◌∙◌, subst}
+use Rattle.std.proofs.Common.{◌≡◌, ℕ, zero, suc, true, if◌then◌else◌, Bool, false, ◌&&◌, List, [], ◌∷◌, ◌++◌, reverse, bytes_eq, Option, Some, None, Ok, refl, sym, ap, ◌∙◌, subst}
 use Rattle.std.specs.List.{list_all}
+use Rattle.std.proofs.lemmas.List.{append_assoc, reverse-append}
 use Rattle.fc_syntax.specs.declared.ty.Name.{Name}
 use Rattle.fc_syntax.specs.Tokens.{is_module_part}
 use Rattle.fc_syntax.specs.Tree.{Word, Module, ModuleOf}
 use Rattle.fc_model.specs.Canonical.{IsBuilt, IsFormed, is_decl_built, is_decl_formed, is_empty_list, is_word}
-use Rattle.fc_model.specs.Erasure.{Scope, arg_sorts, below_value, erased, erased_args, no_scope, sort_of, sort_of_type}
+use Rattle.fc_model.specs.Erasure.{Scope, arg_sorts, below_all, below_value, binder_sorts, erased, erased_alts, erased_args, no_scope, sort_of, sort_of_type}
 use Rattle.fc_model.specs.Faulting.{within, and_then}
 use Rattle.fc_model.specs.Kinding.{decls_at}
 use Rattle.fc_model.specs.Linting.{Done, Lints, done, def_types_judged, exports_judged, lint_or_fault, right_side_judged, rights_judged, type_decls_judged}
-use Rattle.fc_model.specs.Nameless.{NTy, NExpr, NArgs, NDecl, NData, NNew, NFamily, NAxiom, NDef, NWrap, NModule, NModuleOf}
+use Rattle.fc_model.specs.Nameless.{NTy, NBinder, NExpr, NArgs, NAlts, NDecl, NData, NNew, NFamily, NAxiom, NDef, NWrap, NModule, NModuleOf}
 use Rattle.fc_model.specs.Programs.{program_of, right_side}
 use Rattle.fc_model.specs.Resolution.{Resolves, no_words, resolved_decls, top_of}
-use Rattle.fc_model.specs.Terms.{Sort, Lifted, Unlifted, Term, Var, IsSorted, AreSorted, IsAtom, HasSorts, sort_at, upr}
-use Rattle.fc_model.specs.Typing.{Context, Given, local_value, no_context, type_or_fault, with_value}
+use Rattle.fc_model.specs.Terms.{Sort, Lifted, Unlifted, Term, Var, IsSorted, AreSorted, AltsAreSorted, IsAtom, HasSorts, enters, head_sorts, sort_at, upr}
+use Rattle.fc_model.specs.Typing.{Context, Given, Before, binder_types, local_value, no_context, type_or_fault, with_binders, with_value}
+use Rattle.fc_model.specs.Typing.{BindersAreKinded, no_binders, value_binder, AltsFit, no_alts, default_alt, literal_alt, con_alt}
 use Rattle.fc_model.specs.Typing.{HasType, typed_local, typed_declared, typed_literal, typed_application, typed_lambda, typed_let, typed_case, typed_con, ArgsAreGiven, no_args, one_arg, no_binds, one_bind}
 use Rattle.fc_model.proofs.Parts.{and_then_inv, err_ok, ok_ok, part}
 use Rattle.fc_model.proofs.Resolved.{within_inv}
@@ -22,7 +24,7 @@ use Rattle.fc_model.proofs.Sameness.{and_inv}
 use Rattle.fc_model.proofs.TypedIs.{given_type_is}
 use Rattle.fc_meaning.specs.Laws.{Agrees}
 use Rattle.fc_meaning.proofs.ArgSorts.{sort_is}
-use Rattle.fc_meaning.proofs.BuiltExpressions.{AreBuiltArgs, AreBuiltDecls, IsBuiltExpr, decls_built}
+use Rattle.fc_meaning.proofs.BuiltExpressions.{AreBuiltAlts, AreBuiltArgs, AreBuiltDecls, IsBuiltExpr, decls_built}
 use Rattle.fc_meaning.proofs.Optional.{some_is, none_some}
 
 -- EXPRESSIONS
@@ -41,6 +43,20 @@ fits_below : (c : Context) (s : Scope) (g : List Sort) (t : NTy) → Fits c s g 
 unfolding sort_at upr
 fits_below c s g t fits zero u p = (ap sort_of_type (ok_ok p), ap (λ x. Some (sort_of_type x)) (ok_ok p))
 fits_below c s g t fits (suc i) u p = fits i u p
+
+-- the last binder is the innermost
+last_innermost : (t : NTy) (ts outer : List NTy) → reverse (t ∷ ts) ++ outer ≡ reverse ts ++ (t ∷ outer)
+last_innermost t ts outer = ap (λ us. us ++ outer) (reverse-append (t ∷ []) ts) ∙ append_assoc (reverse ts) (t ∷ []) outer
+
+-- below the binders of an alternative
+fits_binders : {ms : List NModule} {k : Context} {bs : List NBinder} → BindersAreKinded ms k bs → (c : Context) (s : Scope) (g : List Sort) → Fits c s g
+    → Fits (with_binders bs c) (below_all bs s) (enters (binder_sorts bs) g)
+unfolding enters
+fits_binders no_binders c s g fits = fits
+fits_binders (value_binder {t = t} {bs = bs} k h rest) c s g fits =
+    let o = sort_of_type t in
+    let below = fits_binders rest (with_value t c) (below_value o s) (o ∷ g) (fits_below c s g t fits) in
+    subst (λ vs. Fits (record c { values = vs }) (below_all bs (below_value o s)) (enters (binder_sorts bs) (o ∷ g))) (sym (last_innermost t (binder_types bs) c.values)) below
 
 -- a variable is an atom at the sort of its binder
 variable_is_atom : (g : List Sort) (o : Sort) (n : ℕ) → sort_at g n ≡ Some o → IsAtom g o (Var n)
@@ -61,6 +77,8 @@ is_placed s g fits (typed_con k gs is args l t a) = tt
 
 module _ (m : NModule) (lint : lint_or_fault m ≡ Ok done) where
   mutual
+    unfolding enters head_sorts
+
     expr_sorted : {c : Context} {e : NExpr} {t : NTy} (s : Scope) (g : List Sort) → Fits c s g → HasType (m ∷ []) c e t → IsBuiltExpr e → IsSorted g (erased s e)
     expr_sorted s g fits (typed_local {i = i} {t = t} p) b = (sort_of_type t, (fits i t p).1)
     expr_sorted s g fits (typed_declared p) b = tt
@@ -74,7 +92,8 @@ module _ (m : NModule) (lint : lint_or_fault m ≡ Ok done) where
     expr_sorted s g fits (typed_let {r = false} no_binds e) b = absurd b.0
     expr_sorted s g fits (typed_let {r = false} (one_bind k kind v right atom (one_bind k' kind' v' right' atom' rest)) e) b = absurd b.0
     expr_sorted s g fits (typed_let {r = true} bs e) b = absurd b
-    expr_sorted s g fits (typed_case j k e t r alts v) b = absurd b
+    expr_sorted {c = c} s g fits (typed_case {s = xt} j k e t r alts v) b =
+        (expr_sorted s g fits e b.0, alts_sorted (below_value (sort_of_type xt) s) (sort_of_type xt ∷ g) (fits_below c s g xt fits) alts b.1)
     expr_sorted s g fits (typed_con k gs is args l t a) b = args_sorted s g fits args b
 
     args_sorted : {c : Context} {args : NArgs} {gs : List Given} (s : Scope) (g : List Sort) → Fits c s g → ArgsAreGiven (m ∷ []) c args gs → AreBuiltArgs args
@@ -82,6 +101,18 @@ module _ (m : NModule) (lint : lint_or_fault m ≡ Ok done) where
     args_sorted s g fits no_args b = (tt, tt)
     args_sorted s g fits (one_arg a rest) b =
         let others = args_sorted s g fits rest b.1 in ((expr_sorted s g fits a b.0, others.0), (is_placed s g fits a, others.1))
+
+    alts_sorted : {c : Context} {t rt : NTy} {b : Before} {alts : NAlts} (s : Scope) (g : List Sort) → Fits c s g → AltsFit (m ∷ []) c t rt b alts → AreBuiltAlts alts
+        → AltsAreSorted g (erased_alts s alts)
+    alts_sorted s g fits no_alts b = tt
+    alts_sorted {c = c} s g fits (default_alt {bs = bs} {e = e} kinded typed goes rest) b =
+        let body = expr_sorted (below_all bs s) (enters (binder_sorts bs) g) (fits_binders kinded c s g fits) typed b.1 in
+        (subst (λ x. IsSorted (enters x g) (erased (below_all bs s) e)) (ap binder_sorts b.0) body, alts_sorted s g fits rest b.2)
+    alts_sorted {c = c} s g fits (literal_alt {bs = bs} {e = e} kinded typed int goes rest) b =
+        let body = expr_sorted (below_all bs s) (enters (binder_sorts bs) g) (fits_binders kinded c s g fits) typed b.1 in
+        (subst (λ x. IsSorted (enters x g) (erased (below_all bs s) e)) (ap binder_sorts b.0) body, alts_sorted s g fits rest b.2)
+    alts_sorted {c = c} s g fits (con_alt {bs = bs} k kinded typed is data_type goes takes rest) b =
+        (expr_sorted (below_all bs s) (enters (binder_sorts bs) g) (fits_binders kinded c s g fits) typed b.1, alts_sorted s g fits rest b.2)
 
 -- DEFINITIONS
 

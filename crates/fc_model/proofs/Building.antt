@@ -2,10 +2,11 @@
 use Rattle.std.proofs.Common.{◌≡◌, ◌∙◌, ◌+◌, ◌<◌, ℕ, ◌++◌, List, [], ◌∷◌, drop, get_or, length, map, Result, Ok, Err, refl, sym, ap}
 use Rattle.std.proofs.lemmas.List.{drop_more}
 use Rattle.fc_model.specs.Faulting.{F}
-use Rattle.fc_model.specs.Nameless.{NArgs, NoNArgs, MoreNArgs}
-use Rattle.fc_model.specs.NamelessView.{narg_of, nargs_of}
-use Rattle.fc_model.specs.Resolution.{then_item, then_arg}
-use Rattle.fc_model.specs.Building.{with_items, nargs_before, with_args}
+use Rattle.fc_model.specs.Nameless.{NAlts, NoNAlts, MoreNAlts, NArgs, NoNArgs, MoreNArgs}
+use Rattle.fc_model.specs.NamelessView.{nalt_of, nalts_of, narg_of, nargs_of}
+use Rattle.fc_model.specs.Resolution.{then_item, then_arg, then_alt}
+use Rattle.fc_model.specs.Building.{with_items, nalts_before, nargs_before, with_alts, with_args}
+use Rattle.fc_model.specs.declared.nameless.NAlt as B
 use Rattle.fc_model.specs.declared.nameless.NArg as A
 
 -- what is left of a list begins with the item that is reached
@@ -64,4 +65,30 @@ pub with_args_err : (items : List A.NArg) (f : F) → with_args items (Err f) �
 unfolding with_args
 with_args_err items f = refl
 
-pub ruleset building_rules = (with_items_more, with_items_end, with_items_none, with_items_err, with_args_more, with_args_end, with_args_none, with_args_err)
+append_alt : (items : List B.NAlt) (a : B.NAlt) (rest : NAlts) → nalts_before items (MoreNAlts (nalt_of a) rest) ≡ nalts_before (items ++ a ∷ []) rest
+append_alt [] a rest = refl
+append_alt (b ∷ items) a rest = ap (λ xs. MoreNAlts (nalt_of b) xs) (append_alt items a rest)
+
+append_no_alts : (items : List B.NAlt) → nalts_before items NoNAlts ≡ nalts_of items
+append_no_alts [] = refl
+append_no_alts (b ∷ items) = ap (λ xs. MoreNAlts (nalt_of b) xs) (append_no_alts items)
+
+pub with_alts_more : (items : List B.NAlt) (a : B.NAlt) (r : Result NAlts F) → with_alts items (then_alt (nalt_of a) r) ≡ with_alts (items ++ a ∷ []) r
+unfolding with_alts
+with_alts_more items a (Ok rest) = ap (λ x. Ok x) (append_alt items a rest)
+with_alts_more items a (Err f) = refl
+
+pub with_alts_end : (items : List B.NAlt) → with_alts items (Ok NoNAlts) ≡ Ok (nalts_of items)
+unfolding with_alts
+with_alts_end items = ap (λ x. Ok x) (append_no_alts items)
+
+pub with_alts_none : (r : Result NAlts F) → with_alts [] r ≡ r
+unfolding with_alts
+with_alts_none (Ok rest) = refl
+with_alts_none (Err f) = refl
+
+pub with_alts_err : (items : List B.NAlt) (f : F) → with_alts items (Err f) ≡ Err f
+unfolding with_alts
+with_alts_err items f = refl
+
+pub ruleset building_rules = (with_alts_more, with_alts_end, with_alts_none, with_alts_err, with_items_more, with_items_end, with_items_none, with_items_err, with_args_more, with_args_end, with_args_none, with_args_err)

@@ -1,4 +1,5 @@
 pub mod Behind
+pub mod Binders
 pub mod Building
 pub mod Constructors
 pub mod Declarations

@@ -1,7 +1,8 @@
 -- Resolution below the binders of values.
 use Rattle.std.proofs.Common.{◌≡◌, List, [], ◌∷◌, length, slice_get, Some, Ok, false, refl, arith}
-use Rattle.fc_syntax.specs.Tree.{Word, Ty, BValue, Bound, NoBinds, MoreBinds, Expr, ELam, ELet}
+use Rattle.fc_syntax.specs.Tree.{Word, Ty, BValue, Bound, NoBinds, MoreBinds, Alts, Expr, ECase, ELam, ELet}
 use Rattle.fc_syntax.specs.declared.expr.Bind as B
+use Rattle.fc_model.specs.Building.{case_resolved}
 use Rattle.fc_model.specs.Faulting.{under}
 use Rattle.fc_model.specs.Nameless.{NTy, NBind, NBValue, NExpr, NLam, NLet, NoNBinds, MoreNBinds}
 use Rattle.fc_model.specs.Resolution.{Top, resolved_bind, resolved_expr, resolved_ty}
@@ -38,3 +39,7 @@ body_refused top ws x t d e c (OfFlaw f) bind h = rw (bind, h) refl
 
 pub some_same : {x y : B.Bind} → Some x ≡ Some y → x ≡ y
 some_same h = cc
+
+pub case_behind : (top : Top) (ws : List Word) (e : Expr) (x : Word) (t u : Ty) (alts : Alts) (f : NExpr) → under 0 (resolved_expr top (scope_of ws) e) ≡ Ok f
+    → resolved_expr top (scope_of ws) (ECase e x t u alts) ≡ case_resolved top (scope_of ws) f x t u alts
+case_behind top ws e x t u alts f scrutinee = rw scrutinee refl

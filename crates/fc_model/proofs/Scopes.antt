@@ -1,7 +1,7 @@
 -- Scopes that are entered and left, and words that are found in them from the inside out.
-use Rattle.std.proofs.Common.{◌≡◌, ℕ, ◌+◌, ◌-◌, ◌<◌, ◌≤◌, true, false, bytes_eq, if◌then◌else◌, List, [], ◌∷◌, ◌++◌, length, reverse, take, get_or, refl, sym, ap, ◌∙◌, arith}
-use Rattle.std.proofs.lemmas.List.{reverse-append, take_more}
-use Rattle.std.proofs.Math.Seq.{take-length}
+use Rattle.std.proofs.Common.{◌≡◌, ℕ, zero, suc, ◌+◌, ◌-◌, ◌<◌, ◌≤◌, true, false, bytes_eq, if◌then◌else◌, List, [], ◌∷◌, ◌++◌, length, reverse, take, drop, get_or, refl, sym, ap, ◌∙◌, arith}
+use Rattle.std.proofs.lemmas.List.{drop_all, length-drop, length-reverse, reverse-append, take-append-drop, take_more}
+use Rattle.std.proofs.Math.Seq.{drop-append_seam, take-length}
 use Rattle.fc_syntax.specs.Tree.{Word}
 use Rattle.fc_model.specs.Resolution.{Found, IsValue, IsJoin, Nowhere, found_term, past_value}
 use Rattle.fc_model.specs.Scopes.{further, values}
@@ -61,3 +61,14 @@ goes_on items w x o d some all is differs so_far = (
 
 pub is_nowhere : (items : List Word) (w : Word) (o d : ℕ) → o ≡ 0 → found_outside items w ≡ further d (found_outside (take o items) w) → found_outside items w ≡ Nowhere
 is_nowhere items w o d none so_far = so_far ∙ ap (λ n. further d (found_outside (take n items) w)) none ∙ none_outside w d
+
+-- the outermost words, without the n innermost
+pub outermost : (items : List Word) (n m : ℕ) → m ≡ length items - n → reverse (take m items) ≡ drop n (reverse items)
+outermost items n zero is = sym (drop_all n (reverse items) (omega (arith, is, length-reverse items)))
+outermost items n (suc k) is =
+    let inner = reverse (drop (suc k) items) in
+    let outer = reverse (take (suc k) items) in
+    let size : length inner ≡ n = length-reverse (drop (suc k) items) ∙ length-drop (suc k) items ∙ omega (arith, is) in
+    sym (drop-append_seam inner outer)
+    ∙ ap (λ j. drop j (inner ++ outer)) size
+    ∙ ap (drop n) (sym (reverse-append (take (suc k) items) (drop (suc k) items)) ∙ ap reverse (take-append-drop (suc k) items))

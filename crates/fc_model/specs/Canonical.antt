@@ -5,6 +5,9 @@ use Rattle.std.specs.Fmt.{signed_decimal}
 use Rattle.fc_syntax.specs.declared.ty.Name.{Name}
 use Rattle.fc_syntax.specs.Tree.{Word, Ty, TVar, TCon, TInt, TApp, TFun, TForall, TCoForall}
 use Rattle.fc_syntax.specs.Tree.{Expr, EVar, ELit, EApp, ELam, ELet, ECase, ECast, ECon, EPrim, EFail, EJoin, EJump, Arg, ATerm, AType, ACo, Args, NoArgs, MoreArgs}
+use Rattle.fc_syntax.specs.declared.expr.Head.{Head}
+use Rattle.fc_syntax.specs.declared.expr.Head.TheVariants as head
+use Rattle.fc_syntax.specs.Tree.{Alt, Branch, Alts, NoAlts, MoreAlts}
 use Rattle.fc_syntax.specs.Tree.{Binder, BValue, BType, BCo, Bound, Binds, NoBinds, MoreBinds, ConDecl, ConOf, Decl, DData, DNew, DFamily, DAxiom, DDef, DWrap, Module, ModuleOf}
 use Rattle.fc_syntax.specs.Tokens.{is_lower_name, is_module_part, is_plain_name, is_upper_name}
 use Rattle.fc_model.specs.Words.{keyword_of}
@@ -79,6 +82,22 @@ binder_text (BValue x t) = codes "(" ++ (x ++ (32 ∷ (type_text t ++ codes ")")
 binder_text (BType a k) = []
 binder_text (BCo c r t u) = []
 
+-- one space before each binder
+abbrev pub more_binders_text : List Binder → List ℕ
+more_binders_text [] = []
+more_binders_text (b ∷ bs) = 32 ∷ (binder_text b ++ more_binders_text bs)
+
+-- one space between binders
+abbrev pub binders_text : List Binder → List ℕ
+binders_text [] = []
+binders_text (b ∷ bs) = binder_text b ++ more_binders_text bs
+
+-- what an alternative is for, with the binders of a constructor
+abbrev pub head_text : Head → List Binder → List ℕ
+head_text head.Default bs = codes "default"
+head_text (head.Lit n) bs = literal_text n
+head_text (head.Con n) bs = name_text n ++ (codes " (" ++ (binders_text bs ++ codes ")"))
+
 abbrev mutual
   pub expr_at : Expr → Place → List ℕ
   expr_at (EVar n) at = placed at (name_text n)
@@ -88,7 +107,8 @@ abbrev mutual
   expr_at (ELam b e) Body = 32 ∷ (binder_text b ++ expr_at e Body)
   expr_at (ELam b e) at = placed at (codes "(lam (" ++ (binder_text b ++ expr_at e Body))
   expr_at (ELet r bs e) at = placed at (codes "(let " ++ (binds_text bs ++ (32 ∷ (expr_at e Alone ++ codes ")"))))
-  expr_at (ECase e x t u alts) at = []
+  expr_at (ECase e x t u alts) at =
+      placed at (codes "(case " ++ (expr_at e Alone ++ (codes " (" ++ (x ++ (32 ∷ (type_text t ++ (codes ") " ++ (type_text u ++ (alts_text alts ++ codes ")")))))))))
   expr_at (ECast e g) at = []
   expr_at (ECon n args) at = placed at (codes "(con " ++ (name_text n ++ (args_text args ++ codes ")")))
   expr_at (EPrim op es) at = []
@@ -109,6 +129,14 @@ abbrev mutual
   pub binds_text : Binds → List ℕ
   binds_text NoBinds = []
   binds_text (MoreBinds (Bound x t e) rest) = codes "(" ++ (x ++ (32 ∷ (type_text t ++ (32 ∷ (expr_at e Alone ++ (codes ")" ++ binds_text rest))))))
+
+  pub alt_text : Alt → List ℕ
+  alt_text (Branch h bs e) = codes "(" ++ (head_text h bs ++ (32 ∷ (expr_at e Alone ++ codes ")")))
+
+  -- one space before each alternative
+  pub alts_text : Alts → List ℕ
+  alts_text NoAlts = []
+  alts_text (MoreAlts a rest) = 32 ∷ (alt_text a ++ alts_text rest)
 
 abbrev pub expr_text : Expr → List ℕ
 expr_text e = expr_at e Alone
@@ -191,6 +219,11 @@ is_binder_formed (BValue x t) = is_lower_word x && is_type_formed t
 is_binder_formed (BType a k) = false
 is_binder_formed (BCo c r t u) = false
 
+abbrev pub is_head_formed : Head → Bool
+is_head_formed head.Default = true
+is_head_formed (head.Lit n) = is_literal_formed n
+is_head_formed (head.Con n) = is_upper_word n.text
+
 abbrev mutual
   pub is_expr_formed : Expr → Bool
   is_expr_formed (EVar n) = is_lower_word n.text
@@ -198,7 +231,7 @@ abbrev mutual
   is_expr_formed (EApp f a) = is_expr_formed f && is_arg_formed a
   is_expr_formed (ELam b e) = is_binder_formed b && is_expr_formed e
   is_expr_formed (ELet r bs e) = are_binds_formed bs && is_expr_formed e
-  is_expr_formed (ECase e x t u alts) = false
+  is_expr_formed (ECase e x t u alts) = is_expr_formed e && ((is_lower_word x && (is_type_formed t && is_type_formed u)) && are_alts_formed alts)
   is_expr_formed (ECast e g) = false
   is_expr_formed (ECon n args) = is_upper_word n.text && are_args_formed args
   is_expr_formed (EPrim op es) = false
@@ -218,6 +251,13 @@ abbrev mutual
   pub are_binds_formed : Binds → Bool
   are_binds_formed NoBinds = true
   are_binds_formed (MoreBinds (Bound x t e) rest) = (is_lower_word x && (is_type_formed t && is_expr_formed e)) && are_binds_formed rest
+
+  pub is_alt_formed : Alt → Bool
+  is_alt_formed (Branch h bs e) = (is_head_formed h && list_all is_binder_formed bs) && is_expr_formed e
+
+  pub are_alts_formed : Alts → Bool
+  are_alts_formed NoAlts = true
+  are_alts_formed (MoreAlts a rest) = is_alt_formed a && are_alts_formed rest
 
 abbrev pub is_con_formed : ConDecl → Bool
 is_con_formed (ConOf n bs fields) = is_upper_word n && list_all is_type_formed fields
@@ -257,6 +297,16 @@ is_binder_built (BValue x t) = is_type_built t
 is_binder_built (BType a k) = false
 is_binder_built (BCo c r t u) = false
 
+abbrev pub is_empty_list : {X : Type 0} → List X → Bool
+is_empty_list [] = true
+is_empty_list (x ∷ xs) = false
+
+-- only a constructor has binders
+abbrev pub is_head_built : Head → List Binder → Bool
+is_head_built head.Default bs = is_empty_list bs
+is_head_built (head.Lit n) bs = is_empty_list bs
+is_head_built (head.Con n) bs = is_name_built n && list_all is_binder_built bs
+
 abbrev mutual
   pub is_expr_built : Expr → Bool
   is_expr_built (EVar n) = is_name_built n
@@ -265,7 +315,7 @@ abbrev mutual
   is_expr_built (ELam b e) = is_binder_built b && is_expr_built e
   is_expr_built (ELet true bs e) = false
   is_expr_built (ELet false bs e) = is_bind_built bs && is_expr_built e
-  is_expr_built (ECase e x t u alts) = false
+  is_expr_built (ECase e x t u alts) = is_expr_built e && ((is_type_built t && is_type_built u) && are_alts_built alts)
   is_expr_built (ECast e g) = false
   is_expr_built (ECon n args) = is_name_built n && are_args_built args
   is_expr_built (EPrim op es) = false
@@ -288,9 +338,12 @@ abbrev mutual
   is_bind_built (MoreBinds (Bound x t e) NoBinds) = is_type_built t && is_expr_built e
   is_bind_built (MoreBinds (Bound x t e) (MoreBinds b rest)) = false
 
-abbrev pub is_empty_list : {X : Type 0} → List X → Bool
-is_empty_list [] = true
-is_empty_list (x ∷ xs) = false
+  pub is_alt_built : Alt → Bool
+  is_alt_built (Branch h bs e) = is_head_built h bs && is_expr_built e
+
+  pub are_alts_built : Alts → Bool
+  are_alts_built NoAlts = true
+  are_alts_built (MoreAlts a rest) = is_alt_built a && are_alts_built rest
 
 abbrev pub is_con_built : ConDecl → Bool
 is_con_built (ConOf n bs fields) = is_empty_list bs && list_all is_type_built fields

@@ -3,7 +3,9 @@
 -- flattened spellings give one tree. White space, comments and leading zeros are not seen here.
 use Rattle.std.specs.Prelude.{◌≡◌, ℕ, ℤ, true, false, List, [], ◌∷◌, map, None, Ok}
 use Rattle.fc_syntax.specs.declared.ty.Name.{Name}
-use Rattle.fc_syntax.specs.Tree.{Word, Ty, TCon, TInt, TFun, ConDecl, ConOf, Binder, BValue, Bound, NoBinds, MoreBinds, Expr, EVar, ELit, EApp, ELam, ELet, ECon, ATerm, Args, NoArgs, MoreArgs}
+use Rattle.fc_syntax.specs.declared.expr.Head.TheVariants as head
+use Rattle.fc_syntax.specs.Tree.{Word, Ty, TCon, TInt, TFun, ConDecl, ConOf, Binder, BValue, Bound, NoBinds, MoreBinds, Expr, EVar, ELit, EApp, ELam, ELet, ECase, ECon, ATerm, Args, NoArgs, MoreArgs}
+use Rattle.fc_syntax.specs.Tree.{Alt, Branch, Alts, NoAlts, MoreAlts}
 use Rattle.fc_syntax.specs.Tree.{Decl, DData, DDef, Module, ModuleOf}
 use Rattle.fc_syntax.specs.Tokens.{Lexeme, is_module_part, tokens_of}
 use Rattle.fc_model.specs.declared.keyword.Keyword.TheVariants as word
@@ -66,7 +68,7 @@ lambdas [] e = e
 lambdas (b ∷ bs) e = ELam b (lambdas bs e)
 
 mutual
-  -- expr ::= x | n# | (con K expr*) | (app expr expr+) | (lam ((x type)+) expr) | (let (x type expr) expr)
+  -- expr ::= x | n# | (con K expr*) | (app expr expr+) | (lam ((x type)+) expr) | (let (x type expr) expr) | (case expr (x type) type alt*)
   pub data ExprAt : List Tok → Expr → List Tok → Type 0 where
     expr_var : {rest : List Tok} {w : Word} → ExprAt (Lower w ∷ rest) (EVar (plain_name w)) rest
     expr_lit : {rest : List Tok} {n : ℤ} → ExprAt (Literal n ∷ rest) (ELit n) rest
@@ -77,11 +79,25 @@ mutual
         → ExprAt (Open ∷ Key word.Lam ∷ Open ∷ ts) (ELam b (lambdas bs e)) rest
     expr_let : {ts us vs rest : List Tok} {x : Word} {t : Ty} {d e : Expr} → TypeAt ts t us → ExprAt us d (Close ∷ vs) → ExprAt vs e (Close ∷ rest)
         → ExprAt (Open ∷ Key word.Let ∷ Open ∷ Lower x ∷ ts) (ELet false (MoreBinds (Bound x t d) NoBinds) e) rest
+    expr_case : {ts us vs ws rest : List Tok} {e : Expr} {x : Word} {t u : Ty} {alts : Alts} → ExprAt ts e (Open ∷ Lower x ∷ us) → TypeAt us t (Close ∷ vs)
+        → TypeAt vs u ws → AltsAt ws alts rest → ExprAt (Open ∷ Key word.Case ∷ ts) (ECase e x t u alts) rest
 
   -- expr* )
   pub data ArgsAt : List Tok → Args → List Tok → Type 0 where
     args_end : {rest : List Tok} → ArgsAt (Close ∷ rest) NoArgs rest
     args_more : {ts us rest : List Tok} {e : Expr} {args : Args} → ExprAt ts e us → ArgsAt us args rest → ArgsAt ts (MoreArgs (ATerm e) args) rest
+
+  -- alt ::= (default expr) | (n# expr) | (K ((x type)*) expr)
+  pub data AltAt : List Tok → Alt → List Tok → Type 0 where
+    alt_default : {ts rest : List Tok} {e : Expr} → ExprAt ts e (Close ∷ rest) → AltAt (Open ∷ Key word.Default ∷ ts) (Branch head.Default [] e) rest
+    alt_literal : {ts rest : List Tok} {n : ℤ} {e : Expr} → ExprAt ts e (Close ∷ rest) → AltAt (Open ∷ Literal n ∷ ts) (Branch (head.Lit n) [] e) rest
+    alt_con : {ts us rest : List Tok} {k : Word} {bs : List Binder} {e : Expr} → BindersAt ts bs us → ExprAt us e (Close ∷ rest)
+        → AltAt (Open ∷ Upper k ∷ Open ∷ ts) (Branch (head.Con (plain_name k)) bs e) rest
+
+  -- alt* )
+  pub data AltsAt : List Tok → Alts → List Tok → Type 0 where
+    alts_end : {rest : List Tok} → AltsAt (Close ∷ rest) NoAlts rest
+    alts_more : {ts us rest : List Tok} {a : Alt} {alts : Alts} → AltAt ts a us → AltsAt us alts rest → AltsAt ts (MoreAlts a alts) rest
 
 -- decl ::= (data T () (K () type*)*) | (def x type expr)
 pub data DeclAt : List Tok → Decl → List Tok → Type 0 where

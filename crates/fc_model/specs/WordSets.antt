@@ -15,6 +15,10 @@ set_of s w = contains_text s.words w
 unfoldable pub words_by_space : Spaces → words.Words
 words_by_space s = record { types = set_of s.types; terms = set_of s.terms; coercions = set_of s.coercions }
 
+-- words of terms, and none of the other spaces
+abbrev pub terms_alone : words.WordSet → words.Words
+terms_alone s = record words.no_words { terms = s }
+
 abbrev pub top_by : Declared → words.Top
 top_by d = record {
   own = d.own;

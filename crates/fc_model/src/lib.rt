@@ -1,6 +1,7 @@
 //! The definitions of the project: the grammar, the canonical text, names, typing and meaning, over the pure trees.
 #![tactic(auto)]
 
+mod alternatives;
 mod declared;
 mod flaw;
 mod header;
@@ -22,6 +23,3 @@ pub use nameless::{
 };
 pub use resolving::resolve;
 pub use word_set::WordSet;
-
-#[cfg(test)]
-mod tests;

@@ -3,22 +3,24 @@
 ghost use Rattle.std.specs.Prelude.{◌≡◌, ◌+◌, ◌∷◌, [], not, Ok, OnOk, IfOk};
 ghost use Rattle.fc_syntax.specs.declared.fault.FaultKind.TheVariants.{Duplicate};
 ghost use Rattle.fc_syntax.specs.Tree.{DData, DDef, ELam};
-ghost use Rattle.fc_syntax.specs.View.{bind_of, binder_of, ty_of, tys_of, expr_of, arg_of, args_of, con_of, cons_of, decl_of, decls_of, module_of};
+ghost use Rattle.fc_syntax.specs.View.{alt_of, alts_of, bind_of, binder_of, ty_of, tys_of, expr_of, arg_of, args_of, con_of, cons_of, decl_of, decls_of, module_of};
+ghost use Rattle.fc_model.specs.Building.{case_resolved};
 ghost use Rattle.fc_model.specs.Faulting.{and_then, need, under, within};
 ghost use Rattle.fc_model.specs.Nameless.{NModuleOf};
-ghost use Rattle.fc_model.specs.NamelessView.{nbind_of, nty_of, ntys_of, nexpr_of, narg_of, nargs_of, ncon_of, ncons_of, ndecl_of, ndecls_of, nmodule_of};
-ghost use Rattle.fc_model.specs.Resolution.{behind, con_words, no_locals, no_words, plus_all, declared_name, resolved_ty as ty_resolved, resolved_tys as tys_resolved, resolved_var, resolved_expr as expr_resolved, resolved_arg as arg_resolved, resolved_bind as bind_resolved, resolved_args as args_resolved, resolved_con as con_resolved, resolved_cons as cons_resolved, resolved_decl as decl_resolved, resolved_decls as decls_resolved, resolved_or_fault, decl_word};
+ghost use Rattle.fc_model.specs.NamelessView.{nalt_of, nalts_of, nbind_of, nty_of, ntys_of, nexpr_of, narg_of, nargs_of, ncon_of, ncons_of, ndecl_of, ndecls_of, nmodule_of};
+ghost use Rattle.fc_model.specs.Resolution.{behind, con_words, no_locals, no_words, plus_all, declared_name, resolved_ty as ty_resolved, resolved_tys as tys_resolved, resolved_var, resolved_expr as expr_resolved, resolved_arg as arg_resolved, resolved_bind as bind_resolved, resolved_args as args_resolved, resolved_alt as alt_resolved, resolved_alts as alts_resolved, resolved_con as con_resolved, resolved_cons as cons_resolved, resolved_decl as decl_resolved, resolved_decls as decls_resolved, resolved_or_fault, decl_word};
 ghost use Rattle.fc_model.specs.Says.{Says};
 ghost use Rattle.fc_model.specs.Scopes.{LocalIs, scope_of, words_in};
 ghost use Rattle.fc_model.specs.WordSets.{set_of, top_by, words_by_space};
 
+use crate::alternatives::{entered_binders, resolved_head};
 use crate::declared::{Declared, Spaces};
 use crate::flaw::{Flawed, deeper, flaw_here, in_declaration, next_part};
-use crate::nameless::{NArg, NBind, NBinder, NConDecl, NDecl, NExpr, NModule, NTy};
+use crate::nameless::{NAlt, NArg, NBind, NBinder, NConDecl, NDecl, NExpr, NModule, NTy};
 use crate::scope::Scope;
 use crate::word_set::WordSet;
 use fc_syntax::{
-    Arg, Bind, Binder, ConDecl, Decl, Expr, FaultKind, Memory, Module, Name, Seq, Text, Ty,
+    Alt, Arg, Bind, Binder, ConDecl, Decl, Expr, FaultKind, Memory, Module, Name, Seq, Text, Ty,
 };
 use std::alloc::Global;
 
@@ -34,8 +36,8 @@ fn copied(alloc: Global, words: &[Text]) -> Result<Seq<Text>, Memory>
 
 // NAMES
 
-/// The name of what a word of these declares, here or in a module that is imported.
-fn declared(alloc: Global, top: &Declared, words: &WordSet, name: &Name) -> Result<Name, Flawed>
+/// The name of what a word of these declares, here or in a module that is imported. Another word is `Unbound`.
+pub fn declared(alloc: Global, top: &Declared, words: &WordSet, name: &Name) -> Result<Name, Flawed>
     ensures { Says (λ n. n) result (declared_name (top_by top.now) (set_of words.now) name.now.module name.now.text) }
 {
     match &name.module {
@@ -93,8 +95,9 @@ fn resolved_ty(alloc: Global, top: &Declared, t: &Ty) -> Result<NTy, Flawed>
     }
 }
 
+/// A type that is the part of this number.
 #[cycle(types)]
-fn ty_part(alloc: Global, top: &Declared, t: &Ty, part: u32) -> Result<NTy, Flawed>
+pub fn ty_part(alloc: Global, top: &Declared, t: &Ty, part: u32) -> Result<NTy, Flawed>
     ensures { Says nty_of result (under part (ty_resolved (top_by top.now) [] (ty_of t.now))) }
 {
     match resolved_ty(alloc, top, t) {
@@ -186,7 +189,10 @@ fn resolved_expr(
             };
             Ok(NExpr::Let(false, only(alloc, bind)?, boxed(alloc, e)?))
         }
-        Expr::Case(_, _, _, _, _) => Err(Flawed::Memory),
+        Expr::Case(e, word, t, u, alts) => {
+            let e = expr_part(alloc, top, scope, e, 0)?;
+            case(alloc, top, scope, alts.as_slice(), word, t, u, e)
+        }
         Expr::Cast(_, _) => Err(Flawed::Memory),
         Expr::Prim(_, _) => Err(Flawed::Memory),
         Expr::Fail(_) => Err(Flawed::Memory),
@@ -346,6 +352,121 @@ fn resolved_args(
         at = next_part(at)?;
     }
     Ok(out)
+}
+
+/// A case behind its scrutinee: the types of the binder and of the answer, and the alternatives, which stand below the binder.
+#[cycle(resolve)]
+#[tactic(auto, using(crate::proofs::NamelessView::nview_rules))]
+fn case(
+    alloc: Global,
+    top: &Declared,
+    scope: &mut Scope,
+    alts: &[Alt],
+    word: &Text,
+    t: &Ty,
+    u: &Ty,
+    scrutinee: NExpr,
+) -> Result<NExpr, Flawed>
+    ensures says { Says nexpr_of result (case_resolved (top_by top.now) (scope_of (words_in scope.old)) (nexpr_of scrutinee) word.now (ty_of t.now) (ty_of u.now) (alts_of alts.now)) }
+    ensures scope { OnOk result (words_in scope.new ≡ words_in scope.old) }
+{
+    let t = ty_part(alloc, top, t, 1)?;
+    let u = ty_part(alloc, top, u, 2)?;
+    let alts = alternatives_below(alloc, top, scope, word, alts)?;
+    let hint = word.copy(alloc)?;
+    Ok(NExpr::Case(boxed(alloc, scrutinee)?, hint, t, u, alts))
+}
+
+/// The alternatives of a case below its binder.
+#[cycle(resolve)]
+fn alternatives_below(
+    alloc: Global,
+    top: &Declared,
+    scope: &mut Scope,
+    word: &Text,
+    alts: &[Alt],
+) -> Result<Seq<NAlt>, Flawed>
+    ensures says { Says nalts_of result (alts_resolved (top_by top.now) (scope_of (word.now ∷ words_in scope.old)) 3 (alts_of alts.now)) }
+    ensures scope { OnOk result (words_in scope.new ≡ words_in scope.old) }
+{
+    scope.enter(alloc, word)?;
+    let alts = alternatives(alloc, top, scope, alts)?;
+    scope.leave();
+    Ok(alts)
+}
+
+/// The alternatives of a case, which are its parts from 3 on.
+#[cycle(resolve)]
+#[tactic(auto, using(crate::proofs::Building::building_rules, std::proofs::lemmas::Grind::common_steps))]
+fn alternatives(
+    alloc: Global,
+    top: &Declared,
+    scope: &mut Scope,
+    alts: &[Alt],
+) -> Result<Seq<NAlt>, Flawed>
+    ensures says { Says nalts_of result (alts_resolved (top_by top.now) (scope_of (words_in scope.old)) 3 (alts_of alts.now)) }
+    ensures scope { OnOk result (words_in scope.new ≡ words_in scope.old) }
+{
+    let mut out = Seq::new(alloc);
+    let mut at = 3u32;
+    for alt in alts {
+        let next = alternative_part(alloc, top, scope, alt, at)?;
+        out.push(next)?;
+        at = next_part(at)?;
+    }
+    Ok(out)
+}
+
+#[cycle(resolve)]
+fn alternative_part(
+    alloc: Global,
+    top: &Declared,
+    scope: &mut Scope,
+    alt: &Alt,
+    part: u32,
+) -> Result<NAlt, Flawed>
+    ensures says { Says nalt_of result (under part (alt_resolved (top_by top.now) (scope_of (words_in scope.old)) (alt_of alt.now))) }
+    ensures scope { OnOk result (words_in scope.new ≡ words_in scope.old) }
+{
+    match alternative(alloc, top, scope, alt) {
+        Ok(n) => Ok(n),
+        Err(flawed) => Err(deeper(flawed, part)),
+    }
+}
+
+/// An alternative: what it is for, its binders, and below them what it answers.
+#[cycle(resolve)]
+fn alternative(alloc: Global, top: &Declared, scope: &mut Scope, alt: &Alt) -> Result<NAlt, Flawed>
+    ensures says { Says nalt_of result (alt_resolved (top_by top.now) (scope_of (words_in scope.old)) (alt_of alt.now)) }
+    ensures scope { OnOk result (words_in scope.new ≡ words_in scope.old) }
+{
+    let head = resolved_head(alloc, top, &alt.head)?;
+    let binders = entered_binders(alloc, top, scope, alt.binders.as_slice())?;
+    let body = expr_behind(alloc, top, scope, alt.binders.len(), &alt.body)?;
+    scope.leave_all(alt.binders.len());
+    Ok(NAlt {
+        head,
+        binders,
+        body,
+    })
+}
+
+/// An expression behind so many other parts.
+#[cycle(resolve)]
+fn expr_behind(
+    alloc: Global,
+    top: &Declared,
+    scope: &mut Scope,
+    parts: usize,
+    e: &Expr,
+) -> Result<NExpr, Flawed>
+    ensures says { Says nexpr_of result (under parts (expr_resolved (top_by top.now) (scope_of (words_in scope.old)) (expr_of e.now))) }
+    ensures scope { OnOk result (words_in scope.new ≡ words_in scope.old) }
+{
+    match u32::try_from(parts) {
+        Ok(part) => expr_part(alloc, top, scope, e, part),
+        Err(_) => Err(Flawed::Memory),
+    }
 }
 
 // DECLARATIONS

@@ -43,6 +43,15 @@ impl Scope {
         let _word = self.words.pop();
     }
 
+    /// Leaves the scopes of so many binders, the innermost first.
+    #[tactic(auto, unfolding(crate::specs::Scopes::words_in))]
+    pub fn leave_all(&mut self, binders: usize)
+        ensures { words_in self.new ≡ drop binders (words_in self.old) }
+    {
+        let outside = self.words.len().saturating_sub(binders);
+        self.words.truncate(outside);
+    }
+
     /// The distance to the innermost binder of a word. Takes no memory.
     #[tactic(auto, unfolding(crate::specs::Scopes::words_in))]
     pub fn distance(&self, word: &Text) -> Option<usize>

@@ -1,23 +1,28 @@
 -- An expression whose nameless form keeps its words is written as it was.
-use Rattle.std.proofs.Common.{◌≡◌, ℕ, ◌+◌, suc, true, false, Bool, ◌&&◌, ◌||◌, List, [], ◌∷◌, ◌++◌, Option, Some, None, Ok, bytes_eq, refl, sym, ap, ◌∙◌, subst, arith}
+use Rattle.std.proofs.Common.{◌≡◌, ℕ, ◌+◌, suc, true, false, Bool, not, ◌&&◌, ◌||◌, List, [], ◌∷◌, ◌++◌, length, Option, Some, None, Ok, bytes_eq, map, refl, sym, ap, ◌∙◌, subst, arith}
 use Rattle.std.specs.Prelude.{ℤ, is_none}
 use Rattle.fc_syntax.specs.declared.ty.Name.{Name}
+use Rattle.fc_syntax.specs.declared.expr.Head.{Head}
+use Rattle.fc_syntax.specs.declared.expr.Head.TheVariants as head
 use Rattle.fc_syntax.specs.declared.fault.FaultKind.TheVariants.{Duplicate}
-use Rattle.fc_syntax.specs.Tree.{Word, Ty, TVar, TCon, TInt, TApp, TFun, TForall, TCoForall, BValue, Arg, ATerm, Args, MoreArgs, Bound, NoBinds, MoreBinds}
-use Rattle.fc_syntax.specs.Tree.{Expr, EVar, ELit, EApp, ELam, ELet, ECon}
+use Rattle.fc_syntax.specs.Tree.{Word, Ty, TVar, TCon, TInt, TApp, TFun, TForall, TCoForall, Binder, BValue, Alt, Branch, Alts, MoreAlts, Arg, ATerm, Args, MoreArgs, Bound, NoBinds, MoreBinds}
+use Rattle.fc_syntax.specs.Tree.{Expr, EVar, ELit, EApp, ELam, ELet, ECase, ECon}
 use Rattle.fc_model.specs.Faulting.{need}
-use Rattle.fc_model.specs.Nameless.{NTy, NTVar, NTCon, NTInt, NTApp, NTFun, NTForall, NTCoForall, NBinder, NBValue, NExpr, NLocal, NVar, NLit, NApp, NLam, NLet, NCon, NArg, NATerm, NArgs, MoreNArgs, NBind, NBound, NBinds, NoNBinds, MoreNBinds}
-use Rattle.fc_model.specs.Resolution.{Found, IsJoin, IsValue, Nowhere, Top, declared_name, found_term, no_word, resolved_arg, resolved_args, resolved_bind, resolved_binder, resolved_binds, resolved_expr, resolved_ty, resolved_var, variable}
+use Rattle.fc_model.specs.Nameless.{NTy, NTVar, NTCon, NTInt, NTApp, NTFun, NTForall, NTCoForall, NBinder, NBValue, NExpr, NLocal, NVar, NLit, NApp, NLam, NLet, NCase, NCon, NAlt, NBranch, NAlts, MoreNAlts, NArg, NATerm, NArgs, MoreNArgs, NBind, NBound, NBinds, NoNBinds, MoreNBinds}
+use Rattle.fc_model.specs.Resolution.{Found, IsJoin, IsValue, Nowhere, Top, WordSet, declared_name, enter_all, found_term, no_word, no_words, plus, resolved_alt, resolved_alts, resolved_binders, resolved_head, resolved_arg, resolved_args, resolved_bind, resolved_binder, resolved_binds, resolved_expr, resolved_ty, resolved_var, variable}
 use Rattle.fc_model.specs.Scopes.{scope_of, values}
-use Rattle.fc_model.proofs.Parts.{and_then_inv, answer, err_ok, ok_ok, part}
-use Rattle.fc_model.proofs.Resolved.{then_arg_inv}
+use Rattle.fc_model.proofs.Parts.{and_then_inv, answer, err_ok, need_inv, ok_ok, part}
+use Rattle.fc_model.proofs.Resolved.{then_arg_inv, then_item_inv}
 use Rattle.fc_model.proofs.Sameness.{name_of}
-use Rattle.fc_naming.specs.Hinted.{HExpr, HVar, HLocal, HArg, HArgs, bare, bare_arg, bare_args}
-use Rattle.fc_naming.specs.Laws.{HasWords, ArgHasWords, ArgsHaveWords, words_local, words_variable, words_literal, words_application, words_lambda, words_let, words_constructor, words_term, words_no_args, words_args}
-use Rattle.fc_naming.specs.Naming.{IsChosen, IsNamed, IsNamedArg, AreNamed, IsNamedTy, arg_uses, args_use, is_word, outside, short, uses, word_beyond}
-use Rattle.fc_naming.specs.Naming.{named_data_type, named_int, named_function, named_local, named_variable, named_literal, named_application, named_lambda, named_let, named_constructor, named_term, named_no_args, named_args}
+use Rattle.fc_naming.specs.Hinted.{HExpr, HVar, HLocal, HArg, HArgs, HBinder, HAlt, HAlts, bare, bare_arg, bare_args, bare_alt, bare_alts, bare_binder}
+use Rattle.fc_naming.specs.Laws.{HasWords, ArgHasWords, ArgsHaveWords, words_local, words_variable, words_literal, words_application, words_lambda, words_let, words_case, words_constructor, words_term, words_no_args, words_args}
+use Rattle.fc_naming.specs.Laws.{BinderHasWord, word_of_value, AltHasWords, AltsHaveWords, words_alternative, words_no_alts, words_alts}
+use Rattle.fc_naming.specs.Naming.{AreEach, each_none, each_more, IsChosen, IsNamed, IsNamedArg, AreNamed, IsNamedTy, IsNamedAlt, IsNamedBelow, AreNamedAlts, alt_uses, alts_use, arg_uses, args_use, below, either, hiding, hiding_in_alts, is_word, outside, short, short_head, uses, word_beyond}
+use Rattle.fc_naming.specs.Naming.{named_data_type, named_int, named_function, named_local, named_variable, named_literal, named_application, named_lambda, named_let, named_case, named_constructor, named_term, named_no_args, named_args}
+use Rattle.fc_naming.specs.Naming.{named_binder, named_alternative, named_below_none, named_below_more, named_no_alts, named_alts}
 use Rattle.fc_naming.proofs.Distances.{around_differs, depth, found_at, nowhere_differs}
 use Rattle.fc_naming.proofs.Shortened.{written_back}
+use Rattle.fc_naming.proofs.Standing.{then_alt_inv, values_only}
 use Rattle.fc_naming.proofs.Unique.{chosen_is_one, is_one}
 
 -- THE PARTS OF WHAT RESOLVES
@@ -30,6 +35,22 @@ pub record LetParts (top : Top) (ws : List Word) (x : Word) (t : Ty) (d e : Expr
   pub type : resolved_ty top [] t ≡ Ok u
   pub right : resolved_expr top (scope_of ws) d ≡ Ok c
   pub body : resolved_expr top (scope_of (x ∷ ws)) e ≡ Ok f
+
+pub record CaseParts (top : Top) (ws : List Word) (e : Expr) (x : Word) (t r : Ty) (alts : Alts) (f : NExpr) (u s : NTy) (us : NAlts) : Type 0 where
+  pub scrutinee : resolved_expr top (scope_of ws) e ≡ Ok f
+  pub type : resolved_ty top [] t ≡ Ok u
+  pub answer_type : resolved_ty top [] r ≡ Ok s
+  pub alts_are : resolved_alts top (scope_of (x ∷ ws)) 3 alts ≡ Ok us
+
+pub record AltParts (top : Top) (ws : List Word) (h : Head) (bs : List Binder) (e : Expr) (k : Head) (cs : List NBinder) (f : NExpr) : Type 0 where
+  pub head_is : resolved_head top h ≡ Ok k
+  pub binders : resolved_binders top (scope_of ws) no_words 0 bs ≡ Ok cs
+  pub body : resolved_expr top (enter_all bs (scope_of ws)) e ≡ Ok f
+
+pub record BinderParts (top : Top) (ws : List Word) (passed : WordSet) (i : ℕ) (x : Word) (t : Ty) (bs : List Binder) (u : NTy) (cs : List NBinder) : Type 0 where
+  pub new : not (passed x) ≡ true
+  pub type : resolved_ty top [] t ≡ Ok u
+  pub others : resolved_binders top (scope_of (x ∷ ws)) (values_only (plus x passed)) (i + 1) bs ≡ Ok cs
 
 app_same : {f g : NExpr} {a b : NArg} → NApp f a ≡ NApp g b → (f ≡ g) × (a ≡ b)
 app_same h = (cc, cc)
@@ -48,6 +69,18 @@ bind_same h = (cc, cc)
 
 first_same : {b c : NBind} {bs cs : NBinds} → MoreNBinds b bs ≡ MoreNBinds c cs → b ≡ c
 first_same h = cc
+
+case_same : {e f : NExpr} {t u r s : NTy} {some others : NAlts} → NCase e t r some ≡ NCase f u s others → (e ≡ f) × (t ≡ u) × (r ≡ s) × (some ≡ others)
+case_same h = (cc, cc, cc, cc)
+
+branch_same : {h k : Head} {bs cs : List NBinder} {e f : NExpr} → NBranch h bs e ≡ NBranch k cs f → (h ≡ k) × (bs ≡ cs) × (e ≡ f)
+branch_same h = (cc, cc, cc)
+
+alts_same : {a b : NAlt} {some others : NAlts} → MoreNAlts a some ≡ MoreNAlts b others → (a ≡ b) × (some ≡ others)
+alts_same h = (cc, cc)
+
+binders_same : {b c : NBinder} {bs cs : List NBinder} → b ∷ bs ≡ c ∷ cs → (b ≡ c) × (bs ≡ cs)
+binders_same h = (cc, cc)
 
 con_same : {m n : Name} {a b : NArgs} → NCon m a ≡ NCon n b → (m ≡ n) × (a ≡ b)
 con_same h = (cc, cc)
@@ -121,6 +154,43 @@ module _ (top : Top) where
       let same = args_same q.2 in
       (p.1 ∙ ap answer same.0, q.1 ∙ ap answer same.1)
 
+  case_parts : (ws : List Word) (e : Expr) (x : Word) (t r : Ty) (alts : Alts) (f : NExpr) (u s : NTy) (us : NAlts)
+      → resolved_expr top (scope_of ws) (ECase e x t r alts) ≡ Ok (NCase f u s us) → CaseParts top ws e x t r alts f u s us
+  case_parts ws e x t r alts f u s us h =
+      let p = part 0 (resolved_expr top (scope_of ws) e) _ (NCase f u s us) h in
+      let a = part 1 (resolved_ty top [] t) _ (NCase f u s us) p.2 in
+      let b = part 2 (resolved_ty top [] r) _ (NCase f u s us) a.2 in
+      let q = and_then_inv (resolved_alts top (scope_of (x ∷ ws)) 3 alts) _ (NCase f u s us) b.2 in
+      let same = case_same (ok_ok q.2) in
+      record { scrutinee = p.1 ∙ ap answer same.0; type = a.1 ∙ ap answer same.1; answer_type = b.1 ∙ ap answer same.2; alts_are = q.1 ∙ ap answer same.3 }
+
+  alts_parts : (ws : List Word) (i : ℕ) (a : Alt) (rest : Alts) (u : NAlt) (us : NAlts) → resolved_alts top (scope_of ws) i (MoreAlts a rest) ≡ Ok (MoreNAlts u us)
+      → (resolved_alt top (scope_of ws) a ≡ Ok u) × (resolved_alts top (scope_of ws) (i + 1) rest ≡ Ok us)
+  alts_parts ws i a rest u us h =
+      let p = part i (resolved_alt top (scope_of ws) a) _ (MoreNAlts u us) h in
+      let q = then_alt_inv p.0 (resolved_alts top (scope_of ws) (i + 1) rest) (MoreNAlts u us) p.2 in
+      let same = alts_same q.2 in
+      (p.1 ∙ ap answer same.0, q.1 ∙ ap answer same.1)
+
+  alt_parts : (ws : List Word) (h : Head) (bs : List Binder) (e : Expr) (k : Head) (cs : List NBinder) (f : NExpr) → resolved_alt top (scope_of ws) (Branch h bs e) ≡ Ok (NBranch k cs f)
+      → AltParts top ws h bs e k cs f
+  alt_parts ws h bs e k cs f r =
+      let p = and_then_inv (resolved_head top h) _ (NBranch k cs f) r in
+      let q = and_then_inv (resolved_binders top (scope_of ws) no_words 0 bs) _ (NBranch k cs f) p.2 in
+      let b = part (length bs) (resolved_expr top (enter_all bs (scope_of ws)) e) _ (NBranch k cs f) q.2 in
+      let same = branch_same (ok_ok b.2) in
+      record { head_is = p.1 ∙ ap answer same.0; binders = q.1 ∙ ap answer same.1; body = b.1 ∙ ap answer same.2 }
+
+  binder_parts : (ws : List Word) (passed : WordSet) (i : ℕ) (x : Word) (t : Ty) (bs : List Binder) (u : NTy) (cs : List NBinder)
+      → resolved_binders top (scope_of ws) (values_only passed) i (BValue x t ∷ bs) ≡ Ok (NBValue u ∷ cs) → BinderParts top ws passed i x t bs u cs
+  binder_parts ws passed i x t bs u cs h =
+      let p = part i (need (not (passed x)) Duplicate (resolved_binder top (scope_of ws) (BValue x t))) _ (NBValue u ∷ cs) h in
+      let n = need_inv (not (passed x)) _ _ p.0 p.1 in
+      let a = part 0 (resolved_ty top [] t) _ p.0 n.1 in
+      let q = then_item_inv p.0 (resolved_binders top (scope_of (x ∷ ws)) (values_only (plus x passed)) (i + 1) bs) (NBValue u ∷ cs) p.2 in
+      let same = binders_same q.2 in
+      record { new = n.0; type = a.1 ∙ ap answer (value_same (ok_ok a.2 ∙ same.0)); others = q.1 ∙ ap answer same.1 }
+
   -- what a variable is found as
   found_local : (f : Found) (w : Word) (i : ℕ) → variable top f w ≡ Ok (NLocal i) → f ≡ IsValue i
   found_local (IsValue j) w i h = ap IsValue (local_same (ok_ok h))
@@ -137,6 +207,10 @@ module _ (top : Top) where
 or_falses : (a b : Bool) → a ≡ false → b ≡ false → a || b ≡ false
 or_falses true b h k = absurd cc
 or_falses false b h k = k
+
+not_true : (b : Bool) → not b ≡ true → b ≡ false
+not_true true h = absurd cc
+not_true false h = refl
 
 second_false : (a b : Bool) → b ≡ false → a && b ≡ false
 second_false true b h = h
@@ -160,6 +234,13 @@ module _ (top : Top) (itself : top.imports top.own ≡ false) (w : Word) (ws : L
       let same : outside top.own n.module ≡ Some m = ap (λ (x : Name). x.module) (written_back top itself top.terms (Some m) v n (p.1 ∙ ap answer (var_same (ok_ok p.2)))) in
       ap (λ o. is_none o && bytes_eq w n.text) same
 
+  -- inside of the binders of an alternative
+  below_unused : {bs : List Binder} {hs : List HBinder} → AreEach BinderHasWord bs hs → (e : Expr) (n : NExpr) (used : ℕ → Bool)
+      → ((us : List Word) → resolved_expr top (scope_of (us ++ w ∷ ws)) e ≡ Ok n → used (suc (depth us)) ≡ false) → (us : List Word)
+      → resolved_expr top (enter_all bs (scope_of (us ++ w ∷ ws))) e ≡ Ok n → used (below hs (suc (depth us))) ≡ false
+  below_unused each_none e n used each us r = each us r
+  below_unused (each_more (word_of_value {w = x}) rest) e n used each us r = below_unused rest e n used each (x ∷ us) r
+
   mutual
     unused : {e : Expr} {h : HExpr} → HasWords e h → (us : List Word) → resolved_expr top (scope_of (us ++ w ∷ ws)) e ≡ Ok (bare h) → uses w top.own ws (suc (depth us)) h ≡ false
     unused (words_local {n = n} {i = i}) us r = local_unused us n.module n.text i r
@@ -173,6 +254,9 @@ module _ (top : Top) (itself : top.imports top.own ≡ false) (w : Word) (ws : L
     unused (words_let {w = x} {t = t} {u = u} {d = d} {e = e} {c = c} {f = f} p q) us r =
         let parts = let_parts top (us ++ w ∷ ws) x t d e u (bare c) (bare f) r in
         or_falses (uses w top.own ws (suc (depth us)) c) (uses w top.own ws (suc (suc (depth us))) f) (unused p us parts.right) (unused q (x ∷ us) parts.body)
+    unused (words_case {w = x} {t = t} {r = a} {u = u} {s = s} {e = e} {f = f} {alts = alts} {hs = hs} p q) us r =
+        let parts = case_parts top (us ++ w ∷ ws) e x t a alts (bare f) u s (bare_alts hs) r in
+        or_falses (uses w top.own ws (suc (depth us)) f) (alts_use w top.own ws (suc (suc (depth us))) hs) (unused p us parts.scrutinee) (alts_unused q (x ∷ us) 3 parts.alts_are)
     unused (words_constructor {m = m} {n = n} {args = args} {hs = hs} p) us r =
         let parts = constructor_parts top (us ++ w ∷ ws) m n args (bare_args hs) r in args_unused p us 0 parts.1
 
@@ -186,6 +270,19 @@ module _ (top : Top) (itself : top.imports top.own ≡ false) (w : Word) (ws : L
     args_unused (words_args {a = a} {b = b} {args = args} {hs = hs} p rest) us i r =
         let parts = args_parts top (us ++ w ∷ ws) i a args (bare_arg b) (bare_args hs) r in
         or_falses (arg_uses w top.own ws (suc (depth us)) b) (args_use w top.own ws (suc (depth us)) hs) (arg_unused p us parts.0) (args_unused rest us (i + 1) parts.1)
+
+    alt_unused : {a : Alt} {b : HAlt} → AltHasWords a b → (us : List Word) → resolved_alt top (scope_of (us ++ w ∷ ws)) a ≡ Ok (bare_alt b)
+        → alt_uses w top.own ws (suc (depth us)) b ≡ false
+    alt_unused (words_alternative {h = h} {k = k} {bs = bs} {hs = hs} {e = e} {f = f} each p) us r =
+        let parts = alt_parts top (us ++ w ∷ ws) h bs e k (map bare_binder hs) (bare f) r in
+        below_unused each e (bare f) (λ j. uses w top.own ws j f) (λ vs. unused p vs) us parts.body
+
+    alts_unused : {alts : Alts} {hs : HAlts} → AltsHaveWords alts hs → (us : List Word) (i : ℕ) → resolved_alts top (scope_of (us ++ w ∷ ws)) i alts ≡ Ok (bare_alts hs)
+        → alts_use w top.own ws (suc (depth us)) hs ≡ false
+    alts_unused words_no_alts us i r = refl
+    alts_unused (words_alts {a = a} {b = b} {alts = alts} {hs = hs} p rest) us i r =
+        let parts = alts_parts top (us ++ w ∷ ws) i a alts (bare_alt b) (bare_alts hs) r in
+        or_falses (alt_uses w top.own ws (suc (depth us)) b) (alts_use w top.own ws (suc (depth us)) hs) (alt_unused p us parts.0) (alts_unused rest us (i + 1) parts.1)
 
 -- WHAT RESOLVES IS A WAY OF WRITING ITS FORM
 
@@ -231,8 +328,38 @@ module _ (top : Top) (itself : top.imports top.own ≡ false) where
       let is : TyIs top.own (NTCoForall r p.0 q.0 s.0) a = ty_inv (subst (λ v. IsNamedTy top.own v a) (sym (ok_ok s.2)) named) in absurd is
 
   -- the word of a binder is chosen first
-  own_word : (ws : List Word) (w : Word) (e : Expr) (h : HExpr) → HasWords e h → resolved_expr top (scope_of (w ∷ ws)) e ≡ Ok (bare h) → IsChosen top.own ws w h w
-  own_word ws w e h has r = record { number = 0; is = refl; hides_none = unused top itself w ws has [] r; first = λ j less. absurd (omega arith) }
+  own_word : (ws : List Word) (w : Word) (e : Expr) (h : HExpr) → HasWords e h → resolved_expr top (scope_of (w ∷ ws)) e ≡ Ok (bare h) → IsChosen (hiding top.own ws 1 h) w w
+  own_word ws w e h has r = record { number = 0; is = refl; free = unused top itself w ws has [] r; first = λ j less. absurd (omega arith) }
+
+  own_case_word : (ws : List Word) (w : Word) (alts : Alts) (hs : HAlts) → AltsHaveWords alts hs → resolved_alts top (scope_of (w ∷ ws)) 3 alts ≡ Ok (bare_alts hs)
+      → IsChosen (hiding_in_alts top.own ws hs) w w
+  own_case_word ws w alts hs has r = record { number = 0; is = refl; free = alts_unused top itself w ws has [] 3 r; first = λ j less. absurd (omega arith) }
+
+  own_binder_word : (ws : List Word) (w : Word) (passed : WordSet) (bs : List Binder) (hs : List HBinder) (e : Expr) (f : HExpr) → AreEach BinderHasWord bs hs → HasWords e f
+      → not (passed w) ≡ true → resolved_expr top (enter_all bs (scope_of (w ∷ ws))) e ≡ Ok (bare f) → IsChosen (either passed (hiding top.own ws (below hs 1) f)) w w
+  own_binder_word ws w passed bs hs e f each has new r =
+      let hidden = below_unused top itself w ws each e (bare f) (λ j. uses w top.own ws j f) (λ us. unused top itself w ws has us) [] r in
+      record { number = 0; is = refl; free = or_falses (passed w) (uses w top.own ws (below hs 1) f) (not_true (passed w) new) hidden; first = λ j less. absurd (omega arith) }
+
+  head_comes_back : (h k : Head) → resolved_head top h ≡ Ok k → short_head top.own k ≡ h
+  head_comes_back head.Default k r = ap (short_head top.own) (sym (ok_ok r))
+  head_comes_back (head.Lit n) k r = ap (short_head top.own) (sym (ok_ok r))
+  head_comes_back (head.Con n) k r =
+      let p = and_then_inv (declared_name top top.terms n.module n.text) _ k r in
+      ap (short_head top.own) (sym (ok_ok p.2)) ∙ ap head.Con (written_back top itself top.terms n.module n.text p.0 p.1)
+
+  -- binders of an alternative, and what it answers
+  below_comes_back : {e : Expr} {f : HExpr} → HasWords e f → ((vs : List Word) (b : Expr) → IsNamed top.own vs f b → resolved_expr top (scope_of vs) e ≡ Ok (bare f) → b ≡ e)
+      → {bs : List Binder} {hs : List HBinder} → AreEach BinderHasWord bs hs → (passed : WordSet) (ws : List Word) {cs : List Binder} {a : Expr} → IsNamedBelow top.own passed ws hs f cs a
+      → (i : ℕ) → resolved_binders top (scope_of ws) (values_only passed) i bs ≡ Ok (map bare_binder hs)
+      → resolved_expr top (enter_all bs (scope_of ws)) e ≡ Ok (bare f) → (cs ≡ bs) × (a ≡ e)
+  below_comes_back has body each_none passed ws (named_below_none {f = a} p) i binders r = (refl, body ws a p r)
+  below_comes_back {e = e} {f = f} has body (each_more {xs = bs} {ys = hs} (word_of_value {w = w} {t = t} {u = u}) rest) passed ws
+      (named_below_more {bs = ds} {f = g} (named_binder {v = v} {u = y} type c) more) i binders r =
+      let parts = binder_parts top ws passed i w t bs u (map bare_binder hs) binders in
+      let same = chosen_is_one c (own_binder_word ws w passed bs hs e f rest has parts.new r) in
+      let others = below_comes_back has body rest (plus w passed) (w ∷ ws) (subst (λ z. IsNamedBelow top.own (plus z passed) (z ∷ ws) hs f ds g) same more) (i + 1) parts.others r in
+      (ap (λ z. BValue z y ∷ ds) same ∙ ap (λ z. BValue w z ∷ ds) (ty_comes_back t u y type parts.type) ∙ ap (λ z. BValue w t ∷ z) others.0, others.1)
 
   local_back : (ws : List Word) (m : Option Word) (w : Word) (i : ℕ) → resolved_var top (scope_of ws) m w ≡ Ok (NLocal i) → IsNamed top.own ws (HLocal i) (EVar (name_of m w))
   local_back ws None w i h = named_local (found_at ws w i (found_local top (found_term (values ws) w) w i h))
@@ -264,6 +391,13 @@ module _ (top : Top) (itself : top.imports top.own ≡ false) where
         let body = comes_back q (subst (λ x. IsNamed top.own (x ∷ ws) f g) same b) parts.body in
         ap (λ x. ELet false (MoreBinds (Bound x s k) NoBinds) g) same ∙ ap (λ x. ELet false (MoreBinds (Bound w x k) NoBinds) g) (ty_comes_back t u s type parts.type)
         ∙ ap (λ x. ELet false (MoreBinds (Bound w t x) NoBinds) g) (comes_back p right parts.right) ∙ ap (λ x. ELet false (MoreBinds (Bound w t d) NoBinds) x) body
+    comes_back {ws = ws} (words_case {w = w} {t = t} {r = t'} {u = u} {s = s} {e = e} {f = f} {alts = alts} {hs = hs} p q)
+        (named_case {v = v} {u = a} {r = b} {f = g} {alts = others} x type answers c each) r =
+        let parts = case_parts top ws e w t t' alts (bare f) u s (bare_alts hs) r in
+        let same = chosen_is_one c (own_case_word ws w alts hs q parts.alts_are) in
+        let alternatives = alts_come_back q (subst (λ z. AreNamedAlts top.own (z ∷ ws) hs others) same each) 3 parts.alts_are in
+        ap (λ i. ECase i v a b others) (comes_back p x parts.scrutinee) ∙ ap (λ i. ECase e i a b others) same ∙ ap (λ i. ECase e w i b others) (ty_comes_back t u a type parts.type)
+        ∙ ap (λ i. ECase e w t i others) (ty_comes_back t' s b answers parts.answer_type) ∙ ap (λ i. ECase e w t t' i) alternatives
     comes_back {ws = ws} (words_constructor {m = m} {n = n} {args = args} {hs = hs} p) (named_constructor {args = others} each) r =
         let parts = constructor_parts top ws m n args (bare_args hs) r in
         ap (λ x. ECon x others) (written_back top itself top.terms m.module m.text n parts.0) ∙ ap (λ x. ECon m x) (args_come_back p each 0 parts.1)
@@ -277,3 +411,16 @@ module _ (top : Top) (itself : top.imports top.own ≡ false) where
     args_come_back {ws = ws} (words_args {a = a} {b = b} {args = args} {hs = hs} p rest) (named_args {args = others} c more) i r =
         let parts = args_parts top ws i a args (bare_arg b) (bare_args hs) r in
         ap (λ x. MoreArgs x others) (arg_comes_back p c parts.0) ∙ ap (λ x. MoreArgs a x) (args_come_back rest more (i + 1) parts.1)
+
+    alt_comes_back : {ws : List Word} {h : HAlt} {e a : Alt} → AltHasWords e h → IsNamedAlt top.own ws h a → resolved_alt top (scope_of ws) e ≡ Ok (bare_alt h) → a ≡ e
+    alt_comes_back {ws = ws} (words_alternative {h = h} {k = k} {bs = bs} {hs = hs} {e = e} {f = f} each p) (named_alternative {bs = cs} {f = g} written) r =
+        let parts = alt_parts top ws h bs e k (map bare_binder hs) (bare f) r in
+        let same = below_comes_back p (λ vs b named resolved. comes_back p named resolved) each no_word ws written 0 parts.binders parts.body in
+        ap (λ i. Branch i cs g) (head_comes_back h k parts.head_is) ∙ ap (λ i. Branch h i g) same.0 ∙ ap (λ i. Branch h bs i) same.1
+
+    alts_come_back : {ws : List Word} {hs : HAlts} {alts others : Alts} → AltsHaveWords alts hs → AreNamedAlts top.own ws hs others → (i : ℕ)
+        → resolved_alts top (scope_of ws) i alts ≡ Ok (bare_alts hs) → others ≡ alts
+    alts_come_back words_no_alts named_no_alts i r = refl
+    alts_come_back {ws = ws} (words_alts {a = a} {b = b} {alts = alts} {hs = hs} p rest) (named_alts {alts = others} c more) i r =
+        let parts = alts_parts top ws i a alts (bare_alt b) (bare_alts hs) r in
+        ap (λ x. MoreAlts x others) (alt_comes_back p c parts.0) ∙ ap (λ x. MoreAlts a x) (alts_come_back rest more (i + 1) parts.1)

@@ -1,10 +1,12 @@
 -- Words by their distances.
-use Rattle.std.proofs.Common.{◌≡◌, ◌<◌, ◌≤◌, ◌-◌, ℕ, zero, suc, ◌+◌, Bool, true, false, List, [], ◌∷◌, ◌++◌, length, Some, None, bytes_eq, if◌then◌else◌, refl, sym, ap, ◌∙◌, subst, arith}
+use Rattle.std.proofs.Common.{◌≡◌, ◌<◌, ◌≤◌, ◌-◌, ℕ, zero, suc, ◌+◌, Bool, true, false, List, [], ◌∷◌, ◌++◌, length, get_or, Option, Some, None, Result, Ok, Err, IfOk, bytes_eq, if◌then◌else◌, refl, sym, ap, ◌∙◌, subst, arith}
+use Rattle.fc_syntax.specs.declared.fault.Memory.{Memory}
 use Rattle.fc_syntax.specs.Tree.{Word}
 use Rattle.fc_model.specs.Resolution.{Found, IsValue, IsJoin, Nowhere, found_term, past_value}
 use Rattle.fc_model.specs.Scopes.{values}
 use Rattle.fc_model.proofs.Sameness.{bytes_eq_eq}
 use Rattle.fc_naming.specs.Naming.{is_word, word_at, word_beyond}
+use Rattle.fc_naming.specs.Scopes.{onto}
 
 -- a binder that is one of the innermost has no word yet
 pub not_beyond : (k : ℕ) (ws : List Word) (i : ℕ) → i < k → word_beyond k ws i ≡ None
@@ -17,6 +19,29 @@ pub beyond_is : (k : ℕ) (ws : List Word) (i : ℕ) → k ≤ i → word_beyond
 beyond_is zero ws i h = ap (word_at ws) (omega arith)
 beyond_is (suc k) ws zero h = absurd (omega arith)
 beyond_is (suc k) ws (suc i) h = let e : suc i - suc k ≡ i - k = omega arith in beyond_is k ws i (omega arith) ∙ ap (word_at ws) (sym e)
+
+-- BINDERS THAT STAND TOGETHER
+
+-- a binder around them
+pub at_far : (vs ws : List Word) (i : ℕ) → length vs ≤ i → word_at (onto vs ws) i ≡ word_at ws (i - length vs)
+at_far [] ws i h = ap (word_at ws) (omega arith)
+at_far (v ∷ vs) ws zero h = absurd (omega arith)
+at_far (v ∷ vs) ws (suc i) h =
+    let e : suc i - length vs ≡ suc (i - length vs) = omega arith in
+    let f : suc i - suc (length vs) ≡ i - length vs = omega arith in
+    at_far vs (v ∷ ws) (suc i) (omega arith) ∙ ap (word_at (v ∷ ws)) e ∙ ap (word_at ws) (sym f)
+
+-- one of them, the last of which is the innermost
+pub at_near : (vs ws : List Word) (i n : ℕ) (w : Word) → i < length vs → n + i + 1 ≡ length vs → w ≡ get_or vs n w → word_at (onto vs ws) i ≡ Some w
+at_near [] ws i n w h k is = absurd (omega arith)
+at_near (v ∷ vs) ws i zero w h k is =
+    let e : i - length vs ≡ 0 = omega arith in at_far vs (v ∷ ws) i (omega arith) ∙ ap (word_at (v ∷ ws)) e ∙ ap Some (sym is)
+at_near (v ∷ vs) ws i (suc n) w h k is = at_near vs (v ∷ ws) i n w (omega arith) (omega arith) is
+
+-- a copy of the word that stands there
+pub copied_word : (r : Result Word Memory) (v : Word) (o : Option Word) → o ≡ Some v → IfOk r (λ w. w ≡ v) → IfOk r (λ w. o ≡ Some w)
+copied_word (Ok w) v o at copied = at ∙ ap Some (sym copied)
+copied_word (Err e) v o at copied = tt
 
 -- WORDS THAT ARE FOUND
 

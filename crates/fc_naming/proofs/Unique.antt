@@ -1,11 +1,13 @@
 -- A tree is written in at most one way.
 use Rattle.std.proofs.Common.{◌≡◌, ◌<◌, false, List, [], ◌∷◌, Some, refl, sym, ap, ◌∙◌, subst, arith}
-use Rattle.fc_syntax.specs.Tree.{Word, Ty, TFun, BValue, Arg, ATerm, Args, MoreArgs, Bound, NoBinds, MoreBinds, Expr, EVar, EApp, ELam, ELet, ECon, ConDecl, ConOf, Decl, DData, DDef, Module, ModuleOf}
+use Rattle.fc_syntax.specs.Tree.{Word, Ty, TFun, Binder, BValue, Alt, Branch, Alts, MoreAlts, Arg, ATerm, Args, MoreArgs, Bound, NoBinds, MoreBinds, Expr, EVar, EApp, ELam, ELet, ECase, ECon, ConDecl, ConOf, Decl, DData, DDef, Module, ModuleOf}
 use Rattle.fc_model.specs.Nameless.{NTy, NConDecl}
+use Rattle.fc_model.specs.Resolution.{WordSet, plus}
 use Rattle.fc_model.proofs.Sameness.{false_true}
-use Rattle.fc_naming.specs.Hinted.{HExpr, HArg, HArgs, HDecl, HModule}
-use Rattle.fc_naming.specs.Naming.{AreEach, each_none, each_more, IsChosen, IsNamed, IsNamedArg, AreNamed, IsNamedTy, IsNamedCon, IsNamedDecl, IsNamedModule, candidate, short, uses, word_alone}
-use Rattle.fc_naming.specs.Naming.{named_data_type, named_int, named_function, named_local, named_variable, named_literal, named_application, named_lambda, named_let, named_constructor, named_term, named_no_args, named_args, named_con, named_data, named_definition, named_module}
+use Rattle.fc_naming.specs.Hinted.{HExpr, HArg, HArgs, HAlt, HAlts, HBinder, HDecl, HModule}
+use Rattle.fc_naming.specs.Naming.{AreEach, each_none, each_more, IsChosen, IsNamed, IsNamedArg, AreNamed, IsNamedTy, IsNamedCon, IsNamedDecl, IsNamedModule, IsNamedBinder, IsNamedAlt, IsNamedBelow, AreNamedAlts, candidate, short, short_head, word_alone}
+use Rattle.fc_naming.specs.Naming.{named_data_type, named_int, named_function, named_local, named_variable, named_literal, named_application, named_lambda, named_let, named_case, named_constructor, named_term, named_no_args, named_args, named_con, named_data, named_definition, named_module}
+use Rattle.fc_naming.specs.Naming.{named_binder, named_alternative, named_below_none, named_below_more, named_no_alts, named_alts}
 
 some_same : {w v : Word} → Some w ≡ Some v → w ≡ v
 some_same h = cc
@@ -15,16 +17,20 @@ ty_is_one named_data_type named_data_type = refl
 ty_is_one named_int named_int = refl
 ty_is_one (named_function {s = s} {r = r} p q) (named_function {s = u} {r = v} o x) = ap (λ y. TFun y r) (ty_is_one p o) ∙ ap (λ y. TFun u y) (ty_is_one q x)
 
--- the first candidate that hides no name is not before another
-not_before : (own : Word) (ws : List Word) (w : Word) (e : HExpr) (u v : Word) (a : IsChosen own ws w e u) (b : IsChosen own ws w e v) → a.number < b.number → ⊥
-not_before own ws w e u v a b less = false_true (sym a.hides_none ∙ (ap (λ x. uses x own ws 1 e) a.is ∙ b.first a.number less))
+-- the first candidate that is free is not before another
+not_before : (taken : WordSet) (w u v : Word) (a : IsChosen taken w u) (b : IsChosen taken w v) → a.number < b.number → ⊥
+not_before taken w u v a b less = false_true (sym a.free ∙ (ap taken a.is ∙ b.first a.number less))
 
-pub chosen_is_one : {own : Word} {ws : List Word} {w : Word} {e : HExpr} {u v : Word} → IsChosen own ws w e u → IsChosen own ws w e v → u ≡ v
-chosen_is_one {own = own} {ws = ws} {w = w} {e = e} {u = u} {v = v} a b =
-    let left = not_before own ws w e u v a b in
-    let right = not_before own ws w e v u b a in
+pub chosen_is_one : {taken : WordSet} {w u v : Word} → IsChosen taken w u → IsChosen taken w v → u ≡ v
+chosen_is_one {taken = taken} {w = w} {u = u} {v = v} a b =
+    let left = not_before taken w u v a b in
+    let right = not_before taken w v u b a in
     let same : a.number ≡ b.number = omega (arith, left, right) in
     a.is ∙ ap (λ i. candidate w i) same ∙ sym b.is
+
+binder_is_one : {own : Word} {taken : WordSet} {h : HBinder} {v x : Word} {b c : Binder} → IsNamedBinder own taken h v b → IsNamedBinder own taken h x c → (v ≡ x) × (b ≡ c)
+binder_is_one (named_binder {v = v} {u = u} t p) (named_binder {v = x} s q) =
+    let same = chosen_is_one p q in (same, ap (λ y. BValue y u) same ∙ ap (λ y. BValue x y) (ty_is_one t s))
 
 mutual
   pub is_one : {own : Word} {ws : List Word} {h : HExpr} {a b : Expr} → IsNamed own ws h a → IsNamed own ws h b → a ≡ b
@@ -41,6 +47,11 @@ mutual
       let bodies = is_one r (subst (λ z. IsNamed own (z ∷ ws) e g) (sym same) q) in
       ap (λ z. ELet false (MoreBinds (Bound z u c) NoBinds) f) same ∙ ap (λ z. ELet false (MoreBinds (Bound x z c) NoBinds) f) (ty_is_one t s)
       ∙ ap (λ z. ELet false (MoreBinds (Bound x y z) NoBinds) f) (is_one l k) ∙ ap (λ z. ELet false (MoreBinds (Bound x y d) NoBinds) z) bodies
+  is_one {own = own} {ws = ws} (named_case {v = v} {hs = hs} {u = u} {r = r} {f = f} {alts = alts} e t s c each) (named_case {v = x} {u = y} {r = z} {f = g} {alts = others} d p q n bs) =
+      let same = chosen_is_one c n in
+      let alternatives = alts_are_one each (subst (λ z. AreNamedAlts own (z ∷ ws) hs others) (sym same) bs) in
+      ap (λ i. ECase i v u r alts) (is_one e d) ∙ ap (λ i. ECase g i u r alts) same ∙ ap (λ i. ECase g x i r alts) (ty_is_one t p)
+      ∙ ap (λ i. ECase g x y i alts) (ty_is_one s q) ∙ ap (λ i. ECase g x y z i) alternatives
   is_one {own = own} (named_constructor {n = n} a) (named_constructor b) = ap (λ x. ECon (short own n) x) (args_are_one a b)
 
   pub arg_is_one : {own : Word} {ws : List Word} {h : HArg} {a b : Arg} → IsNamedArg own ws h a → IsNamedArg own ws h b → a ≡ b
@@ -50,6 +61,23 @@ mutual
   args_are_one named_no_args named_no_args = refl
   args_are_one (named_args {b = b} {args = args} a rest) (named_args {b = c} {args = others} d more) =
       ap (λ x. MoreArgs x args) (arg_is_one a d) ∙ ap (λ x. MoreArgs c x) (args_are_one rest more)
+
+  pub alt_is_one : {own : Word} {ws : List Word} {h : HAlt} {a b : Alt} → IsNamedAlt own ws h a → IsNamedAlt own ws h b → a ≡ b
+  alt_is_one {own = own} (named_alternative {h = h} {bs = bs} {f = f} p) (named_alternative {bs = cs} {f = g} q) =
+      let same = below_is_one p q in ap (λ x. Branch (short_head own h) x f) same.0 ∙ ap (λ x. Branch (short_head own h) cs x) same.1
+
+  pub below_is_one : {own : Word} {passed : WordSet} {ws : List Word} {hs : List HBinder} {e : HExpr} {bs cs : List Binder} {f g : Expr}
+      → IsNamedBelow own passed ws hs e bs f → IsNamedBelow own passed ws hs e cs g → (bs ≡ cs) × (f ≡ g)
+  below_is_one (named_below_none p) (named_below_none q) = (refl, is_one p q)
+  below_is_one {own = own} {passed = passed} {ws = ws} (named_below_more {v = v} {b = b} {hs = hs} {e = e} {bs = bs} {f = f} one rest) (named_below_more {b = c} {bs = cs} {f = g} other more) =
+      let first = binder_is_one one other in
+      let same = below_is_one rest (subst (λ x. IsNamedBelow own (plus x passed) (x ∷ ws) hs e cs g) (sym first.0) more) in
+      (ap (λ x. x ∷ bs) first.1 ∙ ap (λ x. c ∷ x) same.0, same.1)
+
+  pub alts_are_one : {own : Word} {ws : List Word} {hs : HAlts} {a b : Alts} → AreNamedAlts own ws hs a → AreNamedAlts own ws hs b → a ≡ b
+  alts_are_one named_no_alts named_no_alts = refl
+  alts_are_one (named_alts {b = b} {alts = alts} a rest) (named_alts {b = c} {alts = others} d more) =
+      ap (λ x. MoreAlts x alts) (alt_is_one a d) ∙ ap (λ x. MoreAlts c x) (alts_are_one rest more)
 
 -- items that are each one make one list
 pub each_is_one : {X Y : Type 0} (R : X → Y → Type 0) (one : (x : X) (y z : Y) → R x y → R x z → y ≡ z) {xs : List X} {ys zs : List Y}

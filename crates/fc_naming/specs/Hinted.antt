@@ -1,9 +1,17 @@
 -- The nameless tree with a word for each of its binders of values, for the forms that naming back is built for.
 use Rattle.std.specs.Prelude.{ℕ, ℤ, false, List, map}
 use Rattle.fc_syntax.specs.declared.ty.Name.{Name}
+use Rattle.fc_syntax.specs.declared.expr.Head.{Head}
 use Rattle.fc_syntax.specs.Tree.{Word}
-use Rattle.fc_model.specs.Nameless.{NTy, NBValue, NBound, NArg, NATerm, NArgs, NoNArgs, MoreNArgs, NoNBinds, MoreNBinds}
-use Rattle.fc_model.specs.Nameless.{NExpr, NLocal, NVar, NLit, NApp, NLam, NLet, NCon, NDecl, NDef, NModule, NModuleOf}
+use Rattle.fc_model.specs.Nameless.{NTy, NBinder, NBValue, NBound, NArg, NATerm, NArgs, NoNArgs, MoreNArgs, NoNBinds, MoreNBinds, NAlt, NBranch, NAlts, NoNAlts, MoreNAlts}
+use Rattle.fc_model.specs.Nameless.{NExpr, NLocal, NVar, NLit, NApp, NLam, NLet, NCase, NCon, NDecl, NDef, NModule, NModuleOf}
+
+-- a binder of an alternative
+pub data HBinder : Type 0 where
+  -- of a value, with its word
+  HValue : (w : Word) (t : NTy) → HBinder
+  -- of a type or a coercion
+  HNoValue : (b : NBinder) → HBinder
 
 mutual
   pub data HExpr : Type 0 where
@@ -15,6 +23,8 @@ mutual
     HLam : (w : Word) (t : NTy) (e : HExpr) → HExpr
     -- a let of one bind that is not recursive, with its word and its right side
     HLet : (w : Word) (t : NTy) (d e : HExpr) → HExpr
+    -- a case: its scrutinee, its binder's word, the types of its binder and its result, and its alternatives
+    HCase : (e : HExpr) (w : Word) (t u : NTy) (alts : HAlts) → HExpr
     HCon : (n : Name) (args : HArgs) → HExpr
     -- a form that is not built
     HOther : (e : NExpr) → HExpr
@@ -28,6 +38,13 @@ mutual
     NoHArgs : HArgs
     MoreHArgs : (a : HArg) (rest : HArgs) → HArgs
 
+  pub data HAlt : Type 0 where
+    HBranch : (h : Head) (bs : List HBinder) (e : HExpr) → HAlt
+
+  pub data HAlts : Type 0 where
+    NoHAlts : HAlts
+    MoreHAlts : (a : HAlt) (rest : HAlts) → HAlts
+
 pub data HDecl : Type 0 where
   HDef : (n : Word) (t : NTy) (e : HExpr) → HDecl
   -- any other declaration; a data type has no binders of values
@@ -38,6 +55,10 @@ pub data HModule : Type 0 where
 
 -- THE TREE WITHOUT THE WORDS
 
+abbrev pub bare_binder : HBinder → NBinder
+bare_binder (HValue w t) = NBValue t
+bare_binder (HNoValue b) = b
+
 abbrev mutual
   pub bare : HExpr → NExpr
   bare (HLocal i) = NLocal i
@@ -46,6 +67,7 @@ abbrev mutual
   bare (HApp f a) = NApp (bare f) (bare_arg a)
   bare (HLam w t e) = NLam (NBValue t) (bare e)
   bare (HLet w t d e) = NLet false (MoreNBinds (NBound t (bare d)) NoNBinds) (bare e)
+  bare (HCase e w t u alts) = NCase (bare e) t u (bare_alts alts)
   bare (HCon n args) = NCon n (bare_args args)
   bare (HOther e) = e
 
@@ -56,6 +78,13 @@ abbrev mutual
   pub bare_args : HArgs → NArgs
   bare_args NoHArgs = NoNArgs
   bare_args (MoreHArgs a rest) = MoreNArgs (bare_arg a) (bare_args rest)
+
+  pub bare_alt : HAlt → NAlt
+  bare_alt (HBranch h bs e) = NBranch h (map bare_binder bs) (bare e)
+
+  pub bare_alts : HAlts → NAlts
+  bare_alts NoHAlts = NoNAlts
+  bare_alts (MoreHAlts a rest) = MoreNAlts (bare_alt a) (bare_alts rest)
 
 abbrev pub bare_decl : HDecl → NDecl
 bare_decl (HDef n t e) = NDef n t (bare e)

@@ -1,24 +1,26 @@
 //! Expressions with words for their binders.
 ghost use Rattle.std.specs.Prelude.{◌≡◌, ◌∷◌, false, IfOk, Some, None};
 ghost use Rattle.fc_syntax.specs.Tree.{ELet, MoreBinds, NoBinds};
-ghost use Rattle.fc_syntax.specs.View.{arg_of, args_of, bind_of, expr_of};
-ghost use Rattle.fc_model.specs.NamelessView.{nexpr_of};
-ghost use Rattle.fc_naming.specs.HintedView.{harg_of, hargs_of, hexpr_of, lambda_of};
-ghost use Rattle.fc_naming.specs.Naming.{AreNamed, IsChosen, IsNamed, IsNamedArg, candidate as is_candidate, word_at};
-ghost use Rattle.fc_naming.specs.Scopes.{words_of};
+ghost use Rattle.fc_syntax.specs.View.{alt_of, alts_of, arg_of, args_of, bind_of, expr_of};
+ghost use Rattle.fc_model.specs.NamelessView.{nexpr_of, nty_of};
+ghost use Rattle.fc_naming.specs.Hinted.{HCase, HExpr};
+ghost use Rattle.fc_naming.specs.HintedView.{halt_of, halts_of, harg_of, hargs_of, hexpr_of, lambda_of};
+ghost use Rattle.fc_naming.specs.Naming.{AreNamed, AreNamedAlts, IsChosen, IsNamed, IsNamedAlt, IsNamedArg, candidate as is_candidate, hiding, hiding_in_alts, word_at};
+ghost use Rattle.fc_naming.specs.Scopes.{onto, words_of};
 
-use crate::names::{boxed, named_ty, short_name};
+use crate::binders::named_binders;
+use crate::names::{boxed, named_ty, short_head, short_name};
 use crate::scope::{Scope, word};
-use crate::uses::uses;
-use fc_model::{NArg, NBinder, NExpr};
-use fc_syntax::{Arg, Bind, Binder, Expr, Memory, Name, Seq, Text};
+use crate::uses::{alts_use, uses};
+use fc_model::{NAlt, NArg, NBinder, NExpr, NTy};
+use fc_syntax::{Alt, Arg, Bind, Binder, Expr, Memory, Name, Seq, Text};
 use itoa::Buffer;
 use std::alloc::Global;
 
 // THE WORD OF A BINDER
 
 /// The word itself, then `w_1`, `w_2` and so on.
-fn candidate(alloc: Global, hint: &Text, number: u32) -> Result<Text, Memory>
+pub fn candidate(alloc: Global, hint: &Text, number: u32) -> Result<Text, Memory>
     ensures { IfOk result (λ v. v ≡ is_candidate hint.now number) }
 {
     if number == 0 {
@@ -33,11 +35,30 @@ fn candidate(alloc: Global, hint: &Text, number: u32) -> Result<Text, Memory>
 
 /// The first candidate that hides no name in the scope of its binder. Where there are too many, want of memory is answered.
 fn chosen(alloc: Global, hint: &Text, own: &Text, scope: &Scope, e: &NExpr) -> Result<Text, Memory>
-    ensures { IfOk result (λ v. IsChosen own.now (words_of scope.now) hint.now (hexpr_of e.now) v) }
+    ensures { IfOk result (λ v. IsChosen (hiding own.now (words_of scope.now) 1 (hexpr_of e.now)) hint.now v) }
 {
     for number in 0..u32::MAX {
         let next = candidate(alloc, hint, number)?;
         if !uses(&next, own, scope, 1, e)? {
+            return Ok(next);
+        }
+    }
+    Err(Memory)
+}
+
+/// The same for the binder of a case, whose scope are its alternatives.
+fn chosen_in_alts(
+    alloc: Global,
+    hint: &Text,
+    own: &Text,
+    scope: &Scope,
+    alts: &[NAlt],
+) -> Result<Text, Memory>
+    ensures { IfOk result (λ v. IsChosen (hiding_in_alts own.now (words_of scope.now) (halts_of alts.now)) hint.now v) }
+{
+    for number in 0..u32::MAX {
+        let next = candidate(alloc, hint, number)?;
+        if !alts_use(&next, own, scope, 1, alts)? {
             return Ok(next);
         }
     }
@@ -51,7 +72,7 @@ fn local(alloc: Global, scope: &Scope, distance: u32) -> Result<Name, Memory>
     ensures alone { IfOk result (λ n. n.module ≡ None) }
     ensures word { IfOk result (λ n. word_at (words_of scope.now) distance ≡ Some n.text) }
 {
-    let text = word(alloc, scope, distance)?;
+    let text = word(alloc, scope, distance as usize)?;
     Ok(Name { module: None, text })
 }
 
@@ -85,7 +106,10 @@ pub fn named<'x>(alloc: Global, own: &Text, scope: &'x Scope<'x>, e: &NExpr) -> 
             let args = named_args(alloc, own, &*scope, args.as_slice())?;
             Ok(Expr::Con(name, args))
         }
-        NExpr::Case(_, _, _, _, _) => Err(Memory),
+        NExpr::Case(e, hint, t, u, alts) => {
+            let e = named(alloc, own, &*scope, e)?;
+            case_of(alloc, own, &*scope, alts.as_slice(), hint, t, u, e)
+        }
         NExpr::Cast(_, _) => Err(Memory),
         NExpr::Prim(_, _) => Err(Memory),
         NExpr::Fail(_) => Err(Memory),
@@ -125,7 +149,7 @@ fn named_below<'x>(
     e: &NExpr,
     hint: &Text,
 ) -> Result<Below, Memory>
-    ensures chosen { IfOk result (λ r. IsChosen own.now (words_of scope.now) hint.now (hexpr_of e.now) r.word) }
+    ensures chosen { IfOk result (λ r. IsChosen (hiding own.now (words_of scope.now) 1 (hexpr_of e.now)) hint.now r.word) }
     ensures named { IfOk result (λ r. IsNamed own.now (r.word ∷ words_of scope.now) (hexpr_of e.now) (expr_of r.body)) }
 {
     let word = chosen(alloc, hint, own, scope, e)?;
@@ -194,4 +218,89 @@ fn named_args<'x>(
         out.push(next)?;
     }
     Ok(out)
+}
+
+// CASES
+
+/// A case whose scrutinee is named.
+#[cycle(naming)]
+fn case_of<'x>(
+    alloc: Global,
+    own: &Text,
+    scope: &'x Scope<'x>,
+    alts: &[NAlt],
+    hint: &Text,
+    t: &NTy,
+    u: &NTy,
+    e: Expr,
+) -> Result<Expr, Memory>
+    ensures { IfOk result (λ r. (h : HExpr) → IsNamed own.now (words_of scope.now) h (expr_of e) → IsNamed own.now (words_of scope.now) (HCase h hint.now (nty_of t.now) (nty_of u.now) (halts_of alts.now)) (expr_of r)) }
+{
+    let t = named_ty(alloc, own, t)?;
+    let u = named_ty(alloc, own, u)?;
+    let word = chosen_in_alts(alloc, hint, own, scope, alts)?;
+    let alts = named_alts_below(alloc, own, &*scope, &word, alts)?;
+    Ok(Expr::Case(boxed(alloc, e)?, word, t, u, alts))
+}
+
+/// Alternatives below the binder of their case, which has this word.
+#[cycle(naming)]
+fn named_alts_below<'x>(
+    alloc: Global,
+    own: &Text,
+    scope: &'x Scope<'x>,
+    word: &'x Text,
+    alts: &[NAlt],
+) -> Result<Seq<Alt>, Memory>
+    ensures { IfOk result (λ r. AreNamedAlts own.now (word.now ∷ words_of scope.now) (halts_of alts.now) (alts_of r)) }
+{
+    let inner = Scope::Value(&*word, &*scope);
+    named_alts(alloc, own, &inner, alts)
+}
+
+#[cycle(naming)]
+fn named_alts<'x>(
+    alloc: Global,
+    own: &Text,
+    scope: &'x Scope<'x>,
+    alts: &[NAlt],
+) -> Result<Seq<Alt>, Memory>
+    ensures { IfOk result (λ r. AreNamedAlts own.now (words_of scope.now) (halts_of alts.now) (alts_of r)) }
+{
+    let mut out = Seq::new(alloc);
+    for alt in alts {
+        let next = named_alt(alloc, own, &*scope, alt)?;
+        out.push(next)?;
+    }
+    Ok(out)
+}
+
+#[cycle(naming)]
+fn named_alt<'x>(alloc: Global, own: &Text, scope: &'x Scope<'x>, alt: &NAlt) -> Result<Alt, Memory>
+    ensures { IfOk result (λ r. IsNamedAlt own.now (words_of scope.now) (halt_of alt.now) (alt_of r)) }
+{
+    let head = short_head(alloc, own, &alt.head)?;
+    let named = named_binders(alloc, own, &*scope, alt.binders.as_slice(), &alt.body)?;
+    let body = behind(alloc, own, &*scope, named.words.as_slice(), &alt.body)?;
+    let binders = named.binders;
+    Ok(Alt {
+        head,
+        binders,
+        body,
+    })
+}
+
+/// An expression below binders of these words, the outermost first.
+#[cycle(naming)]
+fn behind<'x>(
+    alloc: Global,
+    own: &Text,
+    scope: &'x Scope<'x>,
+    words: &'x [Text],
+    e: &NExpr,
+) -> Result<Expr, Memory>
+    ensures { IfOk result (λ r. IsNamed own.now (onto words.now (words_of scope.now)) (hexpr_of e.now) (expr_of r)) }
+{
+    let inner = Scope::Values(words, &*scope);
+    named(alloc, own, &inner, e)
 }

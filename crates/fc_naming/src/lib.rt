@@ -1,12 +1,11 @@
 //! From distances back to names: the named module in which a nameless one is written.
 #![tactic(auto)]
 
+mod binders;
 mod declarations;
 mod expressions;
 mod names;
 mod scope;
-#[cfg(test)]
-mod tests;
 mod uses;
 
 ghost use Rattle.std.specs.Prelude.{◌≡◌, IfOk};
@@ -47,8 +46,9 @@ fn is_among(words: &[Text], sought: &Text) -> bool
 /// The named module in which a nameless one is written, so that what was read and then changed without names, or not at all, is a
 /// text again. Each binder takes the word that it was read with, unless that would hide a name that is used in its scope, the
 /// chosen word of a binder further out or the word of a definition of the module; then it takes the first of `w_1`, `w_2` and so on
-/// that hides none. Binders further out choose first. Names of the module itself are written without a module. A form that is
-/// not built yet, a variable that is not in scope, and a module that imports itself are answered with want of memory.
+/// that hides none. Binders further out choose first, and two binders of one alternative take different words. Names of the module
+/// itself are written without a module. A form that is not built yet, a variable that is not in scope, and a module that imports
+/// itself are answered with want of memory.
 pub fn name_back(alloc: Global, m: &NModule) -> Result<Module, Memory>
     ensures named { IfOk result (λ r. IsNamedModule (hmodule_of m.now) (module_of r)) }
     ensures resolves { IfOk result (λ r. (m0 : Named) → Resolves m0 (nmodule_of m.now) → Resolves (module_of r) (nmodule_of m.now)) }

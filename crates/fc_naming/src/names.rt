@@ -2,10 +2,10 @@
 ghost use Rattle.std.specs.Prelude.{◌≡◌, is_none, IfOk};
 ghost use Rattle.fc_syntax.specs.View.{ty_of, tys_of};
 ghost use Rattle.fc_model.specs.NamelessView.{nty_of, ntys_of};
-ghost use Rattle.fc_naming.specs.Naming.{AreEach, IsNamedTy, outside, short};
+ghost use Rattle.fc_naming.specs.Naming.{AreEach, IsNamedTy, outside, short, short_head as is_short_head};
 
 use fc_model::NTy;
-use fc_syntax::{Memory, Name, Seq, Text, Ty};
+use fc_syntax::{Head, Memory, Name, Seq, Text, Ty};
 use std::alloc::Global;
 
 /// A part in a box.
@@ -42,6 +42,17 @@ pub fn short_name(alloc: Global, own: &Text, name: &Name) -> Result<Name, Memory
                 text,
             })
         }
+    }
+}
+
+/// What an alternative is for, as it is written in the module `own`.
+pub fn short_head(alloc: Global, own: &Text, head: &Head) -> Result<Head, Memory>
+    ensures { IfOk result (λ h. h ≡ is_short_head own.now head.now) }
+{
+    match head {
+        Head::Default => Ok(Head::Default),
+        Head::Lit(n) => Ok(Head::Lit(*n)),
+        Head::Con(name) => Ok(Head::Con(short_name(alloc, own, name)?)),
     }
 }
 

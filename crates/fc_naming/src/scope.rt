@@ -13,10 +13,12 @@ pub enum Scope<'a> {
     End,
     /// The word of the innermost one, and those around it.
     Value(&'a Text, &'a Scope<'a>),
+    /// The words of binders that stand together, the outermost first, and those around them.
+    Values(&'a [Text], &'a Scope<'a>),
 }
 
 /// The word of the binder at a distance. One that is not in scope is answered with want of memory.
-pub fn word(alloc: Global, scope: &Scope, distance: u32) -> Result<Text, Memory>
+pub fn word(alloc: Global, scope: &Scope, distance: usize) -> Result<Text, Memory>
     ensures { IfOk result (λ w. word_at (words_of scope.now) distance ≡ Some w) }
 {
     match scope {
@@ -28,11 +30,19 @@ pub fn word(alloc: Global, scope: &Scope, distance: u32) -> Result<Text, Memory>
                 word(alloc, rest, distance - 1)
             }
         }
+        Scope::Values(words, rest) => {
+            let many = words.len();
+            if distance < many {
+                words[many - 1 - distance].copy(alloc)
+            } else {
+                word(alloc, rest, distance - many)
+            }
+        }
     }
 }
 
 /// Whether the binder at a distance has this word. Takes no memory.
-fn is_at(scope: &Scope, distance: u32, sought: &Text) -> bool
+fn is_at(scope: &Scope, distance: usize, sought: &Text) -> bool
     ensures { result ≡ is_word sought.now (word_at (words_of scope.now) distance) }
 {
     match scope {
@@ -42,6 +52,14 @@ fn is_at(scope: &Scope, distance: u32, sought: &Text) -> bool
                 sought.as_str() == w.as_str()
             } else {
                 is_at(rest, distance - 1, sought)
+            }
+        }
+        Scope::Values(words, rest) => {
+            let many = words.len();
+            if distance < many {
+                sought.as_str() == words[many - 1 - distance].as_str()
+            } else {
+                is_at(rest, distance - many, sought)
             }
         }
     }
@@ -54,6 +72,7 @@ pub fn is_beyond(scope: &Scope, inside: u32, distance: u32, sought: &Text) -> bo
     if distance < inside {
         false
     } else {
-        is_at(scope, distance - inside, sought)
+        let outside = distance - inside;
+        is_at(scope, outside as usize, sought)
     }
 }

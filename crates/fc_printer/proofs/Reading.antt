@@ -17,7 +17,7 @@ use Rattle.fc_syntax.proofs.NameWords.{all_follows, name_is_plain, name_kind, na
 use Rattle.fc_lex.proofs.Printed.{literal_plain, printed_literal}
 use Rattle.fc_model.specs.declared.keyword.Keyword.{Keyword}
 use Rattle.fc_model.specs.declared.keyword.Keyword.TheVariants as word
-use Rattle.fc_model.specs.Words.{Tok, Open, Close, Key, Lower, Upper, Other, Literal, keyword_of, name_tok, tok_at, tok_of, tok_of_keyword, declaration_keyword, type_keyword, expression_keyword}
+use Rattle.fc_model.specs.Words.{Tok, Open, Close, Key, Lower, Upper, Other, Literal, keyword_of, name_tok, tok_at, tok_of, tok_of_keyword, declaration_keyword, type_keyword, expression_keyword, join_keyword}
 use Rattle.fc_model.specs.Canonical.{is_lower_word, is_upper_word, is_word, is_literal_formed, literal_text}
 
 -- wherever the text stands, its tokens are these to the grammar
@@ -110,6 +110,14 @@ lam_key text ts apart r = reads_token 108 (codes "am") text ts kind.Word refl (�
 pub let_key : (text : List ℕ) (ts : List Tok) → StartsApart text → Reads text ts → Reads (codes "let" ++ text) (Key word.Let ∷ ts)
 unfolding declaration_keyword type_keyword expression_keyword
 let_key text ts apart r = reads_token 108 (codes "et") text ts kind.Word refl (λ at. refl) apart r
+
+pub case_key : (text : List ℕ) (ts : List Tok) → StartsApart text → Reads text ts → Reads (codes "case" ++ text) (Key word.Case ∷ ts)
+unfolding declaration_keyword type_keyword expression_keyword
+case_key text ts apart r = reads_token 99 (codes "ase") text ts kind.Word refl (λ at. refl) apart r
+
+pub default_key : (text : List ℕ) (ts : List Tok) → StartsApart text → Reads text ts → Reads (codes "default" ++ text) (Key word.Default ∷ ts)
+unfolding declaration_keyword type_keyword expression_keyword join_keyword
+default_key text ts apart r = reads_token 100 (codes "efault") text ts kind.Word refl (λ at. refl) apart r
 
 -- a word that is a name
 no_keyword : (o : Option Keyword) (w : Word) → is_none o ≡ true → tok_of_keyword o w ≡ name_tok w

@@ -4,19 +4,24 @@ use Rattle.std.specs.Prelude.{◌&&◌, is_none}
 use Rattle.std.specs.List.{list_all}
 use Rattle.std.proofs.lemmas.Bool.{and_parts, true≢false}
 use Rattle.fc_syntax.specs.declared.ty.Name.{Name}
+use Rattle.fc_syntax.specs.declared.expr.Head.{Head}
+use Rattle.fc_syntax.specs.declared.expr.Head.TheVariants as head
 use Rattle.fc_syntax.specs.Tree.{Word, Ty, TVar, TCon, TInt, TApp, TFun, TForall, TCoForall}
-use Rattle.fc_syntax.specs.Tree.{Expr, EVar, ELit, EApp, ELam, ELet, ECon, Args, NoArgs, MoreArgs, ATerm, AType, ACo, Binder, BValue, BType, BCo, Bound, NoBinds, MoreBinds}
+use Rattle.fc_syntax.specs.Tree.{Expr, EVar, ELit, EApp, ELam, ELet, ECase, ECon, Args, NoArgs, MoreArgs, ATerm, AType, ACo, Binder, BValue, BType, BCo, Bound, NoBinds, MoreBinds}
+use Rattle.fc_syntax.specs.Tree.{Alt, Branch, Alts, NoAlts, MoreAlts}
 use Rattle.fc_syntax.specs.Tree.{ConDecl, ConOf, Decl, DData, DDef}
 use Rattle.fc_syntax.proofs.Lexing.{StartsApart}
 use Rattle.fc_model.specs.declared.keyword.Keyword.TheVariants as word
 use Rattle.fc_model.specs.Words.{Tok, Open, Close, Key, Lower, Upper, Literal}
 use Rattle.fc_model.specs.Texts.{plain_name, functions, TypeAt, type_con, type_int, type_fun, TypesAt, types_end, types_more, ConAt, con_at, ConsAt, cons_end, cons_more}
 use Rattle.fc_model.specs.Texts.{BinderAt, binder_value, BindersAt, binders_end, binders_more, applications, lambdas}
-use Rattle.fc_model.specs.Texts.{ExprAt, expr_var, expr_lit, expr_con, expr_app, expr_lam, expr_let, ArgsAt, args_end, args_more, DeclAt, decl_data, decl_def, DeclsAt, decls_end, decls_more}
+use Rattle.fc_model.specs.Texts.{AltAt, alt_default, alt_literal, alt_con, AltsAt, alts_end, alts_more}
+use Rattle.fc_model.specs.Texts.{ExprAt, expr_var, expr_lit, expr_con, expr_app, expr_lam, expr_let, expr_case, ArgsAt, args_end, args_more, DeclAt, decl_data, decl_def, DeclsAt, decls_end, decls_more}
 use Rattle.fc_model.specs.Canonical.{Result, AsHead, Body, type_at, type_text, types_text, binder_text, expr_at, expr_text, args_text, con_text, cons_text, decl_text, decls_text}
-use Rattle.fc_model.specs.Canonical.{is_upper_word, is_lower_word, is_literal_formed, is_type_formed, is_binder_formed, is_expr_formed, are_args_formed, is_con_formed, is_decl_formed}
+use Rattle.fc_model.specs.Canonical.{alt_text, alts_text, binders_text, literal_text, more_binders_text}
+use Rattle.fc_model.specs.Canonical.{is_head_formed, are_alts_formed, is_head_built, are_alts_built, is_upper_word, is_lower_word, is_literal_formed, is_type_formed, is_binder_formed, is_expr_formed, are_args_formed, is_con_formed, is_decl_formed}
 use Rattle.fc_model.specs.Canonical.{is_name_built, is_type_built, is_binder_built, is_expr_built, are_args_built, is_con_built, is_decl_built}
-use Rattle.fc_printer.proofs.Reading.{Reads, reads_close, reads_line_feed, reads_literal, reads_lower, reads_open, reads_space, reads_upper, app_key, con_key, data_key, def_key, fun_key, int_key, lam_key, let_key}
+use Rattle.fc_printer.proofs.Reading.{Reads, reads_close, reads_line_feed, reads_literal, reads_lower, reads_open, reads_space, reads_upper, app_key, case_key, con_key, data_key, def_key, default_key, fun_key, int_key, lam_key, let_key}
 
 -- a text whose tokens are so
 pub record Begins (text : List ℕ) (Is : List Tok → Type 0) : Type 0 where
@@ -134,6 +139,27 @@ begins_binder (BValue x t) built formed text us r =
     begins_as (ap (λ y. 40 ∷ y) e) (record { toks = _; reads = reads_open _ _ named; are = binder_value ty.are })
 begins_binder (BType a k) built formed text us r = absurd (true≢false (sym built))
 begins_binder (BCo c k t u) built formed text us r = absurd (true≢false (sym built))
+
+begins_more_binders : (bs : List Binder) → list_all is_binder_built bs ≡ true → list_all is_binder_formed bs ≡ true → (text : List ℕ) (us : List Tok) → Reads text us
+    → Begins (more_binders_text bs ++ (41 ∷ text)) (λ ts. BindersAt ts bs us)
+begins_more_binders [] built formed text us r = record { toks = Close ∷ us; reads = reads_close text us r; are = binders_end }
+begins_more_binders (b ∷ bs) built formed text us r =
+    let p = and_parts (is_binder_built b) (list_all is_binder_built bs) built in
+    let q = and_parts (is_binder_formed b) (list_all is_binder_formed bs) formed in
+    let others = begins_more_binders bs p.1 q.1 text us r in
+    let first = begins_binder b p.0 q.0 (more_binders_text bs ++ (41 ∷ text)) others.toks others.reads in
+    begins_as (ap (λ x. 32 ∷ x) (append_assoc (binder_text b) (more_binders_text bs) (41 ∷ text)))
+    (record { toks = first.toks; reads = reads_space _ _ first.reads; are = binders_more first.are others.are })
+
+begins_binders : (bs : List Binder) → list_all is_binder_built bs ≡ true → list_all is_binder_formed bs ≡ true → (text : List ℕ) (us : List Tok) → Reads text us
+    → Begins (binders_text bs ++ (41 ∷ text)) (λ ts. BindersAt ts bs us)
+begins_binders [] built formed text us r = record { toks = Close ∷ us; reads = reads_close text us r; are = binders_end }
+begins_binders (b ∷ bs) built formed text us r =
+    let p = and_parts (is_binder_built b) (list_all is_binder_built bs) built in
+    let q = and_parts (is_binder_formed b) (list_all is_binder_formed bs) formed in
+    let others = begins_more_binders bs p.1 q.1 text us r in
+    let first = begins_binder b p.0 q.0 (more_binders_text bs ++ (41 ∷ text)) others.toks others.reads in
+    begins_as (append_assoc (binder_text b) (more_binders_text bs) (41 ∷ text)) (record { toks = first.toks; reads = first.reads; are = binders_more first.are others.are })
 
 -- the text of an expression by itself
 abbrev SpellsAlone : Expr → Type 0
@@ -260,6 +286,76 @@ spells_let x t d e named built formed h k text us apart r =
     begins_as (ap (λ y. codes "(let (" ++ y) (bind_text x (type_text t) (expr_text d) (expr_text e) text))
     (record { toks = _; reads = reads_open _ _ (let_key _ _ refl (reads_space _ _ (reads_open _ _ first))); are = expr_let ty.are right.are last.are })
 
+-- alternatives
+abbrev SpellsAlt : Alt → Type 0
+SpellsAlt a = (text : List ℕ) (us : List Tok) → Reads text us → Begins (alt_text a ++ text) (λ ts. AltAt ts a us)
+
+abbrev SpellsAlts : Alts → Type 0
+SpellsAlts alts = (text : List ℕ) (us : List Tok) → Reads text us → Begins (alts_text alts ++ (41 ∷ text)) (λ ts. AltsAt ts alts us)
+
+alts_apart : (alts : Alts) (text : List ℕ) → StartsApart (alts_text alts ++ (41 ∷ text))
+alts_apart NoAlts text = refl
+alts_apart (MoreAlts a alts) text = refl
+
+con_alt_text : (k bs e text : List ℕ) → ((k ++ (codes " (" ++ (bs ++ codes ")"))) ++ (32 ∷ (e ++ codes ")"))) ++ text ≡ k ++ (codes " (" ++ (bs ++ (41 ∷ (32 ∷ (e ++ (41 ∷ text))))))
+con_alt_text k bs e text = simp append_assoc
+
+spells_default : (e : Expr) → SpellsAlone e → SpellsAlt (Branch head.Default [] e)
+spells_default e h text us r =
+    let last = h (41 ∷ text) (Close ∷ us) refl (reads_close text us r) in
+    begins_as (ap (λ x. codes "(default " ++ x) (closed (expr_text e) text))
+    (record { toks = _; reads = reads_open _ _ (default_key _ _ refl (reads_space _ _ last.reads)); are = alt_default last.are })
+
+spells_literal : (n : ℤ) (e : Expr) → is_literal_formed n ≡ true → SpellsAlone e → SpellsAlt (Branch (head.Lit n) [] e)
+spells_literal n e formed h text us r =
+    let last = h (41 ∷ text) (Close ∷ us) refl (reads_close text us r) in
+    let q : (literal_text n ++ (32 ∷ (expr_text e ++ codes ")"))) ++ text ≡ literal_text n ++ (32 ∷ (expr_text e ++ (41 ∷ text))) =
+    append_assoc (literal_text n) (32 ∷ (expr_text e ++ codes ")")) text ∙ ap (λ x. literal_text n ++ (32 ∷ x)) (closed (expr_text e) text) in
+    begins_as (ap (λ x. codes "(" ++ x) q)
+    (record { toks = _; reads = reads_open _ _ (reads_literal n _ _ formed refl (reads_space _ _ last.reads)); are = alt_literal last.are })
+
+spells_con_alt : (n : Name) (bs : List Binder) (e : Expr) → is_name_built n ≡ true → list_all is_binder_built bs ≡ true → is_upper_word n.text ≡ true
+    → list_all is_binder_formed bs ≡ true → SpellsAlone e → SpellsAlt (Branch (head.Con n) bs e)
+spells_con_alt n bs e built bs_built formed bs_formed h text us r =
+    let last = h (41 ∷ text) (Close ∷ us) refl (reads_close text us r) in
+    let binders = begins_binders bs bs_built bs_formed (32 ∷ (expr_text e ++ (41 ∷ text))) last.toks (reads_space _ _ last.reads) in
+    let named = reads_upper n.text _ _ formed refl (reads_space _ _ (reads_open _ _ binders.reads)) in
+    subst (λ m. Begins (alt_text (Branch (head.Con n) bs e) ++ text) (λ ts. AltAt ts (Branch (head.Con m) bs e) us)) (name_is_plain n.module n.text built)
+    (begins_as (ap (λ x. codes "(" ++ x) (con_alt_text n.text (binders_text bs) (expr_text e) text))
+    (record { toks = _; reads = reads_open _ _ named; are = alt_con binders.are last.are }))
+
+spells_alt : (h : Head) (bs : List Binder) (e : Expr) → is_head_built h bs ≡ true → is_head_formed h ≡ true → list_all is_binder_formed bs ≡ true → SpellsAlone e
+    → SpellsAlt (Branch h bs e)
+spells_alt head.Default [] e built formed bs_formed s = spells_default e s
+spells_alt head.Default (b ∷ bs) e built formed bs_formed s = absurd (true≢false (sym built))
+spells_alt (head.Lit n) [] e built formed bs_formed s = spells_literal n e formed s
+spells_alt (head.Lit n) (b ∷ bs) e built formed bs_formed s = absurd (true≢false (sym built))
+spells_alt (head.Con n) bs e built formed bs_formed s =
+    let b = and_parts (is_name_built n) (list_all is_binder_built bs) built in spells_con_alt n bs e b.0 b.1 formed bs_formed s
+
+spells_more_alts : (a : Alt) (alts : Alts) → SpellsAlt a → SpellsAlts alts → SpellsAlts (MoreAlts a alts)
+spells_more_alts a alts h k text us r =
+    let others = k text us r in
+    let first = h (alts_text alts ++ (41 ∷ text)) others.toks others.reads in
+    begins_as (ap (λ x. 32 ∷ x) (append_assoc (alt_text a) (alts_text alts) (41 ∷ text)))
+    (record { toks = first.toks; reads = reads_space _ _ first.reads; are = alts_more first.are others.are })
+
+-- a case
+case_text : (e x t u alts text : List ℕ) → (e ++ (codes " (" ++ (x ++ (32 ∷ (t ++ (codes ") " ++ (u ++ (alts ++ codes ")")))))))) ++ text
+    ≡ e ++ (codes " (" ++ (x ++ (32 ∷ (t ++ (codes ") " ++ (u ++ (alts ++ (41 ∷ text))))))))
+case_text e x t u alts text = simp append_assoc
+
+spells_case : (e : Expr) (x : Word) (t u : Ty) (alts : Alts) → SpellsAlone e → is_lower_word x ≡ true → is_type_built t ≡ true → is_type_formed t ≡ true
+    → is_type_built u ≡ true → is_type_formed u ≡ true → SpellsAlts alts → SpellsAlone (ECase e x t u alts)
+spells_case e x t u alts h named t_built t_formed u_built u_formed k text us apart r =
+    let inner = k text us r in
+    let result = begins_type u u_built u_formed _ _ (alts_apart alts text) inner.reads in
+    let ty = begins_type t t_built t_formed _ _ refl (reads_close _ _ (reads_space _ _ result.reads)) in
+    let binder = reads_lower x _ _ named refl (reads_space _ _ ty.reads) in
+    let first = h _ _ refl (reads_space _ _ (reads_open _ _ binder)) in
+    begins_as (ap (λ y. codes "(case " ++ y) (case_text (expr_text e) x (type_text t) (type_text u) (alts_text alts) text))
+    (record { toks = _; reads = reads_open _ _ (case_key _ _ refl (reads_space _ _ first.reads)); are = expr_case first.are ty.are result.are inner.are })
+
 -- expressions
 mutual
   spells_expr : (e : Expr) → is_expr_built e ≡ true → is_expr_formed e ≡ true → SpellsAnywhere e
@@ -295,6 +391,17 @@ mutual
       let he = spells_expr e b.1 p.1 in
       let h = spells_let x t d e p'.0 b'.0 p''.0 hd.alone he.alone in
       record { alone = h; head = head_alone (ELet false (MoreBinds (Bound x t d) NoBinds) e) h; body = body_alone (ELet false (MoreBinds (Bound x t d) NoBinds) e) h }
+  spells_expr (ECase e x t u alts) built formed =
+      let b = and_parts (is_expr_built e) ((is_type_built t && is_type_built u) && are_alts_built alts) built in
+      let b' = and_parts (is_type_built t && is_type_built u) (are_alts_built alts) b.1 in
+      let b'' = and_parts (is_type_built t) (is_type_built u) b'.0 in
+      let p = and_parts (is_expr_formed e) ((is_lower_word x && (is_type_formed t && is_type_formed u)) && are_alts_formed alts) formed in
+      let p' = and_parts (is_lower_word x && (is_type_formed t && is_type_formed u)) (are_alts_formed alts) p.1 in
+      let p'' = and_parts (is_lower_word x) (is_type_formed t && is_type_formed u) p'.0 in
+      let q = and_parts (is_type_formed t) (is_type_formed u) p''.1 in
+      let he = spells_expr e b.0 p.0 in
+      let h = spells_case e x t u alts he.alone p''.0 b''.0 q.0 b''.1 q.1 (spells_alts alts b'.1 p'.1) in
+      record { alone = h; head = head_alone (ECase e x t u alts) h; body = body_alone (ECase e x t u alts) h }
   spells_expr e built formed = absurd (true≢false (sym built))
 
   spells_args : (args : Args) → are_args_built args ≡ true → are_args_formed args ≡ true → SpellsArgs args
@@ -305,6 +412,16 @@ mutual
       spells_more e args (spells_expr e b.0 f.0).alone (spells_args args b.1 f.1)
   spells_args (MoreArgs (AType t) args) built formed = absurd (true≢false (sym built))
   spells_args (MoreArgs (ACo g) args) built formed = absurd (true≢false (sym built))
+
+  spells_alts : (alts : Alts) → are_alts_built alts ≡ true → are_alts_formed alts ≡ true → SpellsAlts alts
+  spells_alts NoAlts built formed = λ text us r. record { toks = Close ∷ us; reads = reads_close text us r; are = alts_end }
+  spells_alts (MoreAlts (Branch h bs e) alts) built formed =
+      let b = and_parts (is_head_built h bs && is_expr_built e) (are_alts_built alts) built in
+      let b' = and_parts (is_head_built h bs) (is_expr_built e) b.0 in
+      let f = and_parts ((is_head_formed h && list_all is_binder_formed bs) && is_expr_formed e) (are_alts_formed alts) formed in
+      let f' = and_parts (is_head_formed h && list_all is_binder_formed bs) (is_expr_formed e) f.0 in
+      let f'' = and_parts (is_head_formed h) (list_all is_binder_formed bs) f'.0 in
+      spells_more_alts (Branch h bs e) alts (spells_alt h bs e b'.0 f''.0 f''.1 (spells_expr e b'.1 f'.1).alone) (spells_alts alts b.1 f.1)
 
 -- constructors of a data type
 begins_con : (c : ConDecl) → is_con_built c ≡ true → is_con_formed c ≡ true → (text : List ℕ) (us : List Tok) → Reads text us

@@ -4,8 +4,6 @@
 mod decls;
 mod exprs;
 mod header;
-#[cfg(test)]
-mod tests;
 mod types;
 
 ghost use Rattle.std.specs.Prelude.{◌≡◌, IfOk};

@@ -1,11 +1,12 @@
 -- Each text of the grammar stands in front of what follows it, whatever that is.
 use Rattle.std.proofs.Common.{◌≡◌, List, [], ◌∷◌, ◌++◌, refl, sym, ap, ◌∙◌, subst, append_assoc}
-use Rattle.fc_syntax.specs.Tree.{Word, Ty, ConDecl, Binder, Expr, Args, Decl, DDef, Module}
+use Rattle.fc_syntax.specs.Tree.{Word, Ty, ConDecl, Binder, Expr, Args, Alt, Alts, Decl, DDef, Module}
 use Rattle.fc_model.specs.declared.keyword.Keyword.TheVariants as word
 use Rattle.fc_model.specs.Words.{Tok, Open, Close, Key, Lower, Upper, Literal}
 use Rattle.fc_model.specs.Texts.{NamesAt, names_end, names_lower, names_upper, TypeAt, type_con, type_int, type_fun, TypesAt, types_end, types_more, ConAt, con_at, ConsAt, cons_end, cons_more}
 use Rattle.fc_model.specs.Texts.{BinderAt, binder_value, BindersAt, binders_end, binders_more}
-use Rattle.fc_model.specs.Texts.{ExprAt, expr_var, expr_lit, expr_con, expr_app, expr_lam, expr_let, ArgsAt, args_end, args_more, DeclAt, decl_data, decl_def, DeclsAt, decls_end, decls_more}
+use Rattle.fc_model.specs.Texts.{ExprAt, expr_var, expr_lit, expr_con, expr_app, expr_lam, expr_let, expr_case, ArgsAt, args_end, args_more, DeclAt, decl_data, decl_def, DeclsAt, decls_end, decls_more}
+use Rattle.fc_model.specs.Texts.{AltAt, alt_default, alt_literal, alt_con, AltsAt, alts_end, alts_more}
 use Rattle.fc_model.specs.Texts.{BodyAt, body_hidden, body_plain, ModuleAt, module_at}
 use Rattle.fc_model.specs.Texts.{SomeDeclsAt, no_decls, some_decls, SomeBodyAt, some_hidden, some_plain, BeginsWithDecls, begins_with}
 
@@ -44,12 +45,15 @@ both {P = P} {Q = Q} p q = then {R = Both P Q} (λ a b c d e. (b, d, e)) p q
 behind : {P R : List Tok → List Tok → Type 0} {ts rest : List Tok} (ws : List Tok) → Cut P ts rest → ((a b : List Tok) → P a b → R (ws ++ a) b) → Cut R (ws ++ ts) rest
 behind ws p f = ahead ws f p
 
-closing : {P : List Tok → List Tok → Type 0} {ts rest : List Tok} → Cut P ts (Close ∷ rest) → Cut (λ a b. P a (Close ∷ b)) ts rest
-closing {P = P} {rest = rest} p = record {
-  front = p.front ++ Close ∷ [];
-  parts = p.parts ∙ sym (append_assoc p.front (Close ∷ []) rest);
-  reads = λ r. at_on P (Close ∷ r) (append_assoc p.front (Close ∷ []) r) (p.reads (Close ∷ r));
+ending : {P : List Tok → List Tok → Type 0} {ts rest : List Tok} (ws : List Tok) → Cut P ts (ws ++ rest) → Cut (λ a b. P a (ws ++ b)) ts rest
+ending {P = P} {rest = rest} ws p = record {
+  front = p.front ++ ws;
+  parts = p.parts ∙ sym (append_assoc p.front ws rest);
+  reads = λ r. at_on P (ws ++ r) (append_assoc p.front ws r) (p.reads (ws ++ r));
 }
+
+closing : {P : List Tok → List Tok → Type 0} {ts rest : List Tok} → Cut P ts (Close ∷ rest) → Cut (λ a b. P a (Close ∷ b)) ts rest
+closing p = ending (Close ∷ []) p
 
 pub names_cut : {ts rest : List Tok} {ns : List Word} → NamesAt ts ns rest → Cut (λ a b. NamesAt a ns b) ts rest
 names_cut names_end = leaf (Close ∷ []) (λ r. names_end)
@@ -90,10 +94,21 @@ mutual
       behind (Open ∷ Key word.Lam ∷ Open ∷ []) (both (binder_cut b) (both (binders_cut bs) (closing (expr_cut e)))) (λ a b p. expr_lam p.1 p.2.1 p.2.2)
   expr_cut (expr_let {x = x} t d e) =
       behind (Open ∷ Key word.Let ∷ Open ∷ Lower x ∷ []) (both (type_cut t) (both (closing (expr_cut d)) (closing (expr_cut e)))) (λ a b p. expr_let p.1 p.2.1 p.2.2)
+  expr_cut (expr_case {x = x} e t u d) =
+      behind (Open ∷ Key word.Case ∷ []) (both (ending (Open ∷ Lower x ∷ []) (expr_cut e)) (both (closing (type_cut t)) (both (type_cut u) (alts_cut d)))) (λ a b p. expr_case p.1 p.2.1 p.2.2.1 p.2.2.2)
 
   args_cut : {ts rest : List Tok} {args : Args} → ArgsAt ts args rest → Cut (λ a b. ArgsAt a args b) ts rest
   args_cut args_end = leaf (Close ∷ []) (λ r. args_end)
   args_cut (args_more e d) = then (λ a b c p q. args_more p q) (expr_cut e) (args_cut d)
+
+  alt_cut : {ts rest : List Tok} {alt : Alt} → AltAt ts alt rest → Cut (λ a b. AltAt a alt b) ts rest
+  alt_cut (alt_default e) = behind (Open ∷ Key word.Default ∷ []) (closing (expr_cut e)) (λ a b p. alt_default p)
+  alt_cut (alt_literal {n = n} e) = behind (Open ∷ Literal n ∷ []) (closing (expr_cut e)) (λ a b p. alt_literal p)
+  alt_cut (alt_con {k = k} bs e) = behind (Open ∷ Upper k ∷ Open ∷ []) (both (binders_cut bs) (closing (expr_cut e))) (λ a b p. alt_con p.1 p.2)
+
+  alts_cut : {ts rest : List Tok} {alts : Alts} → AltsAt ts alts rest → Cut (λ a b. AltsAt a alts b) ts rest
+  alts_cut alts_end = leaf (Close ∷ []) (λ r. alts_end)
+  alts_cut (alts_more alt d) = then (λ a b c p q. alts_more p q) (alt_cut alt) (alts_cut d)
 
 pub decl_cut : {ts rest : List Tok} {d : Decl} → DeclAt ts d rest → Cut (λ a b. DeclAt a d b) ts rest
 decl_cut (decl_data {n = n} d) = ahead (Open ∷ Key word.Data ∷ Upper n ∷ Open ∷ Close ∷ []) (λ a b p. decl_data p) (cons_cut d)

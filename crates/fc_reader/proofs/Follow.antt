@@ -1,14 +1,15 @@
 -- Texts of the grammar are taken by the machine.
 use Rattle.std.proofs.Common.{◌≡◌, ℕ, suc, Bool, true, List, [], ◌∷◌, ◌++◌, length, Option, Some, None, if◌then◌else◌, refl, ap, ◌∙◌}
-use Rattle.fc_syntax.specs.Tree.{Word, Ty, ConDecl, Binder, Expr, Args, Decl, Module}
+use Rattle.fc_syntax.specs.Tree.{Word, Ty, ConDecl, Binder, Expr, Args, Alt, Alts, Decl, Module}
 use Rattle.fc_syntax.specs.Tokens.{is_module_part}
 use Rattle.fc_model.specs.Words.{Tok, Open, Close, Key, Upper}
 use Rattle.fc_model.specs.declared.keyword.Keyword.TheVariants as word
 use Rattle.fc_model.specs.Texts.{NamesAt, names_end, names_lower, names_upper, TypeAt, type_con, type_int, type_fun, TypesAt, types_end, types_more, ConAt, con_at, ConsAt, cons_end, cons_more}
 use Rattle.fc_model.specs.Texts.{BinderAt, binder_value, BindersAt, binders_end, binders_more}
-use Rattle.fc_model.specs.Texts.{ExprAt, expr_var, expr_lit, expr_con, expr_app, expr_lam, expr_let, ArgsAt, args_end, args_more, DeclAt, decl_data, decl_def, DeclsAt, decls_end, decls_more}
+use Rattle.fc_model.specs.Texts.{ExprAt, expr_var, expr_lit, expr_con, expr_app, expr_lam, expr_let, expr_case, ArgsAt, args_end, args_more, DeclAt, decl_data, decl_def, DeclsAt, decls_end, decls_more}
+use Rattle.fc_model.specs.Texts.{AltAt, alt_default, alt_literal, alt_con, AltsAt, alts_end, alts_more}
 use Rattle.fc_model.specs.Texts.{BodyAt, body_hidden, body_plain, ModuleAt, module_at}
-use Rattle.fc_reader.specs.Machine.{Want, AModule, AHeader, AModuleName, AnImportsWord, AnExportsWord, AnOpen, AClose, Names, Body, Decls, ADecl, Cons, ACon, Types, AType, ABinder, Binders, AnExpr, Arguments, next, stuck}
+use Rattle.fc_reader.specs.Machine.{Want, AModule, AHeader, AModuleName, AnImportsWord, AnExportsWord, AnOpen, AClose, Names, Body, Decls, ADecl, Cons, ACon, Types, AType, ABinder, Binders, AnExpr, Arguments, ACaseBinder, Alternatives, AnAlternative, next, stuck}
 use Rattle.fc_reader.specs.Header.{HeaderAt, header_at}
 
 -- a step of the machine, by what is next
@@ -63,6 +64,12 @@ args_go_on (expr_con d) s = refl
 args_go_on (expr_app f a d) s = refl
 args_go_on (expr_lam b bs e) s = refl
 args_go_on (expr_let t d e) s = refl
+args_go_on (expr_case e t u d) s = refl
+
+alts_go_on : {ts rest : List Tok} {a : Alt} → AltAt ts a rest → (s : List Want) → stuck (Alternatives ∷ s) ts ≡ stuck (AnAlternative ∷ Alternatives ∷ s) ts
+alts_go_on (alt_default e) s = refl
+alts_go_on (alt_literal e) s = refl
+alts_go_on (alt_con bs e) s = refl
 
 mutual
   pub expr_taken : {ts rest : List Tok} {e : Expr} → ExprAt ts e rest → (s : List Want) → stuck (AnExpr ∷ s) ts ≡ stuck s rest
@@ -72,10 +79,20 @@ mutual
   expr_taken (expr_app f a d) s = expr_taken f (AnExpr ∷ Arguments ∷ s) ∙ expr_taken a (Arguments ∷ s) ∙ args_taken d s
   expr_taken (expr_lam b bs e) s = binder_taken b (Binders ∷ AnExpr ∷ AClose ∷ s) ∙ binders_taken bs (AnExpr ∷ AClose ∷ s) ∙ expr_taken e (AClose ∷ s)
   expr_taken (expr_let t d e) s = type_taken t (AnExpr ∷ AClose ∷ AnExpr ∷ AClose ∷ s) ∙ expr_taken d (AClose ∷ AnExpr ∷ AClose ∷ s) ∙ expr_taken e (AClose ∷ s)
+  expr_taken (expr_case e t u d) s = expr_taken e (ACaseBinder ∷ Alternatives ∷ s) ∙ type_taken t (AClose ∷ AType ∷ Alternatives ∷ s) ∙ type_taken u (Alternatives ∷ s) ∙ alts_taken d s
 
   pub args_taken : {ts rest : List Tok} {args : Args} → ArgsAt ts args rest → (s : List Want) → stuck (Arguments ∷ s) ts ≡ stuck s rest
   args_taken args_end s = refl
   args_taken (args_more e d) s = args_go_on e s ∙ expr_taken e (Arguments ∷ s) ∙ args_taken d s
+
+  pub alt_taken : {ts rest : List Tok} {a : Alt} → AltAt ts a rest → (s : List Want) → stuck (AnAlternative ∷ s) ts ≡ stuck s rest
+  alt_taken (alt_default e) s = expr_taken e (AClose ∷ s)
+  alt_taken (alt_literal e) s = expr_taken e (AClose ∷ s)
+  alt_taken (alt_con bs e) s = binders_taken bs (AnExpr ∷ AClose ∷ s) ∙ expr_taken e (AClose ∷ s)
+
+  pub alts_taken : {ts rest : List Tok} {alts : Alts} → AltsAt ts alts rest → (s : List Want) → stuck (Alternatives ∷ s) ts ≡ stuck s rest
+  alts_taken alts_end s = refl
+  alts_taken (alts_more a d) s = alts_go_on a s ∙ alt_taken a (Alternatives ∷ s) ∙ alts_taken d s
 
 pub decl_taken : {ts rest : List Tok} {d : Decl} → DeclAt ts d rest → (s : List Want) → stuck (ADecl ∷ s) ts ≡ stuck s rest
 decl_taken (decl_data d) s = cons_taken d s

@@ -8,17 +8,18 @@ use Rattle.fc_lex.proofs.Literals.{literal_parses}
 use Rattle.fc_syntax.specs.declared.fault.FaultKind.TheVariants as fault
 use Rattle.fc_syntax.specs.declared.token.TokenKind.{TokenKind}
 use Rattle.fc_syntax.specs.declared.token.TokenKind.TheVariants as kind
-use Rattle.fc_syntax.specs.Tree.{Word, Ty, ConDecl, Binder, Expr, EApp, ATerm, Args, NoArgs, MoreArgs, Decl, Module}
+use Rattle.fc_syntax.specs.Tree.{Word, Ty, ConDecl, Binder, Expr, EApp, ATerm, Args, NoArgs, MoreArgs, Alt, Alts, Decl, Module}
 use Rattle.fc_syntax.specs.Tokens.{ByteFault, ByteClass, Blank, LineFeed, Opening, Closing, Semicolon, Plain, Foreign, Lexeme, Before, InComment, Passes, IsBracket, StartsWord, Breaks, Move, Between, InWord, byte_class, move, lexed, is_plain, word_kind, word_lexeme, as_lexeme, then_lexemes, tokens_of}
 use Rattle.fc_syntax.specs.Tokens.{is_in_range, is_literal, is_lower_name, is_name, is_number, is_sign, is_upper_name, literal_value}
 use Rattle.fc_model.specs.declared.keyword.Keyword.{Keyword}
 use Rattle.fc_model.specs.Words.{Tok, Lower, Upper, Literal, Other, keyword_of, tok_of_keyword, tok_at, tok_of}
 use Rattle.fc_model.specs.Texts.{NamesAt, names_end, names_lower, names_upper, TypeAt, type_con, type_int, type_fun, TypesAt, types_end, types_more, ConAt, con_at, ConsAt, cons_end, cons_more}
 use Rattle.fc_model.specs.Texts.{BinderAt, binder_value, BindersAt, binders_end, binders_more, functions, applications, lambdas}
-use Rattle.fc_model.specs.Texts.{ExprAt, expr_var, expr_lit, expr_con, expr_app, expr_lam, expr_let, ArgsAt, args_end, args_more, DeclAt, decl_data, decl_def, DeclsAt, decls_end, decls_more}
+use Rattle.fc_model.specs.Texts.{ExprAt, expr_var, expr_lit, expr_con, expr_app, expr_lam, expr_let, expr_case, ArgsAt, args_end, args_more, DeclAt, decl_data, decl_def, DeclsAt, decls_end, decls_more}
+use Rattle.fc_model.specs.Texts.{AltAt, alt_default, alt_literal, alt_con, AltsAt, alts_end, alts_more}
 use Rattle.fc_model.specs.Texts.{BodyAt, body_hidden, body_plain, ModuleAt, module_at, Spells}
-use Rattle.fc_model.specs.Canonical.{is_word, is_lower_word, is_upper_word, is_literal_formed, is_type_formed, is_binder_formed, is_expr_formed, is_arg_formed, are_args_formed, is_con_formed, is_decl_formed, IsFormed}
-use Rattle.fc_model.specs.Canonical.{is_type_built, is_binder_built, is_expr_built, is_arg_built, are_args_built, is_con_built, is_decl_built, IsBuilt}
+use Rattle.fc_model.specs.Canonical.{is_word, is_lower_word, is_upper_word, is_literal_formed, is_type_formed, is_binder_formed, is_expr_formed, is_arg_formed, are_args_formed, is_alt_formed, are_alts_formed, is_con_formed, is_decl_formed, IsFormed}
+use Rattle.fc_model.specs.Canonical.{is_type_built, is_binder_built, is_expr_built, is_arg_built, are_args_built, is_alt_built, are_alts_built, is_con_built, is_decl_built, IsBuilt}
 
 -- a name is one that is no word of a form, and a literal is in range
 abbrev IsGood : Tok → Type 0
@@ -240,10 +241,25 @@ mutual
       let q = formed_expr dd p.1 in
       let r = formed_expr de q.1.1 in
       (both (both (both h (both p.0 q.0)) refl) r.0, r.1.1)
+  formed_expr (expr_case de dt du d) (_, (_, g)) =
+      let p = formed_expr de g in
+      let q = formed_type dt p.1.1.1 in
+      let r = formed_type du q.1.1 in
+      let s = formed_alts d r.1 in
+      (both p.0 (both (both p.1.1.0 (both q.0 r.0)) s.0), s.1)
 
   formed_args : {ts rest : List Tok} {args : Args} → ArgsAt ts args rest → AreGood ts → (are_args_formed args ≡ true) × AreGood rest
   formed_args args_end (_, g) = (refl, g)
   formed_args (args_more e d) g = let p = formed_expr e g in let q = formed_args d p.1 in (both p.0 q.0, q.1)
+
+  formed_alt : {ts rest : List Tok} {a : Alt} → AltAt ts a rest → AreGood ts → (is_alt_formed a ≡ true) × AreGood rest
+  formed_alt (alt_default e) (_, (_, g)) = let p = formed_expr e g in (p.0, p.1.1)
+  formed_alt (alt_literal e) (_, (h, g)) = let p = formed_expr e g in (both (both h refl) p.0, p.1.1)
+  formed_alt (alt_con bs e) (_, (h, (_, g))) = let p = formed_binders bs g in let q = formed_expr e p.1 in (both (both h p.0) q.0, q.1.1)
+
+  formed_alts : {ts rest : List Tok} {alts : Alts} → AltsAt ts alts rest → AreGood ts → (are_alts_formed alts ≡ true) × AreGood rest
+  formed_alts alts_end (_, g) = (refl, g)
+  formed_alts (alts_more a d) g = let p = formed_alt a g in let q = formed_alts d p.1 in (both p.0 q.0, q.1)
 
 formed_decl : {ts rest : List Tok} {d : Decl} → DeclAt ts d rest → AreGood ts → (is_decl_formed d ≡ true) × AreGood rest
 formed_decl (decl_data d) (_, (_, (h, (_, (_, g))))) = let p = formed_cons d g in (both h p.0, p.1)
@@ -317,10 +333,20 @@ mutual
   built_expr (expr_app {f = f} {a = a} {args = args} df da d) = built_applications (EApp f (ATerm a)) args (both (built_expr df) (built_expr da)) (built_args d)
   built_expr (expr_lam {bs = bs} {e = e} db dbs de) = both (built_binder db) (built_lambdas bs e (built_binders dbs) (built_expr de))
   built_expr (expr_let dt dd de) = both (both (built_type dt) (built_expr dd)) (built_expr de)
+  built_expr (expr_case de dt du d) = both (built_expr de) (both (both (built_type dt) (built_type du)) (built_alts d))
 
   built_args : {ts rest : List Tok} {args : Args} → ArgsAt ts args rest → are_args_built args ≡ true
   built_args args_end = refl
   built_args (args_more e d) = both (built_expr e) (built_args d)
+
+  built_alt : {ts rest : List Tok} {a : Alt} → AltAt ts a rest → is_alt_built a ≡ true
+  built_alt (alt_default e) = built_expr e
+  built_alt (alt_literal e) = built_expr e
+  built_alt (alt_con bs e) = both (built_binders bs) (built_expr e)
+
+  built_alts : {ts rest : List Tok} {alts : Alts} → AltsAt ts alts rest → are_alts_built alts ≡ true
+  built_alts alts_end = refl
+  built_alts (alts_more a d) = both (built_alt a) (built_alts d)
 
 built_decl : {ts rest : List Tok} {d : Decl} → DeclAt ts d rest → is_decl_built d ≡ true
 built_decl (decl_data d) = built_cons d

@@ -1,11 +1,13 @@
 -- No text begins another, and each has one tree.
 use Rattle.std.proofs.Common.{◌≡◌, false, List, [], ◌∷◌, refl, sym, ap, subst}
-use Rattle.fc_syntax.specs.Tree.{Word, Ty, TFun, ConDecl, ConOf, Binder, BValue, Bound, NoBinds, MoreBinds, Expr, EApp, ELam, ELet, ECon, ATerm, Args, MoreArgs, Decl, DData, DDef, Module, ModuleOf}
+use Rattle.fc_syntax.specs.Tree.{Word, Ty, TFun, ConDecl, ConOf, Binder, BValue, Bound, NoBinds, MoreBinds, Expr, EApp, ELam, ELet, ECase, ECon, ATerm, Args, MoreArgs, Alt, Branch, Alts, MoreAlts, Decl, DData, DDef, Module, ModuleOf}
+use Rattle.fc_syntax.specs.declared.expr.Head.TheVariants as head
 use Rattle.fc_model.specs.declared.keyword.Keyword.TheVariants as word
-use Rattle.fc_model.specs.Words.{Tok, Open, Close, Key}
+use Rattle.fc_model.specs.Words.{Tok, Open, Close, Key, Lower}
 use Rattle.fc_model.specs.Texts.{NamesAt, names_end, names_lower, names_upper, TypeAt, type_con, type_int, type_fun, TypesAt, types_end, types_more, ConAt, con_at, ConsAt, cons_end, cons_more}
 use Rattle.fc_model.specs.Texts.{BinderAt, binder_value, BindersAt, binders_end, binders_more, functions, applications, lambdas}
-use Rattle.fc_model.specs.Texts.{plain_name, ExprAt, expr_var, expr_lit, expr_con, expr_app, expr_lam, expr_let, ArgsAt, args_end, args_more, DeclAt, decl_data, decl_def, DeclsAt, decls_end, decls_more}
+use Rattle.fc_model.specs.Texts.{plain_name, ExprAt, expr_var, expr_lit, expr_con, expr_app, expr_lam, expr_let, expr_case, ArgsAt, args_end, args_more, DeclAt, decl_data, decl_def, DeclsAt, decls_end, decls_more}
+use Rattle.fc_model.specs.Texts.{AltAt, alt_default, alt_literal, alt_con, AltsAt, alts_end, alts_more}
 use Rattle.fc_model.specs.Texts.{BodyAt, body_hidden, body_plain, ModuleAt, module_at}
 
 -- what two readings of one text have in common
@@ -19,8 +21,14 @@ ap3 f p q r = cc
 ap2 : {A B C : Type 0} (f : A → B → C) {a a' : A} {b b' : B} → a ≡ a' → b ≡ b' → f a b ≡ f a' b'
 ap2 f p q = cc
 
+case_same : {e e' : Expr} {x x' : Word} {t t' u u' : Ty} {a a' : Alts} → e ≡ e' → x ≡ x' → t ≡ t' → u ≡ u' → a ≡ a' → ECase e x t u a ≡ ECase e' x' t' u' a'
+case_same p q r s v = cc
+
 behind : {t u : Tok} {r s : List Tok} → t ∷ r ≡ u ∷ s → r ≡ s
 behind e = cc
+
+lower_same : {x y : Word} {r s : List Tok} → Open ∷ Lower x ∷ r ≡ Open ∷ Lower y ∷ s → x ≡ y
+lower_same e = cc
 
 no_type_at_close : {A : Type 0} {ts rest : List Tok} {t : Ty} → TypeAt (Close ∷ ts) t rest → A
 no_type_at_close d = elim d [ ]
@@ -33,6 +41,9 @@ no_con_at_close d = elim d [ ]
 
 no_expr_at_close : {A : Type 0} {ts rest : List Tok} {e : Expr} → ExprAt (Close ∷ ts) e rest → A
 no_expr_at_close d = elim d [ ]
+
+no_alt_at_close : {A : Type 0} {ts rest : List Tok} {a : Alt} → AltAt (Close ∷ ts) a rest → A
+no_alt_at_close d = elim d [ ]
 
 pub no_decl_at_close : {A : Type 0} {ts rest : List Tok} {d : Decl} → DeclAt (Close ∷ ts) d rest → A
 no_decl_at_close d = elim d [ ]
@@ -61,6 +72,9 @@ expr_on {rest = r} {t = t} e d = subst (λ u. ExprAt u t r) (sym e) d
 
 args_on : {ts us rest : List Tok} {args : Args} → us ≡ ts → ArgsAt ts args rest → ArgsAt us args rest
 args_on {rest = r} {args = args} e d = subst (λ u. ArgsAt u args r) (sym e) d
+
+alts_on : {ts us rest : List Tok} {alts : Alts} → us ≡ ts → AltsAt ts alts rest → AltsAt us alts rest
+alts_on {rest = r} {alts = alts} e d = subst (λ u. AltsAt u alts r) (sym e) d
 
 decls_on : {ts us rest : List Tok} {ds : List Decl} → us ≡ ts → DeclsAt ts ds rest → DeclsAt us ds rest
 decls_on {rest = r} {ds = ds} e d = subst (λ u. DeclsAt u ds r) (sym e) d
@@ -136,6 +150,12 @@ mutual
       let q = expr_one b (expr_on p.rest b') in
       let s = expr_one c (expr_on (behind q.rest) c') in
       record { value = ap3 (λ t y z. ELet false (MoreBinds (Bound x t y) NoBinds) z) p.value q.value s.value; rest = behind s.rest }
+  expr_one (expr_case a b c d) (expr_case a' b' c' d') =
+      let p = expr_one a a' in
+      let q = type_one b (type_on (behind (behind p.rest)) b') in
+      let s = type_one c (type_on (behind q.rest) c') in
+      let v = alts_one d (alts_on s.rest d') in
+      record { value = case_same p.value (lower_same p.rest) q.value s.value v.value; rest = v.rest }
 
   args_one : {ts r : List Tok} {t : Args} → ArgsAt ts t r → {t' : Args} {r' : List Tok} → ArgsAt ts t' r' → Same t t' r r'
   args_one args_end args_end = record { value = refl; rest = refl }
@@ -145,6 +165,23 @@ mutual
       let p = expr_one a a' in
       let s = args_one c (args_on p.rest c') in
       record { value = ap2 (λ x y. MoreArgs (ATerm x) y) p.value s.value; rest = s.rest }
+
+  alt_one : {ts r : List Tok} {t : Alt} → AltAt ts t r → {t' : Alt} {r' : List Tok} → AltAt ts t' r' → Same t t' r r'
+  alt_one (alt_default a) (alt_default a') = let p = expr_one a a' in record { value = ap (λ x. Branch head.Default [] x) p.value; rest = behind p.rest }
+  alt_one (alt_literal {n = n} a) (alt_literal a') = let p = expr_one a a' in record { value = ap (λ x. Branch (head.Lit n) [] x) p.value; rest = behind p.rest }
+  alt_one (alt_con {k = k} a b) (alt_con a' b') =
+      let p = binders_one a a' in
+      let q = expr_one b (expr_on p.rest b') in
+      record { value = ap2 (λ x y. Branch (head.Con (plain_name k)) x y) p.value q.value; rest = behind q.rest }
+
+  alts_one : {ts r : List Tok} {t : Alts} → AltsAt ts t r → {t' : Alts} {r' : List Tok} → AltsAt ts t' r' → Same t t' r r'
+  alts_one alts_end alts_end = record { value = refl; rest = refl }
+  alts_one alts_end (alts_more a' c') = no_alt_at_close a'
+  alts_one (alts_more a c) alts_end = no_alt_at_close a
+  alts_one (alts_more a c) (alts_more a' c') =
+      let p = alt_one a a' in
+      let s = alts_one c (alts_on p.rest c') in
+      record { value = ap2 (λ x y. MoreAlts x y) p.value s.value; rest = s.rest }
 
 pub decl_one : {ts r : List Tok} {t : Decl} → DeclAt ts t r → {t' : Decl} {r' : List Tok} → DeclAt ts t' r' → Same t t' r r'
 decl_one (decl_data {n = n} a) (decl_data a') = let p = cons_one a a' in record { value = ap (DData n []) p.value; rest = p.rest }

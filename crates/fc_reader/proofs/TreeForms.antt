@@ -1,15 +1,20 @@
 -- One rule of types, constructors, expressions and declarations each, as a reader meets it.
 use Rattle.std.proofs.Common.{◌≡◌, false, ℤ, List, [], ◌∷◌, ◌++◌, refl, sym, ap, ◌∙◌, subst}
-use Rattle.fc_syntax.specs.Tree.{Word, Ty, TCon, TInt, TFun, Binder, BValue, Bound, NoBinds, MoreBinds, ConDecl, ConOf, Expr, EVar, ELit, EApp, ELam, ELet, ECon, ATerm, Args, NoArgs, MoreArgs, Param, Decl, DData, DDef}
-use Rattle.fc_syntax.specs.View.{expr_of, arg_of, args_of}
+use Rattle.fc_syntax.specs.declared.expr.Head.{Head}
+use Rattle.fc_syntax.specs.declared.expr.Head.TheVariants as head
+use Rattle.fc_syntax.specs.Tree.{Alt, Branch, Alts, NoAlts, MoreAlts}
+use Rattle.fc_syntax.specs.Tree.{Word, Ty, TCon, TInt, TFun, Binder, BValue, Bound, NoBinds, MoreBinds, ConDecl, ConOf, Expr, EVar, ELit, EApp, ELam, ELet, ECase, ECon, ATerm, Args, NoArgs, MoreArgs, Param, Decl, DData, DDef}
+use Rattle.fc_syntax.specs.View.{expr_of, arg_of, args_of, alt_of, alts_of}
+use Rattle.fc_syntax.specs.declared.expr.Alt as RustAlt
 use Rattle.fc_syntax.specs.declared.expr.Arg as A
 use Rattle.fc_syntax.specs.declared.expr.Expr as E
 use Rattle.fc_model.specs.declared.keyword.Keyword.TheVariants as word
 use Rattle.fc_model.specs.Words.{Tok, Open, Close, Key, Lower, Upper, Literal}
 use Rattle.fc_model.specs.Texts.{plain_name, functions, applications, lambdas, TypeAt, type_con, type_int, type_fun, TypesAt, types_end, ConAt, con_at, ConsAt, cons_end}
 use Rattle.fc_model.specs.Texts.{BinderAt, binder_value, BindersAt, binders_end}
-use Rattle.fc_model.specs.Texts.{ExprAt, expr_var, expr_lit, expr_con, expr_app, expr_lam, expr_let, ArgsAt, args_end, args_more, DeclAt, decl_data, decl_def}
-use Rattle.fc_reader.specs.Reading.{AppliedAt, AppliesAt, BindsAt}
+use Rattle.fc_model.specs.Texts.{ExprAt, expr_var, expr_lit, expr_con, expr_app, expr_lam, expr_let, expr_case, ArgsAt, args_end, args_more, DeclAt, decl_data, decl_def}
+use Rattle.fc_model.specs.Texts.{AltAt, alt_default, alt_literal, alt_con, AltsAt, alts_end, alts_more}
+use Rattle.fc_reader.specs.Reading.{AppliedAt, AppliesAt, BindsAt, CaseBinderAt, case_binder, HeadAt}
 use Rattle.fc_reader.proofs.Forms.{Token, token}
 
 type_on : {ts rest : List Tok} {t u : Ty} → t ≡ u → TypeAt ts u rest → TypeAt ts t rest
@@ -120,6 +125,55 @@ args_more_read old new e is so d =
 
 pub args_end_read : {ts us rest : List Tok} (xs : List A.Arg) → Token Close us rest → ArgsSoFar ts xs us → ArgsAt ts (args_of xs) rest
 args_end_read xs token so = args_on (sym (args_then_none xs)) (so NoArgs _ args_end)
+
+-- ---- a case and its alternatives
+
+pub case_binder_read : {ts us vs ws xs rest : List Tok} {x : Word} {t u : Ty} → Token Open ts us → Token (Lower x) us vs → TypeAt vs t ws → Token Close ws xs → TypeAt xs u rest → CaseBinderAt ts x t u rest
+case_binder_read token token dt token du = case_binder dt du
+
+pub case_read : {us vs ws rest : List Tok} {x : Word} {t u : Ty} {v e : Expr} {alts : Alts} → v ≡ ECase e x t u alts → ExprAt us e vs → CaseBinderAt vs x t u ws → AltsAt ws alts rest
+    → ExprAt (Open ∷ Key word.Case ∷ us) v rest
+case_read e de (case_binder dt du) d = expr_on e (expr_case de dt du d)
+
+alt_on : {ts rest : List Tok} {a b : Alt} → a ≡ b → AltAt ts b rest → AltAt ts a rest
+alt_on {ts = ts} {rest = rest} e d = subst (λ x. AltAt ts x rest) (sym e) d
+
+pub default_head_read : {ts us vs : List Tok} {bs : List Binder} → bs ≡ [] → Token Open ts us → Token (Key word.Default) us vs → HeadAt ts head.Default bs vs
+default_head_read e token token = λ x rest d. alt_on (ap (λ bs. Branch head.Default bs x) e) (alt_default d)
+
+pub literal_head_read : {ts us vs : List Tok} {bs : List Binder} {n m : ℤ} → bs ≡ [] → m ≡ n → Token Open ts us → Token (Literal n) us vs → HeadAt ts (head.Lit m) bs vs
+literal_head_read {n = n} {m = m} e f token token = λ x rest d. alt_on (ap (λ bs. Branch (head.Lit m) bs x) e ∙ ap (λ k. Branch (head.Lit k) [] x) f) (alt_literal d)
+
+pub con_head_read : {ts us vs ws xs : List Tok} {bs : List Binder} {t w : Word} → t ≡ w → Token Open ts us → Token (Upper w) us vs → Token Open vs ws → BindersAt ws bs xs
+    → HeadAt ts (head.Con (plain_name t)) bs xs
+con_head_read {bs = bs} e token token token dbs = λ x rest d. alt_on (ap (λ k. Branch (head.Con (plain_name k)) bs x) e) (alt_con dbs d)
+
+pub alt_read : {ts us vs rest : List Tok} {h : Head} {bs : List Binder} {e : Expr} → HeadAt ts h bs us → ExprAt us e vs → Token Close vs rest → AltAt ts (Branch h bs e) rest
+alt_read h de token = h _ _ de
+
+abbrev pub alts_then : List RustAlt.Alt → Alts → Alts
+alts_then [] more = more
+alts_then (x ∷ xs) more = MoreAlts (alt_of x) (alts_then xs more)
+
+alts_then_none : (xs : List RustAlt.Alt) → alts_then xs NoAlts ≡ alts_of xs
+alts_then_none [] = refl
+alts_then_none (x ∷ xs) = ap (λ y. MoreAlts (alt_of x) y) (alts_then_none xs)
+
+alts_then_last : (xs : List RustAlt.Alt) (x : RustAlt.Alt) (more : Alts) → alts_then (xs ++ x ∷ []) more ≡ alts_then xs (MoreAlts (alt_of x) more)
+alts_then_last [] x more = refl
+alts_then_last (y ∷ ys) x more = ap (λ z. MoreAlts (alt_of y) z) (alts_then_last ys x more)
+
+alts_on : {ts rest : List Tok} {xs ys : Alts} → xs ≡ ys → AltsAt ts ys rest → AltsAt ts xs rest
+alts_on {ts = ts} {rest = rest} e d = subst (λ x. AltsAt ts x rest) (sym e) d
+
+abbrev pub AltsSoFar : List Tok → List RustAlt.Alt → List Tok → Type 0
+AltsSoFar ts xs us = (more : Alts) (rest : List Tok) → AltsAt us more rest → AltsAt ts (alts_then xs more) rest
+
+pub alts_more_read : {ts us vs : List Tok} (old new : List RustAlt.Alt) (a : RustAlt.Alt) → new ≡ old ++ a ∷ [] → AltsSoFar ts old us → AltAt us (alt_of a) vs → AltsSoFar ts new vs
+alts_more_read old new a is so d = λ more rest r. alts_on (ap (λ x. alts_then x more) is ∙ alts_then_last old a more) (so (MoreAlts (alt_of a) more) rest (alts_more d r))
+
+pub alts_end_read : {ts us rest : List Tok} (xs : List RustAlt.Alt) → Token Close us rest → AltsSoFar ts xs us → AltsAt ts (alts_of xs) rest
+alts_end_read xs token so = alts_on (sym (alts_then_none xs)) (so NoAlts _ alts_end)
 
 -- ---- declarations
 

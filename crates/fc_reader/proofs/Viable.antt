@@ -1,20 +1,23 @@
 -- What the machine has taken can always be gone on with to a text of the grammar.
 use Rattle.std.proofs.Common.{◌≡◌, ℕ, ℤ, Bool, true, false, List, [], ◌∷◌, ◌++◌, codes, length, Option, Some, None, if◌then◌else◌, refl, sym, ap, ◌∙◌, append_assoc}
 use Rattle.std.specs.Prelude.{IfSome}
-use Rattle.fc_syntax.specs.Tree.{Word, Ty, TCon, TInt, TFun, ConDecl, ConOf, Binder, BValue, Bound, NoBinds, MoreBinds, Expr, EVar, ELit, EApp, ELam, ELet, ECon, ATerm, Args, NoArgs, MoreArgs, Decl, DData, DDef, Module, ModuleOf}
+use Rattle.fc_syntax.specs.declared.expr.Head.TheVariants as head
+use Rattle.fc_syntax.specs.Tree.{Alt, Branch, Alts, NoAlts, MoreAlts}
+use Rattle.fc_syntax.specs.Tree.{Word, Ty, TCon, TInt, TFun, ConDecl, ConOf, Binder, BValue, Bound, NoBinds, MoreBinds, Expr, EVar, ELit, EApp, ELam, ELet, ECase, ECon, ATerm, Args, NoArgs, MoreArgs, Decl, DData, DDef, Module, ModuleOf}
 use Rattle.fc_syntax.specs.Tokens.{is_module_part}
 use Rattle.fc_model.specs.declared.keyword.Keyword.TheVariants as word
 use Rattle.fc_model.specs.Words.{Tok, Open, Close, Key, Lower, Upper, Literal}
 use Rattle.fc_model.specs.Texts.{NamesAt, names_end, names_lower, names_upper, TypeAt, type_con, type_int, type_fun, TypesAt, types_end, types_more, ConAt, con_at, ConsAt, cons_end, cons_more}
 use Rattle.fc_model.specs.Texts.{BinderAt, binder_value, BindersAt, binders_end, binders_more, functions, applications, lambdas}
-use Rattle.fc_model.specs.Texts.{plain_name, ExprAt, expr_var, expr_lit, expr_con, expr_app, expr_lam, expr_let, ArgsAt, args_end, args_more, DeclAt, decl_data, decl_def, DeclsAt, decls_end, decls_more}
+use Rattle.fc_model.specs.Texts.{plain_name, ExprAt, expr_var, expr_lit, expr_con, expr_app, expr_lam, expr_let, expr_case, ArgsAt, args_end, args_more, DeclAt, decl_data, decl_def, DeclsAt, decls_end, decls_more}
+use Rattle.fc_model.specs.Texts.{AltAt, alt_default, alt_literal, alt_con, AltsAt, alts_end, alts_more}
 use Rattle.fc_model.specs.Texts.{BodyAt, body_hidden, body_plain, ModuleAt, module_at}
 use Rattle.fc_model.specs.ReadFaults.{Begins, CannotGoOn}
 use Rattle.fc_reader.specs.Header.{HeaderAt, header_at}
-use Rattle.fc_reader.specs.Machine.{Want, AModule, AHeader, AModuleWord, AModuleName, AnImportsWord, AnExportsWord, AName, Names, Body, ABodyForm, Decls, ADecl, ADeclForm, Cons, ACon, Types, AType, ATypeForm, ABinder, Binders, AnExpr, AnExprForm, Arguments, ALower, AnUpper, AnOpen, AClose, AToken}
+use Rattle.fc_reader.specs.Machine.{Want, AModule, AHeader, AModuleWord, AModuleName, AnImportsWord, AnExportsWord, AName, Names, Body, ABodyForm, Decls, ADecl, ADeclForm, Cons, ACon, Types, AType, ATypeForm, ABinder, Binders, AnExpr, AnExprForm, Arguments, ACaseBinder, Alternatives, AnAlternative, AnAlternativeForm, ALower, AnUpper, AnOpen, AClose, AToken}
 use Rattle.fc_reader.specs.Machine.{next, next_name, next_type, next_expr, next_decl_form, then_want, stuck}
 use Rattle.fc_reader.specs.Places.{FirstBad}
-use Rattle.fc_reader.specs.Reading.{IsName}
+use Rattle.fc_reader.specs.Reading.{CaseBinderAt, case_binder, IsName}
 use Rattle.fc_reader.proofs.Forms.{Token, token}
 use Rattle.fc_reader.proofs.Follow.{module_taken, stuck_on}
 
@@ -46,6 +49,10 @@ Is Binders ts rest = (bs : List Binder) × BindersAt ts bs rest
 Is AnExpr ts rest = (e : Expr) × ExprAt ts e rest
 Is AnExprForm ts rest = (e : Expr) × ExprAt (Open ∷ ts) e rest
 Is Arguments ts rest = (args : Args) × ArgsAt ts args rest
+Is ACaseBinder ts rest = (x : Word) × (t : Ty) × (u : Ty) × CaseBinderAt ts x t u rest
+Is Alternatives ts rest = (alts : Alts) × AltsAt ts alts rest
+Is AnAlternative ts rest = (a : Alt) × AltAt ts a rest
+Is AnAlternativeForm ts rest = (a : Alt) × AltAt (Open ∷ ts) a rest
 Is ALower ts rest = (w : Word) × Token (Lower w) ts rest
 Is AnUpper ts rest = (w : Word) × Token (Upper w) ts rest
 Is AnOpen ts rest = Token Open ts rest
@@ -169,6 +176,30 @@ let_back : Back AnExprForm (Key word.Let) (AnOpen ∷ ALower ∷ AType ∷ AnExp
 let_back ts rest (_, token, (_, (x, token), (_, (t, dt), (_, (d, dd), (_, token, (_, (e, de), (_, token, nothing))))))) =
     (ELet false (MoreBinds (Bound x t d) NoBinds) e, expr_let dt dd de)
 
+case_back : Back AnExprForm (Key word.Case) (AnExpr ∷ ACaseBinder ∷ Alternatives ∷ [])
+case_back ts rest (_, (e, de), (_, (x, t, u, case_binder dt du), (_, (alts, d), nothing))) = (ECase e x t u alts, expr_case de dt du d)
+
+case_binder_back : Back ACaseBinder Open (ALower ∷ AType ∷ AClose ∷ AType ∷ [])
+case_binder_back ts rest (_, (x, token), (_, (t, dt), (_, token, (_, (u, du), nothing)))) = (x, t, u, case_binder dt du)
+
+alts_end_back : Back Alternatives Close []
+alts_end_back ts _ nothing = (NoAlts, alts_end)
+
+alts_back : Back Alternatives Open (AnAlternativeForm ∷ Alternatives ∷ [])
+alts_back ts rest (_, (a, da), (_, (alts, d), nothing)) = (MoreAlts a alts, alts_more da d)
+
+alt_back : Back AnAlternative Open (AnAlternativeForm ∷ [])
+alt_back ts rest (_, d, nothing) = d
+
+alt_default_back : Back AnAlternativeForm (Key word.Default) (AnExpr ∷ AClose ∷ [])
+alt_default_back ts rest (_, (e, de), (_, token, nothing)) = (Branch head.Default [] e, alt_default de)
+
+alt_literal_back : (n : ℤ) → Back AnAlternativeForm (Literal n) (AnExpr ∷ AClose ∷ [])
+alt_literal_back n ts rest (_, (e, de), (_, token, nothing)) = (Branch (head.Lit n) [] e, alt_literal de)
+
+alt_con_back : (w : Word) → Back AnAlternativeForm (Upper w) (AnOpen ∷ Binders ∷ AnExpr ∷ AClose ∷ [])
+alt_con_back w ts rest (_, token, (_, (bs, d), (_, (e, de), (_, token, nothing)))) = (Branch (head.Con (plain_name w)) bs e, alt_con d de)
+
 args_end_back : Back Arguments Close []
 args_end_back ts _ nothing = (NoArgs, args_end)
 
@@ -268,8 +299,16 @@ step_back AnExprForm (Key word.Con) = expr_con_back
 step_back AnExprForm (Key word.App) = app_back
 step_back AnExprForm (Key word.Lam) = lam_back
 step_back AnExprForm (Key word.Let) = let_back
+step_back AnExprForm (Key word.Case) = case_back
 step_back Arguments Close = args_end_back
 step_back Arguments t = args_back t (next_expr t) (expr_step_back t)
+step_back ACaseBinder Open = case_binder_back
+step_back Alternatives Close = alts_end_back
+step_back Alternatives Open = alts_back
+step_back AnAlternative Open = alt_back
+step_back AnAlternativeForm (Key word.Default) = alt_default_back
+step_back AnAlternativeForm (Literal n) = alt_literal_back n
+step_back AnAlternativeForm (Upper w) = alt_con_back w
 step_back ALower (Lower w) = lower_word_back w
 step_back AnUpper (Upper w) = upper_word_back w
 step_back AnOpen Open = open_back
@@ -311,6 +350,10 @@ filled Binders = (Close ∷ [], λ rest. ([], binders_end))
 filled AnExpr = (Lower (codes "x") ∷ [], λ rest. (EVar (plain_name (codes "x")), expr_var))
 filled AnExprForm = (Key word.Con ∷ Upper (codes "K") ∷ Close ∷ [], λ rest. (ECon (plain_name (codes "K")) NoArgs, expr_con args_end))
 filled Arguments = (Close ∷ [], λ rest. (NoArgs, args_end))
+filled ACaseBinder = (Open ∷ Lower (codes "x") ∷ Key word.IntHash ∷ Close ∷ Key word.IntHash ∷ [], λ rest. (codes "x", TInt, TInt, case_binder type_int type_int))
+filled Alternatives = (Close ∷ [], λ rest. (NoAlts, alts_end))
+filled AnAlternative = (Open ∷ Key word.Default ∷ Lower (codes "x") ∷ Close ∷ [], λ rest. (Branch head.Default [] (EVar (plain_name (codes "x"))), alt_default expr_var))
+filled AnAlternativeForm = (Key word.Default ∷ Lower (codes "x") ∷ Close ∷ [], λ rest. (Branch head.Default [] (EVar (plain_name (codes "x"))), alt_default expr_var))
 filled ALower = (Lower (codes "x") ∷ [], λ rest. (codes "x", token))
 filled AnUpper = (Upper (codes "K") ∷ [], λ rest. (codes "K", token))
 filled AnOpen = (Open ∷ [], λ rest. token)

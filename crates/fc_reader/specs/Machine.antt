@@ -29,6 +29,10 @@ pub data Want : Type 0 where
   AnExpr : Want
   AnExprForm : Want
   Arguments : Want
+  ACaseBinder : Want
+  Alternatives : Want
+  AnAlternative : Want
+  AnAlternativeForm : Want
   ALower : Want
   AnUpper : Want
   AnOpen : Want
@@ -99,8 +103,16 @@ next AnExprForm (Key word.Con) = Some (AnUpper ∷ Arguments ∷ [])
 next AnExprForm (Key word.App) = Some (AnExpr ∷ AnExpr ∷ Arguments ∷ [])
 next AnExprForm (Key word.Lam) = Some (AnOpen ∷ ABinder ∷ Binders ∷ AnExpr ∷ AClose ∷ [])
 next AnExprForm (Key word.Let) = Some (AnOpen ∷ ALower ∷ AType ∷ AnExpr ∷ AClose ∷ AnExpr ∷ AClose ∷ [])
+next AnExprForm (Key word.Case) = Some (AnExpr ∷ ACaseBinder ∷ Alternatives ∷ [])
 next Arguments Close = Some []
 next Arguments t = then_want Arguments (next_expr t)
+next ACaseBinder Open = Some (ALower ∷ AType ∷ AClose ∷ AType ∷ [])
+next Alternatives Close = Some []
+next Alternatives Open = Some (AnAlternativeForm ∷ Alternatives ∷ [])
+next AnAlternative Open = Some (AnAlternativeForm ∷ [])
+next AnAlternativeForm (Key word.Default) = Some (AnExpr ∷ AClose ∷ [])
+next AnAlternativeForm (Literal n) = Some (AnExpr ∷ AClose ∷ [])
+next AnAlternativeForm (Upper w) = Some (AnOpen ∷ Binders ∷ AnExpr ∷ AClose ∷ [])
 next ALower (Lower w) = Some []
 next AnUpper (Upper w) = Some []
 next AnOpen Open = Some []

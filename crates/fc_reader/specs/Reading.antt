@@ -1,14 +1,15 @@
 -- What a reader answers.
 use Rattle.std.specs.Prelude.{◌≡◌, ⊤, ℕ, suc, List, ◌∷◌, length, Some}
 use Rattle.fc_syntax.specs.declared.token.Token.{Token}
-use Rattle.fc_syntax.specs.Tree.{Word, Binder, Expr, ELam, Args}
+use Rattle.fc_syntax.specs.declared.expr.Head.{Head}
+use Rattle.fc_syntax.specs.Tree.{Word, Ty, Binder, Expr, ELam, Args, Branch}
 use Rattle.fc_syntax.specs.Tokens.{AreSlices}
-use Rattle.fc_model.specs.Words.{Tok, Open, Close, Key, toks}
+use Rattle.fc_model.specs.Words.{Tok, Open, Close, Key, Lower, toks}
 use Rattle.fc_model.specs.declared.keyword.Keyword.TheVariants as word
-use Rattle.fc_model.specs.Texts.{NamesAt, ExprAt, ArgsAt, applications, lambdas}
+use Rattle.fc_model.specs.Texts.{NamesAt, TypeAt, ExprAt, ArgsAt, AltAt, applications, lambdas}
 use Rattle.fc_reader.specs.declared.parts.Stop.{Stop}
 use Rattle.fc_reader.specs.declared.parts.Stop.TheVariants as stop
-use Rattle.fc_reader.specs.Machine.{Want, AName, Names, Body, Decls, ADecl, Cons, ACon, Types, AType, ABinder, Binders, AnExpr, AnExprForm, AClose, Arguments, stuck}
+use Rattle.fc_reader.specs.Machine.{Want, AName, Names, Body, Decls, ADecl, Cons, ACon, Types, AType, ABinder, Binders, AnExpr, AnExprForm, AClose, Arguments, Alternatives, AnAlternative, stuck}
 
 -- a fault is where the machine is stuck that wants w, whatever it wants behind it
 abbrev pub Stops : Want → List Tok → Stop → Type 0
@@ -30,6 +31,7 @@ pub record GoesOn (ts : List Tok) : Type 0 where
   pub binders : (s : List Want) → stuck (Binders ∷ s) ts ≡ stuck (ABinder ∷ Binders ∷ s) ts
   pub cons : (s : List Want) → stuck (Cons ∷ s) ts ≡ stuck (ACon ∷ Cons ∷ s) ts
   pub args : (s : List Want) → stuck (Arguments ∷ s) ts ≡ stuck (AnExpr ∷ Arguments ∷ s) ts
+  pub alts : (s : List Want) → stuck (Alternatives ∷ s) ts ≡ stuck (AnAlternative ∷ Alternatives ∷ s) ts
   pub decls : (s : List Want) → stuck (Decls ∷ s) ts ≡ stuck (ADecl ∷ Decls ∷ s) ts
 
 -- the binders of a lambda behind its word, which whatever is read as its body completes
@@ -53,6 +55,18 @@ AppliesAt ts f us = (e : Expr) (rest : List Tok) → AppliedAt f us e rest → E
 -- the machine that wants the form of an application takes its head and its first argument
 abbrev pub TakesHead : List Tok → List Tok → Type 0
 TakesHead ts us = (s : List Want) → stuck (AnExprForm ∷ s) (Key word.App ∷ ts) ≡ stuck (Arguments ∷ s) us
+
+-- (x type) type: the binder of a case, and the type of its answer
+pub data CaseBinderAt : List Tok → Word → Ty → Ty → List Tok → Type 0 where
+  case_binder : {ts us rest : List Tok} {x : Word} {t u : Ty} → TypeAt ts t (Close ∷ us) → TypeAt us u rest → CaseBinderAt (Open ∷ Lower x ∷ ts) x t u rest
+
+-- what an alternative is for with its binders, which whatever is read as its body completes
+abbrev pub HeadAt : List Tok → Head → List Binder → List Tok → Type 0
+HeadAt ts h bs us = (e : Expr) (rest : List Tok) → ExprAt us e (Close ∷ rest) → AltAt ts (Branch h bs e) rest
+
+-- the machine that wants an alternative takes what it is for with its binders
+abbrev pub TakesAlternativeHead : List Tok → List Tok → Type 0
+TakesAlternativeHead ts us = (s : List Want) → stuck (AnAlternative ∷ s) ts ≡ stuck (AnExpr ∷ AClose ∷ s) us
 
 -- a closing bracket comes first
 pub record Closes (bytes : List ℕ) (tokens rest : List Token) : Type 0 where

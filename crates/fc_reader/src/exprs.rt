@@ -9,6 +9,7 @@ ghost use Rattle.fc_model.specs.Texts.{plain_name, ExprAt, ArgsAt};
 ghost use Rattle.fc_reader.specs.Machine.{AnExpr, AnExprForm, Arguments};
 ghost use Rattle.fc_reader.specs.Reading.{AppliedAt, AppliesAt, BindsAt, Stops, Takes, TakesBinders, TakesHead};
 
+use crate::alternatives::read_case;
 use crate::class::{Class, first};
 use crate::parts::{Stop, closes, name_text, read_close, read_lower, read_open, read_upper};
 use crate::trees::{application, binding, lambda_over};
@@ -103,6 +104,10 @@ fn read_expr_form<'a>(
         }
         Class::Key(Keyword::Let) => {
             let (e, rest) = read_let(alloc, bytes, rest)?;
+            Ok((e, rest))
+        }
+        Class::Key(Keyword::Case) => {
+            let (e, rest) = read_case(alloc, bytes, rest)?;
             Ok((e, rest))
         }
         _ => Err(Stop::Form(tokens.len())),

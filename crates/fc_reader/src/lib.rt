@@ -8,6 +8,7 @@ ghost use Rattle.fc_model.specs.Canonical.{IsBuilt, IsFormed};
 ghost use Rattle.fc_model.specs.ReadFaults.{ReadsTo};
 ghost use Rattle.fc_reader.specs.Refusals.{IsReadRefusal, SpellsOne};
 
+mod alternatives;
 mod class;
 mod decls;
 mod exprs;
@@ -15,8 +16,6 @@ mod header;
 mod limits;
 mod nesting;
 mod parts;
-#[cfg(test)]
-mod tests;
 mod trees;
 mod types;
 mod whole;

@@ -1,10 +1,10 @@
 //! Types and expressions of several parts. Where there are many parts, they are put together from the last one.
 ghost use Rattle.std.specs.Prelude.{◌≡◌, false, IfOk};
-ghost use Rattle.fc_syntax.specs.Tree.{TFun, EApp, ELam, ELet, ATerm, Bound, NoBinds, MoreBinds};
-ghost use Rattle.fc_syntax.specs.View.{ty_of, tys_of, binder_of, binders_of, expr_of};
+ghost use Rattle.fc_syntax.specs.Tree.{TFun, EApp, ELam, ELet, ECase, ATerm, Bound, NoBinds, MoreBinds};
+ghost use Rattle.fc_syntax.specs.View.{ty_of, tys_of, binder_of, binders_of, expr_of, alts_of};
 ghost use Rattle.fc_model.specs.Texts.{functions, lambdas as lambdas_of};
 
-use fc_syntax::{Arg, Bind, Binder, Expr, Memory, Seq, Text, Ty};
+use fc_syntax::{Alt, Arg, Bind, Binder, Expr, Memory, Seq, Text, Ty};
 use std::alloc::Global;
 
 #[tactic(auto, using(fc_syntax::proofs::View::view_rules))]
@@ -85,4 +85,21 @@ pub(crate) fn binding(
     let mut binds = Seq::new(alloc);
     binds.push(Bind { name, ty, rhs })?;
     Ok(Expr::Let(false, binds, Box::new(alloc, body)?))
+}
+
+/// A case of a scrutinee, its binder and the type of that, the type of the answer, and the alternatives.
+#[tactic(auto, using(fc_syntax::proofs::View::view_rules))]
+#[inline(never)]
+pub(crate) fn case_of(
+    alloc: Global,
+    scrutinee: Expr,
+    name: Text,
+    ty: Ty,
+    answer: Ty,
+    alts: Seq<Alt>,
+) -> Result<Expr, Memory>
+    ensures { IfOk result (λ e. expr_of e ≡ ECase (expr_of scrutinee) name (ty_of ty) (ty_of answer) (alts_of alts)) }
+{
+    let scrutinee = Box::new(alloc, scrutinee)?;
+    Ok(Expr::Case(scrutinee, name, ty, answer, alts))
 }

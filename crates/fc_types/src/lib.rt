@@ -12,6 +12,3 @@ pub use declarations::Declarations;
 pub use kinds::{is_value_kind, kind, kind_of_part};
 pub use sameness::{same_kind, same_name, same_type};
 pub use tables::DeclaredCon;
-
-#[cfg(test)]
-mod tests;

@@ -1,6 +1,6 @@
 use Rattle.std.proofs.Common.{◌≡◌, false, rules}
-use Rattle.fc_model.specs.Nameless.{NLet}
-use Rattle.fc_model.specs.NamelessView.{nbinds_of, nexpr_of}
+use Rattle.fc_model.specs.Nameless.{NCase, NLet}
+use Rattle.fc_model.specs.NamelessView.{nalts_of, nbinds_of, nexpr_of, nty_of}
 use Rattle.fc_model.proofs.NamelessView.{nview_rules}
 use Rattle.fc_types.specs.ModuleViews.{modules_of}
 use Rattle.fc_lint_expr.specs.LocalViews.{context_of}
@@ -30,3 +30,8 @@ type_of-returns-in_ok-first_bind_fits-in-len1 t c =
     let_of_slice (modules_of c.args.declared.now) (context_of c.args.locals.now) (nexpr_of c.args.e.now) (nexpr_of c.in-Let.body.value) c.in-Let.recursive c.as_slice.result.now c.bind-item.result
     here plain c.in-len1.len_at_least c.in-len1.len_below c.bind-item.is in
     rw whole (search rules)
+
+pub type_of-returns-in_ok-alternatives_fit-in-Case : goal.type_of-returns-in_ok-alternatives_fit-in-Case
+type_of-returns-in_ok-alternatives_fit-in-Case t c =
+    let here : nexpr_of c.args.e.now ≡ NCase (nexpr_of c.in-Case.scrutinee.value) (nty_of c.in-Case.of) (nty_of c.in-Case.answer) (nalts_of c.as_slice-in-Case.result.now) = search (rules, nview_rules) in
+    rw here (search rules)

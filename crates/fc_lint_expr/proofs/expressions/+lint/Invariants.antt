@@ -1,5 +1,8 @@
 use Rattle.std.proofs.Common.{◌≡◌, drop}
+use Rattle.fc_model.specs.NamelessView.{nalts_of, nty_of}
+use Rattle.fc_model.specs.Typing.{Start, alts_judged, with_value}
 use Rattle.fc_types.specs.ModuleViews.{modules_of}
+use Rattle.fc_lint_expr.specs.AltViews.{before_of}
 use Rattle.fc_lint_expr.specs.GivenViews.{args_from, with_givens}
 use Rattle.fc_lint_expr.specs.LocalViews.{context_of}
 use Rattle.fc_lint_expr.proofs.expressions.+lint.Given as goal
@@ -8,3 +11,8 @@ use Rattle.fc_lint_expr.proofs.expressions.+lint.Given as goal
 abbrev pub invariant-given_terms-loop-arg : goal.invariant-given_terms-loop-arg
 invariant-given_terms-loop-arg l =
     args_from (modules_of l.declared) (context_of l.locals) 0 l.args ≡ with_givens l.given (args_from (modules_of l.declared) (context_of l.locals) l.part (drop l.arg-index l.args))
+
+abbrev pub invariant-alternatives_fit-loop-alternative : goal.invariant-alternatives_fit-loop-alternative
+invariant-alternatives_fit-loop-alternative l =
+    alts_judged (modules_of l.declared) (with_value (nty_of l.of) (context_of l.locals)) (nty_of l.wanted.scrutinee.now) (nty_of l.wanted.answer.now) 3 Start (nalts_of l.alternatives)
+    ≡ alts_judged (modules_of l.declared) (with_value (nty_of l.of) (context_of l.locals)) (nty_of l.wanted.scrutinee.now) (nty_of l.wanted.answer.now) l.part (before_of l.before) (nalts_of (drop l.alternative-index l.alternatives))

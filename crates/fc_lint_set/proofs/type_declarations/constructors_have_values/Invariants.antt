@@ -1,5 +1,4 @@
 use Rattle.std.proofs.Common.{◌≡◌, drop}
-use Rattle.fc_model.specs.NamelessView.{ncons_of}
 use Rattle.fc_types.specs.ModuleViews.{modules_of}
 use Rattle.fc_lint_set.specs.Judging.{and_rest, cons_from}
 use Rattle.fc_lint_set.proofs.type_declarations.constructors_have_values.Given as goal

@@ -1,5 +1,4 @@
 use Rattle.std.proofs.Common.{◌≡◌, drop}
-use Rattle.fc_model.specs.NamelessView.{ntys_of}
 use Rattle.fc_types.specs.ModuleViews.{modules_of}
 use Rattle.fc_lint_set.specs.Judging.{and_rest, fields_from}
 use Rattle.fc_lint_set.proofs.type_declarations.fields_are_values.Given as goal

@@ -1,15 +1,16 @@
 use Rattle.std.proofs.Common.{rules, ◌≡◌, ◌∙◌, ◌∷◌, length, false, List, Result, Ok, sym, ap, subst}
-use Rattle.fc_syntax.specs.Tree.{Word, BValue, ELam, ELet, MoreBinds, NoBinds}
-use Rattle.fc_syntax.specs.View.{bind_of, binder_of, binds_of, expr_of, ty_of}
+use Rattle.fc_syntax.specs.Tree.{Word, BValue, ECase, ELam, ELet, MoreBinds, NoBinds}
+use Rattle.fc_syntax.specs.View.{alts_of, bind_of, binder_of, binds_of, expr_of, ty_of}
 use Rattle.fc_syntax.proofs.View.{view_rules}
+use Rattle.fc_model.specs.Building.{case_resolved}
 use Rattle.fc_model.specs.Faulting.{F, under}
 use Rattle.fc_model.specs.Nameless.{NExpr}
 use Rattle.fc_model.specs.NamelessView.{nbind_of, nexpr_of, nty_of}
 use Rattle.fc_model.specs.Resolution.{resolved_expr}
-use Rattle.fc_model.specs.Says.{Refuses}
+use Rattle.fc_model.specs.Says.{Refuses, Says}
 use Rattle.fc_model.specs.Scopes.{scope_of, words_in}
 use Rattle.fc_model.specs.WordSets.{top_by}
-use Rattle.fc_model.proofs.Locals.{bind_refused, body_refused, lambda_resolved, let_resolved, one_bind, some_same}
+use Rattle.fc_model.proofs.Locals.{bind_refused, body_refused, case_behind, lambda_resolved, let_resolved, one_bind, some_same}
 use Rattle.fc_model.proofs.NamelessView.{nview_rules}
 use Rattle.fc_model.proofs.resolving.+resolve.Goals as goal
 
@@ -71,3 +72,16 @@ resolved_expr-returns-in_ok-boxed-in-Let-clause-says t c =
     ap (λ x. resolved_expr top (scope_of ws) x) whole
     ∙ let_resolved top ws b.name (ty_of b.ty) (expr_of b.rhs) e (nbind_of c.in-Ok.bind) (nexpr_of c.in-Ok-body.e) c.in-Ok.ensures.says body
     ∙ search (rules, nview_rules)
+
+pub resolved_expr-returns-in_ok-e-in-Case-clause-says : goal.resolved_expr-returns-in_ok-e-in-Case-clause-says
+resolved_expr-returns-in_ok-e-in-Case-clause-says t c =
+    let top = top_by c.args.top.now in
+    let ws = words_in c.args.scope.now in
+    let e = expr_of c.deref-in-Case.result.now in
+    let alts = alts_of c.as_slice-in-Case.result.now in
+    let rest = λ (vs : List Word). case_resolved top (scope_of vs) (nexpr_of c.in_ok-e-in-Case.e) c.in-Case.word (ty_of c.in-Case.t) (ty_of c.in-Case.u) alts in
+    let is : expr_of c.args.e.now ≡ ECase e c.in-Case.word (ty_of c.in-Case.t) (ty_of c.in-Case.u) alts = search (rules, view_rules) in
+    let whole : resolved_expr top (scope_of ws) (expr_of c.args.e.now) ≡ rest ws =
+    ap (resolved_expr top (scope_of ws)) is
+    ∙ case_behind top ws e c.in-Case.word (ty_of c.in-Case.t) (ty_of c.in-Case.u) alts (nexpr_of c.in_ok-e-in-Case.e) c.in_ok-e-in-Case.ensures.says in
+    subst (Says nexpr_of c.case.result) (ap rest c.in_ok-e-in-Case.ensures.scope ∙ sym whole) c.case.ensures.says

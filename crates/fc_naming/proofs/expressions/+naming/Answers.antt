@@ -1,16 +1,16 @@
 use Rattle.std.proofs.Common.{arith, rules, ◌≡◌, ◌∙◌, IfOk, false, sym, subst}
-use Rattle.fc_syntax.specs.View.{arg_of, args_of, expr_of, ty_of}
+use Rattle.fc_syntax.specs.View.{alts_of, arg_of, args_of, binders_of, expr_of, ty_of}
 use Rattle.fc_syntax.proofs.View.{view_rules}
 use Rattle.fc_model.specs.Nameless.{NLet}
 use Rattle.fc_model.specs.NamelessView.{nbinds_of, nexpr_of, nty_of}
 use Rattle.fc_model.proofs.NamelessView.{nview_rules}
-use Rattle.fc_naming.specs.Hinted.{HApp, HCon, HLam, HLit, HLocal, HVar, HTerm}
-use Rattle.fc_naming.specs.HintedView.{harg_of, hargs_of, hexpr_of, lambda_of, let_of, only_of}
+use Rattle.fc_naming.specs.Hinted.{HApp, HCase, HCon, HLam, HLit, HLocal, HVar, HTerm}
+use Rattle.fc_naming.specs.HintedView.{halts_of, harg_of, hargs_of, hbinders_of, hexpr_of, lambda_of, let_of, only_of}
 use Rattle.fc_naming.specs.Naming.{IsNamed}
-use Rattle.fc_naming.specs.Scopes.{words_of}
-use Rattle.fc_naming.proofs.Built.{args_step, args_whole}
+use Rattle.fc_naming.specs.Scopes.{GoesOn, onto, words_of}
+use Rattle.fc_naming.proofs.Built.{alts_step, alts_whole, args_step, args_whole}
 use Rattle.fc_naming.proofs.HintedView.{hexpr_out}
-use Rattle.fc_naming.proofs.Written.{application_written, constructor_written, lambda_written, let_hinted, let_written, literal_written, local_written, term_written, variable_written}
+use Rattle.fc_naming.proofs.Written.{alternative_written, application_written, case_goes_on, case_written, constructor_written, lambda_written, let_hinted, let_written, literal_written, local_written, term_written, variable_written}
 use Rattle.fc_naming.proofs.expressions.+naming.Goals as goal
 
 pub named-returns-in_ok-local-in-Local : goal.named-returns-in_ok-local-in-Local
@@ -79,3 +79,33 @@ named_args-loop-arg-preserved t c =
 pub named_args-returns : goal.named_args-returns
 named_args-returns t c =
     args_whole c.args.own.now (words_of c.args.scope.now) (hargs_of c.args.args.now) c.args.args.now c.loop-arg.arg-index c.loop-arg.out (omega arith) c.loop-arg.invariant
+
+pub named-returns-in_ok-e-in-Case : goal.named-returns-in_ok-e-in-Case
+named-returns-in_ok-e-in-Case t c =
+    let h = hexpr_of c.deref-in-Case.result.now in
+    let is : hexpr_of c.args.e.now ≡ HCase h c.in-Case.hint (nty_of c.in-Case.t) (nty_of c.in-Case.u) (halts_of c.as_slice-in-Case.result.now) = search (rules, nview_rules, hexpr_out) in
+    case_goes_on c.args.own.now (words_of c.args.scope.now) (hexpr_of c.args.e.now) h (expr_of c.in_ok-e-in-Case.e) c.case_of.result c.in-Case.hint (nty_of c.in-Case.t) (nty_of c.in-Case.u)
+    (halts_of c.as_slice-in-Case.result.now) is c.in_ok-e-in-Case.ensures c.case_of.ensures
+
+pub case_of-returns : goal.case_of-returns
+case_of-returns t c =
+    case_written c.args.own.now (words_of c.args.scope.now) _ c.args.hint.now c.in_ok-word.word (nty_of c.args.t.now) (nty_of c.args.u.now) (halts_of c.args.alts.now) (ty_of c.in_ok-t.t)
+    (ty_of c.in_ok-u.u) (expr_of c.args.e) (alts_of c.in_ok-alts.alts) (search (rules, view_rules)) c.in_ok-t.ensures c.in_ok-u.ensures c.in_ok-word.ensures c.in_ok-alts.ensures
+
+pub named_alt-returns : goal.named_alt-returns
+named_alt-returns t c =
+    let a = c.args.alt.now in
+    let ws = words_of c.args.scope.now in
+    let binders : GoesOn c.args.own.now ws (hbinders_of a.binders) (hexpr_of a.body) c.in_ok-named.named.words (binders_of c.in_ok-named.named.binders) = search rules in
+    let body : IsNamed c.args.own.now (onto c.in_ok-named.named.words ws) (hexpr_of a.body) (expr_of c.in_ok-body.body) = search rules in
+    alternative_written c.args.own.now ws a.head c.in_ok-head.head (hbinders_of a.binders) (hexpr_of a.body) c.in_ok-named.named.words (binders_of c.in_ok-named.named.binders)
+    (expr_of c.in_ok-body.body) c.in_ok-head.ensures binders body
+
+pub named_alts-loop-alt-preserved : goal.named_alts-loop-alt-preserved
+named_alts-loop-alt-preserved t c =
+    alts_step c.args.own.now (words_of c.args.scope.now) (halts_of c.args.alts.now) c.args.alts.now c.loop-alt.alt-index c.alt-item.result c.loop-alt.out c.push.new.self c.in_ok-next.next
+    (omega arith) c.alt-item.is c.loop-alt.invariant c.in_ok-next.ensures (search rules)
+
+pub named_alts-returns : goal.named_alts-returns
+named_alts-returns t c =
+    alts_whole c.args.own.now (words_of c.args.scope.now) (halts_of c.args.alts.now) c.args.alts.now c.loop-alt.alt-index c.loop-alt.out (omega arith) c.loop-alt.invariant

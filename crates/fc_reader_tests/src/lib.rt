@@ -1,0 +1,7 @@
+//! Tests of `fc_reader`, which is proved once without them.
+#![tactic(auto)]
+
+#[cfg(test)]
+mod case_tests;
+#[cfg(test)]
+mod tests;
