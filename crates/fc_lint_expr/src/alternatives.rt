@@ -19,7 +19,9 @@ ghost use Rattle.fc_lint_expr.specs.AltViews.{before_of, binder_judged, construc
 use crate::arguments::is_int_hash;
 use fc_model::{Flawed, NBinder, NTy, deeper, flaw_here, next_part, not_built};
 use fc_syntax::{FaultKind, Head, Kind, Name, Text};
-use fc_types::{Declarations, DeclaredCon, copy_type, is_value_kind, kind_of_part, same_type};
+use fc_types::{
+    Declarations, DeclaredCon, copy_type, is_value_kind, kind_of_part, same_type, same_word,
+};
 use std::alloc::Global;
 
 /// What stands before an alternative.
@@ -135,18 +137,6 @@ fn literal_goes(
         return Err(flaw_here(alloc, FaultKind::AltOrder));
     }
     Ok(Before::AfterLit(literal))
-}
-
-/// Whether both are the same word, or both are none.
-fn same_word(left: &Option<Text>, right: &Option<Text>) -> bool
-    ensures { result ≡ kinds.same_word left.now right.now }
-{
-    match (left, right) {
-        (None, None) => true,
-        (Some(left), Some(right)) => left.as_str() == right.as_str(),
-        (None, Some(_)) => false,
-        (Some(_), None) => false,
-    }
 }
 
 /// Whether a type is the data type of this word in the module of its constructor.

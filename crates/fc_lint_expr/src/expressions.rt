@@ -283,10 +283,10 @@ fn type_of<'x>(
             _ => Err(not_built()),
         },
         NExpr::Case(scrutinee, _, of, answer, alternatives) => {
-            let s = type_of_part(alloc, scrutinee, declared, locals, 0)?;
-            let k = case_kinds(alloc, of, answer, declared)?;
+            let found = type_of_part(alloc, scrutinee, declared, locals, 0)?;
+            let kind = case_kinds(alloc, of, answer, declared)?;
             let wanted = Wanted {
-                scrutinee: &s,
+                scrutinee: &found,
                 answer,
             };
             alternatives_fit(
@@ -297,7 +297,7 @@ fn type_of<'x>(
                 &*locals,
                 wanted,
             )?;
-            case_type(alloc, of, &s, answer, &k)
+            case_type(alloc, of, &found, answer, &kind)
         }
         NExpr::Cast(_, _) => Err(not_built()),
         NExpr::Con(name, args) => {

@@ -10,5 +10,5 @@ mod tables;
 pub use copies::copy_type;
 pub use declarations::Declarations;
 pub use kinds::{is_value_kind, kind, kind_of_part};
-pub use sameness::{same_kind, same_name, same_type};
+pub use sameness::{same_kind, same_name, same_type, same_word};
 pub use tables::DeclaredCon;

@@ -7,8 +7,8 @@ ghost use Rattle.fc_model.specs.NamelessView.{nty_of};
 use fc_model::NTy;
 use fc_syntax::{Kind, Name, Role, Text};
 
-/// Whether both are the same word, or both are none.
-fn same_word(left: &Option<Text>, right: &Option<Text>) -> bool
+/// Whether both are the same word, or both are none. Takes no memory.
+pub fn same_word(left: &Option<Text>, right: &Option<Text>) -> bool
     ensures { result ≡ words.same_word left.now right.now }
 {
     match (left, right) {
