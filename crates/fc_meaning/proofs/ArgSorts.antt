@@ -1,9 +1,9 @@
 -- The sorts that are read off arguments are those of their types.
-use Rattle.std.proofs.Common.{◌≡◌, true, if◌then◌else◌, Bool, false, bytes_eq, List, [], ◌∷◌, map, Option, Some, None, Result, Ok, refl, sym, ap, ap₂, ◌∙◌, subst}
+use Rattle.std.proofs.Common.{◌≡◌, true, if◌then◌else◌, Bool, false, bytes_eq, List, [], ◌∷◌, map, Option, Some, None, Ok, refl, sym, ap, ap₂, ◌∙◌, subst}
 use Rattle.fc_syntax.specs.declared.ty.Name.{Name}
 use Rattle.fc_syntax.specs.Tree.{Word}
 use Rattle.fc_model.specs.Erasure.{Scope, arg_sorts, sort_of, sort_of_type}
-use Rattle.fc_model.specs.Faulting.{F, under, within, and_then}
+use Rattle.fc_model.specs.Faulting.{under, within, and_then}
 use Rattle.fc_model.specs.Kinding.{decls_at, kind_or_fault, same_type}
 use Rattle.fc_model.specs.Linting.{Done, done, def_type_judged, def_types_judged, definition_kind, exports_judged, lint_or_fault, type_decls_judged}
 use Rattle.fc_model.specs.Nameless.{NTy, NTVar, NTCon, NTInt, NTApp, NTFun, NTForall, NTCoForall, NExpr, NCon, NArgs}
@@ -16,7 +16,7 @@ use Rattle.fc_model.proofs.Resolved.{within_inv}
 use Rattle.fc_model.proofs.Sameness.{and_inv, false_true, same_type_eq}
 use Rattle.fc_model.proofs.TypedIs.{constructed_inv, given_args_are, type_is_given}
 use Rattle.fc_meaning.specs.Laws.{Agrees}
-use Rattle.fc_meaning.proofs.Optional.{some_is}
+use Rattle.fc_meaning.proofs.Optional.{found_has, some_is}
 
 -- a type of the kind that a definition's type has is lifted
 star_lifted : (ms : List NModule) (t : NTy) (d : Done) → and_then (under 0 (kind_or_fault ms [] t)) (λ k. definition_kind k) ≡ Ok d → sort_of_type t ≡ Lifted
@@ -28,10 +28,6 @@ star_lifted ms (NTFun t u) d h = refl
 star_lifted ms (NTForall k t) d h = refl
 star_lifted ms (NTCoForall r t u v) d h = refl
 
-when_found : (b : Bool) (s t : NTy) (r : Result NTy F) → sort_of_type s ≡ Lifted → (r ≡ Ok t → sort_of_type t ≡ Lifted) → (if b then Ok s else r) ≡ Ok t → sort_of_type t ≡ Lifted
-when_found true s t r l rest h = subst (λ x. sort_of_type x ≡ Lifted) (ok_ok h) l
-when_found false s t r l rest h = rest h
-
 -- the types of definitions are lifted
 def_lifted : (ms : List NModule) (ds : List NDecl) (w : Word) (t : NTy) → def_types_judged ms ds ≡ Ok done → def_type ds w ≡ Ok t → sort_of_type t ≡ Lifted
 def_lifted ms [] w t j h = err_ok h
@@ -42,11 +38,11 @@ def_lifted ms (NAxiom n ps u v ∷ ds) w t j h = def_lifted ms ds w t j h
 def_lifted ms (NDef n u e ∷ ds) w t j h =
     let p = and_then_inv (within n (def_type_judged ms (NDef n u e))) _ done j in
     let l = star_lifted ms u p.0 (within_inv n (def_type_judged ms (NDef n u e)) p.0 p.1) in
-    when_found (bytes_eq n w) u t (def_type ds w) l (λ q. def_lifted ms ds w t p.2 q) h
+    found_has (λ x. sort_of_type x ≡ Lifted) (λ x. Ok x) (λ x y same. ok_ok same) (bytes_eq n w) u t (def_type ds w) l (λ q. def_lifted ms ds w t p.2 q) h
 def_lifted ms (NWrap n u e ∷ ds) w t j h =
     let p = and_then_inv (within n (def_type_judged ms (NWrap n u e))) _ done j in
     let l = star_lifted ms u p.0 (within_inv n (def_type_judged ms (NWrap n u e)) p.0 p.1) in
-    when_found (bytes_eq n w) u t (def_type ds w) l (λ q. def_lifted ms ds w t p.2 q) h
+    found_has (λ x. sort_of_type x ≡ Lifted) (λ x. Ok x) (λ x y same. ok_ok same) (bytes_eq n w) u t (def_type ds w) l (λ q. def_lifted ms ds w t p.2 q) h
 
 -- no variable of a module that lints has the type `Int#`
 value_lifted : (m : NModule) → lint_or_fault m ≡ Ok done → (o : Option Word) (w : Word) (t : NTy) → def_type (decls_at (m ∷ []) o) w ≡ Ok t → sort_of_type t ≡ Lifted

@@ -1,5 +1,5 @@
 -- Answers that may be none, tests, and what follows where one holds.
-use Rattle.std.proofs.Common.{◌≡◌, Bool, true, false, cond, Option, Some, None, refl, ap}
+use Rattle.std.proofs.Common.{◌≡◌, Bool, true, false, if◌then◌else◌, cond, Option, Some, None, refl, subst, ap}
 
 value_or : {A : Type 0} → A → Option A → A
 value_or a None = a
@@ -28,3 +28,9 @@ both_true false b e = absurd (false_true e)
 pub cond_keeps : {A : Type 0} (F : A → Type 0) (b : Bool) (x y : A) → F x → F y → F (cond b x y)
 cond_keeps F true x y p q = p
 cond_keeps F false x y p q = q
+
+-- what a search finds has a property, if what stands here has it, and what is found further on
+pub found_has : {X R : Type 0} (P : X → Type 0) (make : X → R) → ((x y : X) → make x ≡ make y → x ≡ y) → (b : Bool) (here found : X) (further : R) → P here
+    → (further ≡ make found → P found) → (if b then make here else further) ≡ make found → P found
+found_has P make same true here found further p rest e = subst P (same here found e) p
+found_has P make same false here found further p rest e = rest e

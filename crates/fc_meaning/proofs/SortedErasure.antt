@@ -25,7 +25,7 @@ use Rattle.fc_model.proofs.TypedIs.{given_type_is}
 use Rattle.fc_meaning.specs.Laws.{Agrees}
 use Rattle.fc_meaning.proofs.ArgSorts.{sort_is}
 use Rattle.fc_meaning.proofs.BuiltExpressions.{AreBuiltAlts, AreBuiltArgs, AreBuiltDecls, IsBuiltExpr, decls_built}
-use Rattle.fc_meaning.proofs.Optional.{some_is, none_some}
+use Rattle.fc_meaning.proofs.Optional.{found_has, some_is, none_some}
 
 -- EXPRESSIONS
 
@@ -165,10 +165,6 @@ rights_hold own imports exports hidden ds lint =
     let r = and_then_inv (def_types_judged (m ∷ []) ds) _ done q.2 in
     r.2
 
-when_found : (b : Bool) (e t : Term) (o : Option Term) → IsSorted [] e → (o ≡ Some t → IsSorted [] t) → (if b then Some e else o) ≡ Some t → IsSorted [] t
-when_found true e t o s rest h = subst (IsSorted []) (some_is h) s
-when_found false e t o s rest h = rest h
-
 -- what is defined is the right side of a definition
 right_side_sorted : (ds : List NDecl) (w : Word) (t : Term) → AreDefsSorted ds → right_side ds w ≡ Some t → IsSorted [] t
 right_side_sorted [] w t s h = absurd (none_some h)
@@ -176,8 +172,8 @@ right_side_sorted (NData n ps cs ∷ ds) w t s h = right_side_sorted ds w t s.1 
 right_side_sorted (NNew n ps u con ∷ ds) w t s h = right_side_sorted ds w t s.1 h
 right_side_sorted (NFamily n ps k ∷ ds) w t s h = right_side_sorted ds w t s.1 h
 right_side_sorted (NAxiom n ps u v ∷ ds) w t s h = right_side_sorted ds w t s.1 h
-right_side_sorted (NDef n u e ∷ ds) w t s h = when_found (bytes_eq n w) (erased no_scope e) t (right_side ds w) s.0 (λ q. right_side_sorted ds w t s.1 q) h
-right_side_sorted (NWrap n u e ∷ ds) w t s h = when_found (bytes_eq n w) (erased no_scope e) t (right_side ds w) s.0 (λ q. right_side_sorted ds w t s.1 q) h
+right_side_sorted (NDef n u e ∷ ds) w t s h = found_has (IsSorted []) Some (λ x y same. some_is same) (bytes_eq n w) (erased no_scope e) t (right_side ds w) s.0 (λ q. right_side_sorted ds w t s.1 q) h
+right_side_sorted (NWrap n u e ∷ ds) w t s h = found_has (IsSorted []) Some (λ x y same. some_is same) (bytes_eq n w) (erased no_scope e) t (right_side ds w) s.0 (λ q. right_side_sorted ds w t s.1 q) h
 
 module_sorted : (own : Word) (imports exports hidden : List Word) (ds : List NDecl) (m : Option Word) (w : Word) (t : Term) → AreDefsSorted ds
     → right_side (decls_at (NModuleOf own imports exports hidden ds ∷ []) m) w ≡ Some t → IsSorted [] t

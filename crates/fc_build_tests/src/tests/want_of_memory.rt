@@ -1,5 +1,6 @@
 //! Want of memory: whichever allocation fails, a build answers 5 or as with ample memory. In the gate none fails; each fails in turn
-//! under `rt try --test --fail-alloc N`, where a test that has no memory for its own files fails too, but no assertion does.
+//! under `rt try --test --fail-alloc N`, where the test here fails only if it has no memory for its own files, which it says, and no
+//! assertion of it fails. (The other tests take memory to be ample.)
 use super::{Ran, SOUND, run_over};
 use fc_files::{Files, MOST, ReadAnswer};
 use std::alloc::Global;
