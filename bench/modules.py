@@ -1,7 +1,7 @@
 #!/usr/bin/env python3
 """Builds modules of growing size with the program `coreopt`, and prints for each the seconds, the bytes a second and the peak
-memory. There are three kinds of modules: constants that give a constructor two names of other definitions; functions whose bodies
-are lets and applications, a hundred deep; and small functions that call others. Run it from anywhere, on a machine where the
+memory. There are four kinds of modules: constants that give a constructor two names of other definitions; functions whose bodies
+are lets and applications, a hundred deep; small functions that call others; and functions by case. Run it from anywhere, on a machine where the
 program is built (`./coreopt build examples/Shapes.fc`)."""
 import os
 import subprocess
@@ -38,7 +38,21 @@ def small(count):
         yield f" (def d{10_000 + i} (fun T T T) (lam ((x T) (y T)) (app d{left} y (app d{right} x y))))"
 
 
-KINDS = [("names", names, [11_000, 22_000, 60_000]), ("deep", deep, [100, 300, 900]), ("small functions", small, [4_000, 8_000, 16_000])]
+def cases(count):
+    """Functions by case, whose two alternatives build a constructor and call two others."""
+    for i in range(count):
+        left = 10_000 + (i * 7_919 + 1) % count
+        right = 10_000 + (i * 104_729 + 2) % count
+        alternatives = f"(K () (con P y x)) (P ((a T) (b T)) (app d{left} (app d{right} b)))"
+        yield f" (def d{10_000 + i} (fun T T) (lam ((x T)) (case x (y T) T {alternatives})))"
+
+
+KINDS = [
+    ("names", names, [11_000, 22_000, 60_000]),
+    ("deep", deep, [100, 300, 900]),
+    ("small functions", small, [4_000, 8_000, 16_000]),
+    ("cases", cases, [3_000, 6_000, 12_000]),
+]
 
 
 def module(kind, count):
