@@ -13,18 +13,22 @@ PROGRAM = os.path.join(TOP, "crates", "coreopt", "out", "coreopt")
 DEEP = 100
 
 
+def others(i, count):
+    """The numbers of two other definitions, before and after the one at i."""
+    return 10_000 + (i * 7_919 + 1) % count, 10_000 + (i * 104_729 + 2) % count
+
+
 def names(count):
     """Constants, each with two names of other definitions, before and after it."""
     for i in range(count):
-        left = 10_000 + (i * 7_919 + 1) % count
-        right = 10_000 + (i * 104_729 + 2) % count
+        left, right = others(i, count)
         yield f" (def d{10_000 + i} T (con P d{left} d{right}))"
 
 
 def deep(count):
     """Functions: fifty lets, one inside another, around fifty applications, each the argument of the one before."""
     for i in range(count):
-        other = 10_000 + (i * 7_919 + 1) % count
+        other, _ = others(i, count)
         lets = "".join(f"(let (y{k} T (app d{other} {'x' if k == 0 else f'y{k - 1}'})) " for k in range(DEEP // 2))
         body = f"(app d{other} " * (DEEP // 2) + f"y{DEEP // 2 - 1}" + ")" * (DEEP // 2)
         yield f" (def d{10_000 + i} (fun T T) (lam ((x T)) {lets}{body}{')' * (DEEP // 2)}))"
@@ -33,16 +37,14 @@ def deep(count):
 def small(count):
     """Functions of two arguments that call two others."""
     for i in range(count):
-        left = 10_000 + (i * 7_919 + 1) % count
-        right = 10_000 + (i * 104_729 + 2) % count
+        left, right = others(i, count)
         yield f" (def d{10_000 + i} (fun T T T) (lam ((x T) (y T)) (app d{left} y (app d{right} x y))))"
 
 
 def cases(count):
     """Functions by case, whose two alternatives build a constructor and call two others."""
     for i in range(count):
-        left = 10_000 + (i * 7_919 + 1) % count
-        right = 10_000 + (i * 104_729 + 2) % count
+        left, right = others(i, count)
         alternatives = f"(K () (con P y x)) (P ((a T) (b T)) (app d{left} (app d{right} b)))"
         yield f" (def d{10_000 + i} (fun T T) (lam ((x T)) (case x (y T) T {alternatives})))"
 
