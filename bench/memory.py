@@ -12,10 +12,17 @@ import tempfile
 TOP = os.path.dirname(os.path.dirname(os.path.abspath(__file__)))
 PROGRAM = os.path.join(TOP, "crates", "coreopt", "out", "coreopt")
 MALLOC = """
+#include <fcntl.h>
 #include <stdlib.h>
+#include <unistd.h>
 extern void *__libc_malloc(size_t), *__libc_realloc(void *, size_t), *__libc_calloc(size_t, size_t);
 static long calls;
-static int fails(void) { char *at = getenv("FAIL_AT"); return at && ++calls == atol(at); }
+static int fails(void) {
+    char *at = getenv("FAIL_AT"), *told = getenv("FAIL_TOLD");
+    if (!at || !told || ++calls != atol(at)) return 0;
+    close(creat(told, 0600));
+    return 1;
+}
 void *malloc(size_t n) { return fails() ? 0 : __libc_malloc(n); }
 void *realloc(void *p, size_t n) { return fails() ? 0 : __libc_realloc(p, n); }
 void *calloc(size_t m, size_t n) { return fails() ? 0 : __libc_calloc(m, n); }
@@ -23,16 +30,17 @@ void *calloc(size_t m, size_t n) { return fails() ? 0 : __libc_calloc(m, n); }
 
 
 def build(shim, example, at):
-    """The status, the two streams and the files of a build in which call `at` fails; 0 for none."""
-    with tempfile.TemporaryDirectory() as folder:
-        env = dict(os.environ, LD_PRELOAD=shim, FAIL_AT=str(at))
+    """The status, the two streams and the files of a build in which call `at` fails, and whether there was such a call."""
+    with tempfile.TemporaryDirectory() as folder, tempfile.TemporaryDirectory() as aside:
+        told = os.path.join(aside, "told")
+        env = dict(os.environ, LD_PRELOAD=shim, FAIL_AT=str(at), FAIL_TOLD=told)
         text = os.path.join(TOP, "examples", example + ".fc")
         ran = subprocess.run([PROGRAM, "build", text], cwd=folder, env=env, capture_output=True, timeout=60)
         files = {}
         for name in sorted(os.listdir(folder)):
             with open(os.path.join(folder, name), "rb") as file:
                 files[name] = file.read()
-        return ran.returncode, ran.stdout, ran.stderr, files
+        return (ran.returncode, ran.stdout, ran.stderr, files), os.path.exists(told)
 
 
 def is_prefix(example, files, whole):
@@ -43,19 +51,19 @@ def is_prefix(example, files, whole):
 
 def try_each(shim, example):
     """How many builds were wrong; prints what came."""
-    whole = build(shim, example, 0)
-    wanting = same = wrong = at = 0
-    while same < 40:
-        at += 1
-        ran = build(shim, example, at)
-        if ran == whole:
-            same += 1
-        elif ran[0] == 5 and ran[1] == b"" and b"out of memory\n".startswith(ran[2]) and is_prefix(example, ran[3], whole[3]):
-            wanting, same = wanting + 1, 0
-        else:
-            wrong, same = wrong + 1, 0
+    whole, _ = build(shim, example, 0)
+    wanting = wrong = 0
+    at = 1
+    ran, failed = build(shim, example, at)
+    while failed:
+        if ran[0] == 5 and ran[1] == b"" and b"out of memory\n".startswith(ran[2]) and is_prefix(example, ran[3], whole[3]):
+            wanting += 1
+        elif ran != whole:
+            wrong += 1
             print(f"{example}: allocation {at}: status {ran[0]}, {ran[1]}, {ran[2]}, {list(ran[3])}")
-    print(f"{example}: {wanting} times want of memory, {wrong} wrong")
+        at += 1
+        ran, failed = build(shim, example, at)
+    print(f"{example}: {at - 1} allocations, {wanting} times want of memory, {wrong} wrong")
     return wrong
 
 

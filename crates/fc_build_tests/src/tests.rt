@@ -105,11 +105,17 @@ fn each_status_has_its_line(rt: HostRuntime) -> Result<(), Fail> {
     Ok(())
 }
 
-/// What a name holds after a run, `None` where there is no such file.
-fn held(alloc: Global, files: &mut MemFiles, name: &str) -> Option<Vec<u8>> {
-    match files.read(alloc, name, MOST) {
-        ReadAnswer::Ok(bytes) => Some(bytes),
-        _ => None,
+/// Whether a name holds these bytes after a run, or nothing where none are given. Fails where that cannot be read.
+fn holds(alloc: Global, ran: &mut Ran, name: &str, bytes: Option<&[u8]>) -> Result<bool, Fail> {
+    match ran.files.read(alloc, name, MOST) {
+        ReadAnswer::Ok(found) => match bytes {
+            Some(bytes) => Ok(found.as_slice() == bytes),
+            None => Ok(false),
+        },
+        ReadAnswer::Absent => Ok(bytes.is_none()),
+        ReadAnswer::TooLong => Err("too long a file".into()),
+        ReadAnswer::Failed => Err("a failed read".into()),
+        ReadAnswer::Memory => Err("no memory".into()),
     }
 }
 
@@ -117,16 +123,10 @@ fn held(alloc: Global, files: &mut MemFiles, name: &str) -> Option<Vec<u8>> {
 fn empty_module_is_written(rt: HostRuntime) -> Result<(), Fail> {
     let alloc = rt.alloc();
     let mut ran = run_over(&rt, alloc, &["build", "M.fc"], HEADER, &SOUND)?;
-    let core = held(alloc, &mut ran.files, "./M.opt.fc").ok_or("no core")?;
-    assert_eq!(rt;
-        core.as_slice(),
-        b"(module M (imports) (exports))\n".as_slice()
-    );
-    let interface = held(alloc, &mut ran.files, "./M.fci").ok_or("no interface")?;
-    assert_eq!(rt;
-        interface.as_slice(),
-        b"(interface 1 M (imports) (exports))\n".as_slice()
-    );
+    let core: &[u8] = b"(module M (imports) (exports))\n";
+    assert!(rt; holds(alloc, &mut ran, "./M.opt.fc", Some(core))?);
+    let interface: &[u8] = b"(interface 1 M (imports) (exports))\n";
+    assert!(rt; holds(alloc, &mut ran, "./M.fci", Some(interface))?);
     Ok(())
 }
 
@@ -279,16 +279,12 @@ fn declarations_are_written(rt: HostRuntime) -> Result<(), Fail> {
         b"(module M (imports) (exports T x)\n(hidden K) (data T () (K ()) (P () T Int#))\n; a comment\n(def x T y) (def y T (con P (con K) -007#)))";
     let mut ran = run_over(&rt, alloc, &["build", "M.fc"], text, &SOUND)?;
     assert_eq!(rt; ran.status, 0);
-    let core = held(alloc, &mut ran.files, "./M.opt.fc").ok_or("no core")?;
-    assert_eq!(rt;
-        core.as_slice(),
-        b"(module M (imports) (exports T x) (hidden K P y)\n (data T () (K ()) (P () T Int#))\n (def x T y)\n (def y T (con P (con K) -7#)))\n".as_slice()
-    );
-    let interface = held(alloc, &mut ran.files, "./M.fci").ok_or("no interface")?;
-    assert_eq!(rt;
-        interface.as_slice(),
-        b"(interface 1 M (imports) (exports T x) (hidden K P y)\n (data T () (K ()) (P () T Int#))\n (value x T (sig) none)\n (value y T (sig) none))\n".as_slice()
-    );
+    let core: &[u8] =
+        b"(module M (imports) (exports T x) (hidden K P y)\n (data T () (K ()) (P () T Int#))\n (def x T y)\n (def y T (con P (con K) -7#)))\n";
+    assert!(rt; holds(alloc, &mut ran, "./M.opt.fc", Some(core))?);
+    let interface: &[u8] =
+        b"(interface 1 M (imports) (exports T x) (hidden K P y)\n (data T () (K ()) (P () T Int#))\n (value x T (sig) none)\n (value y T (sig) none))\n";
+    assert!(rt; holds(alloc, &mut ran, "./M.fci", Some(interface))?);
     Ok(())
 }
 
@@ -299,11 +295,9 @@ fn cases_are_written(rt: HostRuntime) -> Result<(), Fail> {
         b"(module M (imports) (exports f) (data P () (L ()) (N () Int# P))\n(def f (fun P P) (lam ((x P)) (case x (y P) P\n (default (case 007# (m Int#) P (default y) (-01# x))) (N ((n Int#) (p P)) (con N n p))))))";
     let mut ran = run_over(&rt, alloc, &["build", "M.fc"], text, &SOUND)?;
     assert_eq!(rt; ran.status, 0);
-    let core = held(alloc, &mut ran.files, "./M.opt.fc").ok_or("no core")?;
-    assert_eq!(rt;
-        core.as_slice(),
-        b"(module M (imports) (exports f) (hidden P L N)\n (data P () (L ()) (N () Int# P))\n (def f (fun P P) (lam ((x P)) (case x (y P) P (default (case 7# (m Int#) P (default y) (-1# x))) (N ((n Int#) (p P)) (con N n p))))))\n".as_slice()
-    );
+    let core: &[u8] =
+        b"(module M (imports) (exports f) (hidden P L N)\n (data P () (L ()) (N () Int# P))\n (def f (fun P P) (lam ((x P)) (case x (y P) P (default (case 7# (m Int#) P (default y) (-1# x))) (N ((n Int#) (p P)) (con N n p))))))\n";
+    assert!(rt; holds(alloc, &mut ran, "./M.opt.fc", Some(core))?);
     Ok(())
 }
 
@@ -314,16 +308,12 @@ fn functions_are_written(rt: HostRuntime) -> Result<(), Fail> {
         b"(module M (imports) (exports compose) (data T () (K ())) (def compose (fun (fun T T) (fun (fun T T) (fun T T))) (lam ((f (fun T T))) (lam ((g (fun T T)) (x T)) (app f (app g x)))))\n(def y T (let (z T (con K)) (app (app (app compose (lam ((x T)) x)) (lam ((x T)) z)) z))))";
     let mut ran = run_over(&rt, alloc, &["build", "M.fc"], text, &SOUND)?;
     assert_eq!(rt; ran.status, 0);
-    let core = held(alloc, &mut ran.files, "./M.opt.fc").ok_or("no core")?;
-    assert_eq!(rt;
-        core.as_slice(),
-        b"(module M (imports) (exports compose) (hidden T K y)\n (data T () (K ()))\n (def compose (fun (fun T T) (fun T T) T T) (lam ((f (fun T T)) (g (fun T T)) (x T)) (app f (app g x))))\n (def y T (let (z T (con K)) (app compose (lam ((x T)) x) (lam ((x T)) z) z))))\n".as_slice()
-    );
-    let interface = held(alloc, &mut ran.files, "./M.fci").ok_or("no interface")?;
-    assert_eq!(rt;
-        interface.as_slice(),
-        b"(interface 1 M (imports) (exports compose) (hidden T K y)\n (data T () (K ()))\n (value compose (fun (fun T T) (fun T T) T T) (sig) none)\n (value y T (sig) none))\n".as_slice()
-    );
+    let core: &[u8] =
+        b"(module M (imports) (exports compose) (hidden T K y)\n (data T () (K ()))\n (def compose (fun (fun T T) (fun T T) T T) (lam ((f (fun T T)) (g (fun T T)) (x T)) (app f (app g x))))\n (def y T (let (z T (con K)) (app compose (lam ((x T)) x) (lam ((x T)) z) z))))\n";
+    assert!(rt; holds(alloc, &mut ran, "./M.opt.fc", Some(core))?);
+    let interface: &[u8] =
+        b"(interface 1 M (imports) (exports compose) (hidden T K y)\n (data T () (K ()))\n (value compose (fun (fun T T) (fun T T) T T) (sig) none)\n (value y T (sig) none))\n";
+    assert!(rt; holds(alloc, &mut ran, "./M.fci", Some(interface))?);
     Ok(())
 }
 

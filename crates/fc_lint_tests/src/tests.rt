@@ -49,12 +49,13 @@ fn stands_in(def: &Option<Text>, word: &str) -> bool {
 
 /// Whether the first fault of a text is that of a row.
 fn is_as_told(alloc: Global, text: &[u8], row: &Row<'_>) -> Result<bool, Fail> {
+    let (_, number, word, place) = row;
     match first_fault(alloc, text)? {
-        None => Ok(row.1 == 0),
+        None => Ok(*number == 0),
         Some(flaw) => Ok(
-            flaw.kind.number() == row.1
-                && stands_in(&flaw.def, row.2)
-                && flaw.path.as_slice() == row.3,
+            flaw.kind.number() == *number
+                && stands_in(&flaw.def, word)
+                && flaw.path.as_slice() == *place,
         ),
     }
 }

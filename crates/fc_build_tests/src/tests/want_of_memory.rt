@@ -1,8 +1,7 @@
 //! Want of memory: whichever allocation fails, a build answers 5 or as with ample memory. In the gate none fails; each fails in turn
 //! under `rt try --test --fail-alloc N`, where the test here fails only if it has no memory for its own files, which it says, and no
 //! assertion of it fails. (The other tests take memory to be ample.)
-use super::{Ran, SOUND, run_over};
-use fc_files::{Files, MOST, ReadAnswer};
+use super::{SOUND, holds, run_over};
 use std::alloc::Global;
 use std::process::Abort;
 use std::test::Fail;
@@ -16,21 +15,12 @@ const CORE: &[u8] =
 const INTERFACE: &[u8] =
     b"(interface 1 M (imports) (exports not) (hidden Bool False True)\n (data Bool () (False ()) (True ()))\n (value not (fun Bool Bool) (sig) none))\n";
 
-/// Whether a name holds these bytes. Fails where there is no memory to read them.
-fn holds(alloc: Global, ran: &mut Ran, name: &str, bytes: &[u8]) -> Result<bool, Fail> {
-    match ran.files.read(alloc, name, MOST) {
-        ReadAnswer::Ok(found) => Ok(found.as_slice() == bytes),
-        ReadAnswer::Memory => Err("no memory".into()),
-        _ => Ok(false),
-    }
-}
-
 /// Builds the text. Fails where there is no memory for the files and streams of the test.
 fn build(rt: &impl Abort, alloc: Global) -> Result<(), Fail> {
     let mut ran = run_over(rt, alloc, &["build", "M.fc"], TEXT, &SOUND)?;
-    assert!(rt; holds(alloc, &mut ran, "M.fc", TEXT)?);
-    let core = holds(alloc, &mut ran, "./M.opt.fc", CORE)?;
-    let interface = holds(alloc, &mut ran, "./M.fci", INTERFACE)?;
+    assert!(rt; holds(alloc, &mut ran, "M.fc", Some(TEXT))?);
+    let core = holds(alloc, &mut ran, "./M.opt.fc", Some(CORE))?;
+    let interface = holds(alloc, &mut ran, "./M.fci", Some(INTERFACE))?;
     match ran.status {
         0 => {
             assert!(rt; core && interface);
