@@ -1,20 +1,12 @@
 -- What the parts of a judgement come to.
-use Rattle.std.proofs.Common.{◌≡◌, ◌∙◌, ℕ, List, Option, Some, None, Err, IfSome, sym, subst}
+use Rattle.std.proofs.Common.{◌≡◌, ℕ, List, Option, Some, None, IfSome, sym, subst}
 use Rattle.fc_files.specs.Outside.{FileMap}
-use Rattle.fc_syntax.specs.Tree.{Module}
 use Rattle.fc_syntax.specs.declared.fault.Fault.{Fault}
 use Rattle.fc_syntax.specs.declared.fault.Refusal.{Refusal}
 use Rattle.fc_syntax.specs.declared.fault.Refusal.TheVariants as refusal
 use Rattle.fc_model.specs.Acceptance.{FirstFault, bad_form}
-use Rattle.fc_model.specs.Faulting.{F}
-use Rattle.fc_model.specs.Linting.{Lints, module_lint}
-use Rattle.fc_model.proofs.Parts.{err_ok}
 use Rattle.fc_reader.specs.Refusals.{IsFaultOf, IsReadRefusal}
 use Rattle.fc_reader.proofs.Laws.{no_module}
-
--- a module with a fault does not lint
-pub flawed_fails : (m : Module) (f : F) → module_lint m ≡ Err f → Lints m → ⊥
-flawed_fails m f h lint = err_ok (sym h ∙ lint)
 
 -- a file with a fault spells no module
 badly_formed_by : (held : Option FileMap) (file bytes : List ℕ) (f : Fault) → IfSome held (λ m. m file ≡ Some bytes) → IsFaultOf file bytes f → IfSome held (λ m. FirstFault (m file) bad_form)

@@ -9,8 +9,9 @@ ghost use Rattle.fc_build.specs.Judging.{IsReady, Judges};
 
 use fc_files::{Files, MOST, ReadAnswer};
 use fc_lint_set::lint_module;
-use fc_model::{Flawed, resolve};
+use fc_model::Flawed;
 use fc_reader::read_module;
+use fc_resolve::resolve;
 use fc_syntax::{Module, Refusal};
 use std::alloc::Global;
 

@@ -16,8 +16,6 @@ mod host;
 mod mem_files;
 mod numbered;
 mod sinks;
-#[cfg(test)]
-mod tests;
 
 ghost use Rattle.std.specs.Prelude.{◌≡◌, ◌≤◌, List, ℕ, Option, IfSome};
 ghost use Rattle.fc_files.specs.Outside.{FileMap, IsWithin, Reads, Rose, Takes, Told, Writes};

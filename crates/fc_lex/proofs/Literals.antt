@@ -26,9 +26,6 @@ digits_parts (b ∷ bs) h = (h, omega arith)
 pub digits_text : (ds : List ℕ) → is_digits ds ≡ true → IsUtf8 ds
 digits_text ds h = IsUtf8-from_ascii ds (IsAscii-from_digits ds (own.to ds (digits_parts ds h).0))
 
-digit_is_ascii : (b : ℕ) → is_digit b ≡ true → b < 128
-digit_is_ascii b h = grind (arith, nat_tests)
-
 minus_text : (s : Bool) (b : ℕ) (bs : List ℕ) → (b == 45) ≡ s → is_digits (if s then bs else b ∷ bs) ≡ true → IsUtf8 (b ∷ bs)
 minus_text true b bs e h =
     let small : b < 128 = omega (arith, eqb-true b 45 e) in

@@ -4,18 +4,15 @@ use Rattle.std.specs.Prelude.{Ok, ◌&&◌, ◌==◌, nat_lt, nat_le, if◌then�
 use Rattle.std.specs.Fmt.{decimal, signed_decimal}
 use Rattle.std.specs.List.{list_all}
 use Rattle.std.specs.Str.Parse.{digits_value, signed_digits_value}
-use Rattle.std.proofs.lemmas.Bool.{and_parts, and_from, and_left, true≢false}
+use Rattle.std.proofs.lemmas.Bool.{and_parts, and_from, true≢false}
 use Rattle.std.proofs.lemmas.Bool.Decides.{nat_tests}
-use Rattle.std.proofs.lemmas.Fmt.{decimal_nonempty, digits_decimal, digits_value-decimal, length-decimal-le}
+use Rattle.std.proofs.lemmas.Fmt.{decimal_nonempty, digits_decimal, digits_value-decimal}
 use Rattle.std.proofs.lemmas.List.Folds.{list_all-append}
 use mir.Syntax.{w64}
 use mir.Val.{SFits}
 use Rattle.fc_syntax.specs.declared.token.TokenKind.TheVariants as kind
-use Rattle.fc_syntax.specs.Tokens.{is_digit, is_digits, is_plain, is_number, ends_with_hash, without_minus, without_hash, is_literal, is_in_range, word_kind}
-use Rattle.fc_lex.proofs.Literals.{own, digits_parts, literal_by_last, without_last}
-
-not_hash : (b : ℕ) → is_digit b ≡ true → (b == 35) ≡ false
-not_hash b h = grind (arith, nat_tests)
+use Rattle.fc_syntax.specs.Tokens.{is_digit, is_digits, is_plain, without_minus, without_hash, is_literal, is_in_range, word_kind}
+use Rattle.fc_lex.proofs.Literals.{own, literal_by_last, without_last}
 
 not_minus : (b : ℕ) → is_digit b ≡ true → (b == 45) ≡ false
 not_minus b h = grind (arith, nat_tests)
@@ -35,18 +32,6 @@ digits_plain (b ∷ bs) h =
 digits_from : (w : List ℕ) → list_all is_digit w ≡ true → 0 < length w → is_digits w ≡ true
 digits_from [] h l = absurd (omega arith)
 digits_from (b ∷ bs) h l = h
-
-digits_end : (w : List ℕ) → list_all is_digit w ≡ true → ends_with_hash w ≡ false
-digits_end [] h = refl
-digits_end (b ∷ []) h = not_hash b (and_parts (is_digit b) true h).0
-digits_end (b ∷ c ∷ bs) h = digits_end (c ∷ bs) (and_parts (is_digit b) (list_all is_digit (c ∷ bs)) h).1
-
--- a number
-pub number_kind : (at : ℕ) (w : List ℕ) → is_number w ≡ true → word_kind at w ≡ Ok (kind.Number (digits_value 10 w))
-number_kind at w n =
-    let d = digits_parts w (and_parts (is_digits w) (nat_le (length w) 9) n).0 in
-    let l : is_literal w ≡ false = and_left (ends_with_hash w) (is_digits (without_minus (without_hash w))) (digits_end w d.0) in
-    rw (l, n) refl
 
 -- a literal
 pub literal_kind : (at : ℕ) (n : List ℕ) → is_digits (without_minus n) ≡ true → is_in_range (n ++ 35 ∷ []) ≡ true
@@ -82,13 +67,6 @@ plain_value (b ∷ bs) d =
 
 decimal_digits : (n : ℕ) → n < 2 ^ 64 → is_digits (decimal n) ≡ true
 decimal_digits n h = digits_from (decimal n) (digits_decimal own n h) (decimal_nonempty n h)
-
--- a printed number is that number
-pub printed_number : (at n : ℕ) → n < 10 ^ 9 → word_kind at (decimal n) ≡ Ok (kind.Number n)
-printed_number at n h =
-    let small : n < 2 ^ 64 = omega arith in
-    let t = and_from (is_digits (decimal n)) (nat_le (length (decimal n)) 9) (decimal_digits n small) (le-leb (length (decimal n)) 9 (length-decimal-le 9 n (omega arith) h small)) in
-    number_kind at (decimal n) t ∙ ap (λ v. Ok (kind.Number v)) (digits_value-decimal own n small)
 
 -- a printed integer and `#` are the literal of that value
 pub printed_literal : (at : ℕ) (z : ℤ) → SFits w64 z → word_kind at (signed_decimal z ++ 35 ∷ []) ≡ Ok (kind.Literal z)

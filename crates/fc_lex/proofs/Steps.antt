@@ -6,17 +6,12 @@ use Rattle.std.proofs.lemmas.List.{drop_more, drop_all, drop-drop, map-append}
 use Rattle.std.proofs.lemmas.List.Elements.{All-nil, All-push, All-weaker, All-head, All-tail}
 use Rattle.fc_syntax.specs.declared.token.Token.{Token}
 use Rattle.fc_syntax.specs.declared.token.TokenKind.{TokenKind}
-use Rattle.fc_syntax.specs.Tokens.{AreInOrder, ByteClass, Plain, byte_class, is_plain, ByteFault, Lexeme, then_lexemes, as_lexeme, word_lexeme, word_kind, lexeme_of, Between, InWord, move, lexed}
+use Rattle.fc_syntax.specs.Tokens.{AreInOrder, Plain, byte_class, is_plain, ByteFault, Lexeme, then_lexemes, as_lexeme, word_lexeme, word_kind, lexeme_of, Between, InWord, lexed}
 use Rattle.fc_lex.specs.declared.LexError.{LexError}
 use Rattle.fc_lex.specs.declared.LexError.TheVariants as error
 use Rattle.fc_lex.specs.Faults.{IsFirstFault, IsWordFault}
 use Rattle.fc_lex.specs.Pieces.{then_piece}
-use Rattle.fc_syntax.proofs.Lexing.{moved, lexed_first, plain_class, class_plain, lexed_apart}
-
--- the text from a byte on, by the class of that byte
-pub lexed_at : (bytes : List ℕ) (at : ℕ) (c : ByteClass) → at < length bytes → byte_class (get_or bytes at 0) ≡ c
-    → lexed Between at (drop at bytes) ≡ moved at (get_or bytes at 0) (drop (at + 1) bytes) (move Between c)
-lexed_at bytes at c l e = ap (lexed Between at) (drop_more bytes at 0 l) ∙ lexed_first Between at (get_or bytes at 0) (drop (at + 1) bytes) c e
+use Rattle.fc_syntax.proofs.Lexing.{lexed_first, plain_class, class_plain, lexed_apart}
 
 -- the rest of a word, as far as it goes
 one_more : (n : ℕ) → 1 + n ≡ suc n
@@ -110,16 +105,6 @@ read_nothing bytes = record {
 
 pub read_none : (bytes : List ℕ) (all : List Token) → all ≡ [] → IsRead bytes all 0
 read_none bytes all e = let P : List Token → Type 0 = λ ts. IsRead bytes ts 0 in subst P (sym e) (read_nothing bytes)
-
-pub read_on : (bytes : List ℕ) (all : List Token) (at end : ℕ) → IsRead bytes all at → at < end → end ≤ length bytes
-    → lexed Between at (drop at bytes) ≡ lexed Between end (drop end bytes) → IsRead bytes all end
-read_on bytes all at end r f w e = record {
-  within = w;
-  same = r.same ∙ ap (with_lexemes (map (lexeme_of bytes) all)) e;
-  slices = r.slices;
-  in_order = r.in_order;
-  before = All-weaker (λ t. t.to ≤ at) (λ t. t.to ≤ end) (λ t h. omega arith) all r.before;
-}
 
 in_order_more : (all : List Token) (t : Token) → AreInOrder all → All (λ u. u.to ≤ t.from) all → AreInOrder (all ++ t ∷ [])
 in_order_more [] t o b = tt

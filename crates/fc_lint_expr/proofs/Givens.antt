@@ -8,7 +8,7 @@ use Rattle.fc_model.specs.Typing as words
 use Rattle.fc_model.specs.declared.nameless.NArg as A
 use Rattle.fc_model.specs.declared.nameless.NTy as T
 use Rattle.fc_model.specs.Typing.{Context, args_given, is_atom, same_length, then_given, type_or_fault}
-use Rattle.fc_model.proofs.Building.{drop_item}
+use Rattle.fc_model.proofs.Lists.{drop_item}
 use Rattle.fc_lint_expr.specs.GivenViews.{arg_given, args_from, given_at, given_of, givens_of, with_givens}
 use Rattle.fc_lint_expr.specs.declared.arguments.Given.{Given}
 

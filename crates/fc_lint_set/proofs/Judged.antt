@@ -21,7 +21,7 @@ use Rattle.fc_model.specs.declared.nameless.NDecl.TheVariants.{DataType}
 use Rattle.fc_model.specs.declared.nameless.NParam.{NParam}
 use Rattle.fc_model.specs.declared.nameless.NConDecl.{NConDecl}
 use Rattle.fc_model.specs.declared.nameless.NTy.{NTy}
-use Rattle.fc_model.proofs.Building.{drop_item}
+use Rattle.fc_model.proofs.Lists.{drop_item}
 use Rattle.fc_lint_set.specs.Judging.{and_rest, con_value, cons_from, declarations_judged, field_value, fields_from}
 
 -- a part that holds or not, and then the rest

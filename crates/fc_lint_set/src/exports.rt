@@ -42,7 +42,7 @@ fn add_declaration(declared: &mut WordSet, alloc: Global, decl: &NDecl) -> Resul
 }
 
 /// The words that declarations declare, in any space.
-#[tactic(auto, using(fc_model::proofs::Behind::plus_both, std::proofs::lemmas::Grind::common_steps))]
+#[tactic(auto, using(fc_model::proofs::Lists::plus_both, std::proofs::lemmas::Grind::common_steps))]
 fn declared_words(alloc: Global, decls: &[NDecl]) -> Result<WordSet, Memory>
     ensures { IfOk result (λ s. set_of s ≡ plus_all (ndeclared_words (ndecls_of decls.now)) no_word) }
 {

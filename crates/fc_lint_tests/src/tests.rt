@@ -5,8 +5,9 @@ mod expressions;
 mod names;
 
 use fc_lint_set::lint_module;
-use fc_model::{Flaw, Flawed, resolve};
+use fc_model::{Flaw, Flawed};
 use fc_reader::read_module;
+use fc_resolve::resolve;
 use fc_syntax::Text;
 use std::alloc::Global;
 use std::process::Abort;

@@ -1,5 +1,6 @@
 -- The sorts that are read off arguments are those of their types.
 use Rattle.std.proofs.Common.{◌≡◌, true, if◌then◌else◌, Bool, false, bytes_eq, List, [], ◌∷◌, map, Option, Some, None, Ok, refl, sym, ap, ap₂, ◌∙◌, subst}
+use Rattle.std.proofs.lemmas.Bool.{and_parts}
 use Rattle.fc_syntax.specs.declared.ty.Name.{Name}
 use Rattle.fc_syntax.specs.Tree.{Word}
 use Rattle.fc_model.specs.Erasure.{Scope, arg_sorts, sort_of, sort_of_type}
@@ -13,7 +14,7 @@ use Rattle.fc_model.specs.Typing.{Constructor, Given, Context, args_given, atom_
 use Rattle.fc_model.specs.Typing.{HasType, typed_local, typed_declared, typed_literal, typed_application, typed_lambda, typed_let, typed_case, typed_con, ArgsAreGiven, no_args, one_arg}
 use Rattle.fc_model.proofs.Parts.{and_then_inv, err_ok, ok_ok}
 use Rattle.fc_model.proofs.Resolved.{within_inv}
-use Rattle.fc_model.proofs.Sameness.{and_inv, false_true, same_type_eq}
+use Rattle.fc_model.proofs.Sameness.{false_true, same_type_eq}
 use Rattle.fc_model.proofs.TypedIs.{constructed_inv, given_args_are, type_is_given}
 use Rattle.fc_meaning.specs.Laws.{Agrees}
 use Rattle.fc_meaning.proofs.Optional.{found_has, some_is}
@@ -89,8 +90,8 @@ module _ (m : NModule) (lint : lint_or_fault m ≡ Ok done) where
   sorts_are s agree no_args (t ∷ ts) l f h = false_true l
   sorts_are s agree (one_arg a rest) [] l f h = false_true l
   sorts_are s agree (one_arg {a = e} {rest = es} {t = u} {gs = gs} a rest) (t ∷ ts) l f h =
-      let g = and_inv (same_type t u) (types_fit ts gs) f in
-      let k = and_inv (atom_fits t (is_atom e)) (atoms_fit ts gs) h in
+      let g = and_parts (same_type t u) (types_fit ts gs) f in
+      let k = and_parts (atom_fits t (is_atom e)) (atoms_fit ts gs) h in
       let same = same_type_eq t u g.0 in
       let fits = subst (λ x. atom_fits x (is_atom e) ≡ true) same k.0 in
       ap₂ ◌∷◌ (sort_by_cases s agree a fits ∙ ap sort_of_type (sym same)) (sorts_are s agree rest ts l g.1 k.1)

@@ -1,5 +1,6 @@
 -- The right sides of the definitions of a formed module of the forms that are built, without names.
 use Rattle.std.proofs.Common.{◌≡◌, ℕ, ◌+◌, true, false, not, ◌&&◌, List, [], ◌∷◌, map, length, Option, Some, None, Result, Ok, Err, refl, sym, subst}
+use Rattle.std.proofs.lemmas.Bool.{and_parts}
 use Rattle.std.specs.List.{list_all}
 use Rattle.fc_syntax.specs.declared.fault.FaultKind.TheVariants.{Duplicate}
 use Rattle.fc_syntax.specs.declared.expr.Head.{Head}
@@ -19,7 +20,7 @@ use Rattle.fc_model.specs.Resolution.{resolved_expr, resolved_ty, resolved_var, 
 use Rattle.fc_model.specs.Terms.{InRange}
 use Rattle.fc_model.proofs.Parts.{and_then_inv, err_ok, need_inv, ok_ok, part}
 use Rattle.fc_model.proofs.Resolved.{then_arg_inv, then_item_inv, within_inv}
-use Rattle.fc_model.proofs.Sameness.{and_inv, false_true}
+use Rattle.fc_model.proofs.Sameness.{false_true}
 use Rattle.fc_meaning.proofs.PrimitiveRange.{literal_in_range}
 
 -- only a constructor has binders
@@ -98,37 +99,37 @@ module _ (top : Top) where
     expr_built s (EVar n) u f b h = name_built s n.module n.text u h
     expr_built s (ELit n) u f b h = subst IsBuiltExpr (ok_ok h) (literal_in_range n f)
     expr_built s (EApp e (ATerm a)) u f b h =
-        let x = and_inv (is_expr_formed e) (is_expr_formed a) f in
-        let y = and_inv (is_expr_built e) (is_expr_built a) b in
+        let x = and_parts (is_expr_formed e) (is_expr_formed a) f in
+        let y = and_parts (is_expr_built e) (is_expr_built a) b in
         let p = part 0 (resolved_expr top s e) _ u h in
         let q = part 1 (resolved_arg top s (ATerm a)) _ u p.2 in
         let r = and_then_inv (resolved_expr top s a) _ q.0 q.1 in
         let first = expr_built s e p.0 x.0 y.0 p.1 in
         let second = expr_built s a r.0 x.1 y.1 r.1 in
         subst IsBuiltExpr (ok_ok q.2) (subst (λ z. IsBuiltExpr (NApp p.0 z)) (ok_ok r.2) (first, second))
-    expr_built s (EApp e (AType t)) u f b h = let y = and_inv (is_expr_built e) false b in false_true y.1
-    expr_built s (EApp e (ACo g)) u f b h = let y = and_inv (is_expr_built e) false b in false_true y.1
+    expr_built s (EApp e (AType t)) u f b h = let y = and_parts (is_expr_built e) false b in false_true y.1
+    expr_built s (EApp e (ACo g)) u f b h = let y = and_parts (is_expr_built e) false b in false_true y.1
     expr_built s (ELam (BValue w t) e) u f b h =
-        let x = and_inv (is_lower_word w && is_type_formed t) (is_expr_formed e) f in
-        let y = and_inv (is_type_built t) (is_expr_built e) b in
+        let x = and_parts (is_lower_word w && is_type_formed t) (is_expr_formed e) f in
+        let y = and_parts (is_type_built t) (is_expr_built e) b in
         let p = part 0 (resolved_binder top s (BValue w t)) _ u h in
         let q = part 0 (resolved_ty top s.types t) _ p.0 p.1 in
         let r = part 1 (resolved_expr top (enter (BValue w t) s) e) _ u p.2 in
         let body = expr_built (enter (BValue w t) s) e r.0 x.1 y.1 r.1 in
         subst IsBuiltExpr (ok_ok r.2) (subst (λ z. IsBuiltExpr (NLam z r.0)) (ok_ok q.2) body)
     expr_built s (ELet false bs e) u f b h =
-        let x = and_inv (are_binds_formed bs) (is_expr_formed e) f in
-        let y = and_inv (is_bind_built bs) (is_expr_built e) b in
+        let x = and_parts (are_binds_formed bs) (is_expr_formed e) f in
+        let y = and_parts (is_bind_built bs) (is_expr_built e) b in
         let p = and_then_inv (resolved_binds top s no_word 0 bs) _ u h in
         let q = part (length (bind_words bs)) (resolved_expr top (enter_values (bind_words bs) s) e) _ u p.2 in
         let bind = bind_built s bs p.0 x.0 y.0 p.1 in
         let body = expr_built (enter_values (bind_words bs) s) e q.0 x.1 y.1 q.1 in
         subst IsBuiltExpr (ok_ok q.2) (bind, body)
     expr_built s (ECase e w t v alts) u f b h =
-        let x = and_inv (is_expr_formed e) ((is_lower_word w && (is_type_formed t && is_type_formed v)) && are_alts_formed alts) f in
-        let x' = and_inv (is_lower_word w && (is_type_formed t && is_type_formed v)) (are_alts_formed alts) x.1 in
-        let y = and_inv (is_expr_built e) ((is_type_built t && is_type_built v) && are_alts_built alts) b in
-        let y' = and_inv (is_type_built t && is_type_built v) (are_alts_built alts) y.1 in
+        let x = and_parts (is_expr_formed e) ((is_lower_word w && (is_type_formed t && is_type_formed v)) && are_alts_formed alts) f in
+        let x' = and_parts (is_lower_word w && (is_type_formed t && is_type_formed v)) (are_alts_formed alts) x.1 in
+        let y = and_parts (is_expr_built e) ((is_type_built t && is_type_built v) && are_alts_built alts) b in
+        let y' = and_parts (is_type_built t && is_type_built v) (are_alts_built alts) y.1 in
         let p = part 0 (resolved_expr top s e) _ u h in
         let q = part 1 (resolved_ty top s.types t) _ u p.2 in
         let r = part 2 (resolved_ty top s.types v) _ u q.2 in
@@ -136,8 +137,8 @@ module _ (top : Top) where
         let scrutinee = expr_built s e p.0 x.0 y.0 p.1 in
         subst IsBuiltExpr (ok_ok z.2) (scrutinee, alts_built (with_term (Value w) s) 3 alts z.0 x'.1 y'.1 z.1)
     expr_built s (ECon n args) u f b h =
-        let x = and_inv (is_upper_word n.text) (are_args_formed args) f in
-        let y = and_inv (is_name_built n) (are_args_built args) b in
+        let x = and_parts (is_upper_word n.text) (are_args_formed args) f in
+        let y = and_parts (is_name_built n) (are_args_built args) b in
         let p = and_then_inv (declared_name top top.terms n.module n.text) _ u h in
         let q = and_then_inv (resolved_args top s 0 args) _ u p.2 in
         subst IsBuiltExpr (ok_ok q.2) (args_built s 0 args q.0 x.1 y.1 q.1)
@@ -146,8 +147,8 @@ module _ (top : Top) where
     args_built : (s : Locals) (i : ℕ) (args : Args) (us : NArgs) → are_args_formed args ≡ true → are_args_built args ≡ true → resolved_args top s i args ≡ Ok us → AreBuiltArgs us
     args_built s i NoArgs us f b h = subst AreBuiltArgs (ok_ok h) tt
     args_built s i (MoreArgs (ATerm e) rest) us f b h =
-        let x = and_inv (is_expr_formed e) (are_args_formed rest) f in
-        let y = and_inv (is_expr_built e) (are_args_built rest) b in
+        let x = and_parts (is_expr_formed e) (are_args_formed rest) f in
+        let y = and_parts (is_expr_built e) (are_args_built rest) b in
         let p = part i (resolved_arg top s (ATerm e)) _ us h in
         let q = then_arg_inv p.0 (resolved_args top s (i + 1) rest) us p.2 in
         let r = and_then_inv (resolved_expr top s e) _ p.0 p.1 in
@@ -158,10 +159,10 @@ module _ (top : Top) where
 
     bind_built : (s : Locals) (bs : Binds) (us : NBinds) → are_binds_formed bs ≡ true → is_bind_built bs ≡ true → resolved_binds top s no_word 0 bs ≡ Ok us → IsBuiltBind us
     bind_built s (MoreBinds (Bound w t d) NoBinds) us f b h =
-        let x = and_inv (is_lower_word w && (is_type_formed t && is_expr_formed d)) true f in
-        let x' = and_inv (is_lower_word w) (is_type_formed t && is_expr_formed d) x.0 in
-        let right = and_inv (is_type_formed t) (is_expr_formed d) x'.1 in
-        let y = and_inv (is_type_built t) (is_expr_built d) b in
+        let x = and_parts (is_lower_word w && (is_type_formed t && is_expr_formed d)) true f in
+        let x' = and_parts (is_lower_word w) (is_type_formed t && is_expr_formed d) x.0 in
+        let right = and_parts (is_type_formed t) (is_expr_formed d) x'.1 in
+        let y = and_parts (is_type_built t) (is_expr_built d) b in
         let p = part 0 (need (not (no_word w)) Duplicate (resolved_bind top s (Bound w t d))) _ us h in
         let q = part 0 (resolved_ty top s.types t) _ p.0 p.1 in
         let r = part 1 (resolved_expr top s d) _ p.0 q.2 in
@@ -172,10 +173,10 @@ module _ (top : Top) where
     alts_built : (s : Locals) (i : ℕ) (alts : Alts) (us : NAlts) → are_alts_formed alts ≡ true → are_alts_built alts ≡ true → resolved_alts top s i alts ≡ Ok us → AreBuiltAlts us
     alts_built s i NoAlts us f b h = subst AreBuiltAlts (ok_ok h) tt
     alts_built s i (MoreAlts (Branch k bs e) rest) us f b h =
-        let x = and_inv (is_alt_formed (Branch k bs e)) (are_alts_formed rest) f in
-        let x' = and_inv (is_head_formed k && list_all is_binder_formed bs) (is_expr_formed e) x.0 in
-        let y = and_inv (is_alt_built (Branch k bs e)) (are_alts_built rest) b in
-        let y' = and_inv (is_head_built k bs) (is_expr_built e) y.0 in
+        let x = and_parts (is_alt_formed (Branch k bs e)) (are_alts_formed rest) f in
+        let x' = and_parts (is_head_formed k && list_all is_binder_formed bs) (is_expr_formed e) x.0 in
+        let y = and_parts (is_alt_built (Branch k bs e)) (are_alts_built rest) b in
+        let y' = and_parts (is_head_built k bs) (is_expr_built e) y.0 in
         let p = part i (resolved_alt top s (Branch k bs e)) _ us h in
         let q = then_alt_inv p.0 (resolved_alts top s (i + 1) rest) us p.2 in
         let r = and_then_inv (resolved_head top k) _ p.0 p.1 in
@@ -193,9 +194,9 @@ module _ (top : Top) where
       let r = and_then_inv (resolved_cons top (in_params (map param_word ps)) ws.terms q.0 cs) _ u q.2 in
       subst IsBuiltDecl (ok_ok r.2) tt
   decl_built ws (DDef n t e) u f b h =
-      let x = and_inv (is_lower_word n) (is_type_formed t && is_expr_formed e) f in
-      let right = and_inv (is_type_formed t) (is_expr_formed e) x.1 in
-      let y = and_inv (is_type_built t) (is_expr_built e) b in
+      let x = and_parts (is_lower_word n) (is_type_formed t && is_expr_formed e) f in
+      let right = and_parts (is_type_formed t) (is_expr_formed e) x.1 in
+      let y = and_parts (is_type_built t) (is_expr_built e) b in
       let p = need_inv (not (ws.terms n)) _ _ u h in
       let q = part 0 (resolved_ty top [] t) _ u p.1 in
       let r = part 1 (resolved_expr top no_locals e) _ u q.2 in
@@ -206,8 +207,8 @@ module _ (top : Top) where
       → AreBuiltDecls us
   decls_built ws [] us f b h = subst AreBuiltDecls (ok_ok h) tt
   decls_built ws (d ∷ ds) us f b h =
-      let x = and_inv (is_decl_formed d) (list_all is_decl_formed ds) f in
-      let y = and_inv (is_decl_built d) (list_all is_decl_built ds) b in
+      let x = and_parts (is_decl_formed d) (list_all is_decl_formed ds) f in
+      let y = and_parts (is_decl_built d) (list_all is_decl_built ds) b in
       let p = and_then_inv (within (decl_word d) (resolved_decl top ws d)) _ us h in
       let q = then_item_inv p.0 (resolved_decls top (behind d ws) ds) us p.2 in
       let first = decl_built ws d p.0 x.0 y.0 (within_inv (decl_word d) (resolved_decl top ws d) p.0 p.1) in

@@ -1,6 +1,7 @@
 -- The right sides of the definitions of a module that lints, if it has only the forms that are built, are sorted when their
 -- types are gone.
 use Rattle.std.proofs.Common.{◌≡◌, ℕ, zero, suc, true, if◌then◌else◌, Bool, false, ◌&&◌, List, [], ◌∷◌, ◌++◌, reverse, bytes_eq, Option, Some, None, Ok, refl, sym, ap, ◌∙◌, subst}
+use Rattle.std.proofs.lemmas.Bool.{and_parts}
 use Rattle.std.specs.List.{list_all}
 use Rattle.std.proofs.lemmas.List.{append_assoc, reverse-append}
 use Rattle.fc_syntax.specs.declared.ty.Name.{Name}
@@ -20,7 +21,6 @@ use Rattle.fc_model.specs.Typing.{BindersAreKinded, no_binders, value_binder, Al
 use Rattle.fc_model.specs.Typing.{HasType, typed_local, typed_declared, typed_literal, typed_application, typed_lambda, typed_let, typed_case, typed_con, ArgsAreGiven, no_args, one_arg, no_binds, one_bind}
 use Rattle.fc_model.proofs.Parts.{and_then_inv, err_ok, ok_ok, part}
 use Rattle.fc_model.proofs.Resolved.{within_inv}
-use Rattle.fc_model.proofs.Sameness.{and_inv}
 use Rattle.fc_model.proofs.TypedIs.{given_type_is}
 use Rattle.fc_meaning.specs.Laws.{Agrees}
 use Rattle.fc_meaning.proofs.ArgSorts.{sort_is}
@@ -186,9 +186,9 @@ module_sorted own imports exports hidden ds (Some v) w t s h = go (bytes_eq own 
 
 pub formed_is_sorted : (m : Module) (n : NModule) → IsBuilt m → IsFormed m → Resolves m n → Lints m → (x : Name) (t : Term) → program_of (n ∷ []) x ≡ Some t → IsSorted [] t
 formed_is_sorted (ModuleOf own imports exports hidden ds) n b f r lints x t h =
-    let a = and_inv (is_module_part own && is_word own) ((list_all is_word exports && list_all is_word hidden) && list_all is_decl_formed ds) f in
-    let formed = and_inv (list_all is_word exports && list_all is_word hidden) (list_all is_decl_formed ds) a.1 in
-    let built = and_inv (is_empty_list imports) (list_all is_decl_built ds) b in
+    let a = and_parts (is_module_part own && is_word own) ((list_all is_word exports && list_all is_word hidden) && list_all is_decl_formed ds) f in
+    let formed = and_parts (list_all is_word exports && list_all is_word hidden) (list_all is_decl_formed ds) a.1 in
+    let built = and_parts (is_empty_list imports) (list_all is_decl_built ds) b in
     let top = top_of (ModuleOf own imports exports hidden ds) in
     let p = and_then_inv (resolved_decls top no_words ds) _ n r in
     let same = sym (ok_ok p.2) in

@@ -1,11 +1,12 @@
 -- The function gives a kind just where the relation does.
 use Rattle.std.proofs.Common.{◌≡◌, ◌↔◌, ℕ, suc, true, ◌&&◌, List, ◌∷◌, Ok, refl, sym, ap, ◌∙◌, subst}
+use Rattle.std.proofs.lemmas.Bool.{and_parts}
 use Rattle.fc_syntax.specs.Tree.{Kind, KStar, KHash, KArrow}
 use Rattle.fc_model.specs.Kinding.{HasHeadKind, kind_variable, kind_declared, kind_int, kind_application, kind_function, kind_forall, kind_coforall}
 use Rattle.fc_model.specs.Kinding.{applied_kind, head_kind_or_fault, is_lifted, is_star, is_value_kind, same_kind}
 use Rattle.fc_model.specs.Nameless.{NModule, NTy, NTVar, NTCon, NTInt, NTApp, NTFun, NTForall, NTCoForall}
 use Rattle.fc_model.proofs.Parts.{err_ok, ok_ok, need_inv, part}
-use Rattle.fc_model.proofs.Sameness.{and_inv, false_true, same_kind_eq, same_kind_refl}
+use Rattle.fc_model.proofs.Sameness.{false_true, same_kind_eq, same_kind_refl}
 
 -- a head that is applied has a kind with an arrow from that of what it is applied to
 pub applied_kind_inv : (f j k : Kind) → applied_kind f j ≡ Ok k → f ≡ KArrow j k
@@ -45,7 +46,7 @@ module _ (ms : List NModule) where
       let p = part 0 (head_kind_or_fault ms ks 0 t) _ k h in
       let q = part 1 (head_kind_or_fault ms ks 0 u) _ k p.2 in
       let v = need_inv (is_value_kind p.0 && is_value_kind q.0) _ _ k q.2 in
-      let w = and_inv (is_value_kind p.0) (is_value_kind q.0) v.0 in
+      let w = and_parts (is_value_kind p.0) (is_value_kind q.0) v.0 in
       subst (λ x. HasHeadKind ms ks args (NTFun t u) x) (ok_ok v.1)
       (kind_function p.0 q.0 (given_kind_is ks 0 t p.0 p.1) (given_kind_is ks 0 u q.0 q.1) w.0 w.1)
   given_kind_is ks args (NTForall j t) k h =

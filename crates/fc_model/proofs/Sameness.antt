@@ -1,5 +1,6 @@
 -- The tests for sameness are equality.
-use Rattle.std.proofs.Common.{◌≡◌, ◌↔◌, ℕ, Bool, true, false, ◌&&◌, Option, Some, None, bytes_eq, nat_eq, refl, sym, ap, ◌∙◌, arith, true≢false}
+use Rattle.std.proofs.Common.{◌≡◌, ◌↔◌, ℕ, true, false, ◌&&◌, Option, Some, None, bytes_eq, nat_eq, refl, sym, ap, ◌∙◌, arith, true≢false}
+use Rattle.std.proofs.lemmas.Bool.{and_parts}
 use Rattle.std.proofs.lemmas.Bool.Decides.{nat_tests}
 use Rattle.std.proofs.lemmas.Slice.Eq.{bytes_eq-Decides}
 use Rattle.fc_syntax.specs.declared.ty.Name.{Name}
@@ -12,11 +13,6 @@ use Rattle.fc_model.specs.Nameless.{NTy, NTVar, NTCon, NTInt, NTApp, NTFun, NTFo
 -- a test that fails is no test that holds
 pub false_true : {X : Type 0} → false ≡ true → X
 false_true h = absurd (true≢false (sym h))
-
--- a conjunction of tests holds where both do
-pub and_inv : (a b : Bool) → a && b ≡ true → (a ≡ true) × (b ≡ true)
-and_inv true b h = (refl, h)
-and_inv false b h = false_true h
 
 pub nat_eq_refl : (i : ℕ) → nat_eq i i ≡ true
 nat_eq_refl i = grind (arith, nat_tests)
@@ -39,12 +35,9 @@ pub same_kind_eq : (j k : Kind) → same_kind j k ≡ true → j ≡ k
 same_kind_eq KStar KStar h = refl
 same_kind_eq KHash KHash h = refl
 same_kind_eq (KArrow a b) (KArrow c d) h =
-    let p = and_inv (same_kind a c) (same_kind b d) h in
+    let p = and_parts (same_kind a c) (same_kind b d) h in
     ap (λ x. KArrow x b) (same_kind_eq a c p.0) ∙ ap (λ x. KArrow c x) (same_kind_eq b d p.1)
 same_kind_eq j k h = false_true h
-
-pub same_kind_is : (j k : Kind) → (same_kind j k ≡ true) ↔ (j ≡ k)
-same_kind_is j k = (same_kind_eq j k, λ e. ap (λ x. same_kind j x) (sym e) ∙ same_kind_refl j)
 
 pub same_role_refl : (r : Role) → same_role r r ≡ true
 same_role_refl N = refl
@@ -76,7 +69,7 @@ same_name_refl n = rw (same_word_refl n.module, bytes_eq_refl n.text) refl
 
 pub same_name_eq : (m n : Name) → same_name m n ≡ true → m ≡ n
 same_name_eq m n h =
-    let p = and_inv (same_word m.module n.module) (bytes_eq m.text n.text) h in
+    let p = and_parts (same_word m.module n.module) (bytes_eq m.text n.text) h in
     ap (λ x. name_of x m.text) (same_word_eq m.module n.module p.0) ∙ ap (λ x. name_of n.module x) (bytes_eq_eq m.text n.text p.1)
 
 pub same_type_refl : (t : NTy) → same_type t t ≡ true
@@ -93,18 +86,18 @@ same_type_eq (NTVar i) (NTVar j) h = ap (λ x. NTVar x) (nat_eq_eq i j h)
 same_type_eq (NTCon m) (NTCon n) h = ap (λ x. NTCon x) (same_name_eq m n h)
 same_type_eq NTInt NTInt h = refl
 same_type_eq (NTApp a b) (NTApp c d) h =
-    let p = and_inv (same_type a c) (same_type b d) h in
+    let p = and_parts (same_type a c) (same_type b d) h in
     ap (λ x. NTApp x b) (same_type_eq a c p.0) ∙ ap (λ x. NTApp c x) (same_type_eq b d p.1)
 same_type_eq (NTFun a b) (NTFun c d) h =
-    let p = and_inv (same_type a c) (same_type b d) h in
+    let p = and_parts (same_type a c) (same_type b d) h in
     ap (λ x. NTFun x b) (same_type_eq a c p.0) ∙ ap (λ x. NTFun c x) (same_type_eq b d p.1)
 same_type_eq (NTForall j a) (NTForall k b) h =
-    let p = and_inv (same_kind j k) (same_type a b) h in
+    let p = and_parts (same_kind j k) (same_type a b) h in
     ap (λ x. NTForall x a) (same_kind_eq j k p.0) ∙ ap (λ x. NTForall k x) (same_type_eq a b p.1)
 same_type_eq (NTCoForall r a b t) (NTCoForall s c d u) h =
-    let p = and_inv (same_role r s && same_type a c) (same_type b d && same_type t u) h in
-    let q = and_inv (same_role r s) (same_type a c) p.0 in
-    let z = and_inv (same_type b d) (same_type t u) p.1 in
+    let p = and_parts (same_role r s && same_type a c) (same_type b d && same_type t u) h in
+    let q = and_parts (same_role r s) (same_type a c) p.0 in
+    let z = and_parts (same_type b d) (same_type t u) p.1 in
     ap (λ x. NTCoForall x a b t) (same_role_eq r s q.0) ∙ ap (λ x. NTCoForall s x b t) (same_type_eq a c q.1)
     ∙ ap (λ x. NTCoForall s c x t) (same_type_eq b d z.0) ∙ ap (λ x. NTCoForall s c d x) (same_type_eq t u z.1)
 same_type_eq s t h = false_true h

@@ -1,5 +1,6 @@
 -- What holds of a module holds of it under the written header: every word is one of its form, and every premise holds.
 use Rattle.std.proofs.Common.{◌≡◌, ℕ, ◌+◌, Bool, true, false, ◌&&◌, ◌||◌, bytes_eq, is_none, if◌then◌else◌, List, [], ◌∷◌, ◌++◌, map, length, Option, Some, None, Result, Ok, refl, sym, ap, ◌∙◌, subst}
+use Rattle.std.proofs.lemmas.Bool.{and_parts}
 use Rattle.std.specs.List.{list_all}
 use Rattle.std.proofs.lemmas.List.Concat.{flat_map-cons}
 use Rattle.std.proofs.lemmas.List.Folds.{list_all-append}
@@ -19,7 +20,7 @@ use Rattle.fc_model.specs.Words.{keyword_of}
 use Rattle.fc_model.proofs.Parts.{and_then_inv, need_inv, ok_ok}
 use Rattle.fc_model.proofs.Resolved.{decls_have_words}
 use Rattle.fc_model.proofs.SameDeclarations.{both_same, kind_same, type_same}
-use Rattle.fc_model.proofs.Sameness.{and_inv, bytes_eq_refl, false_true}
+use Rattle.fc_model.proofs.Sameness.{bytes_eq_refl, false_true}
 
 both : (a b : Bool) → a ≡ true → b ≡ true → a && b ≡ true
 both a b p q = rw (p, q) refl
@@ -50,7 +51,7 @@ others_if false p w skipped taken h s t = both (p w) (list_all p taken) h t
 others_are_among : (p : WordSet) (seen : WordSet) (ws : List Word) → list_all p ws ≡ true → list_all p (others seen ws) ≡ true
 others_are_among p seen [] h = refl
 others_are_among p seen (w ∷ ws) h =
-    let a = and_inv (p w) (list_all p ws) h in
+    let a = and_parts (p w) (list_all p ws) h in
     others_if (seen w) p w (others seen ws) (others (plus w seen) ws) a.0 (others_are_among p seen ws a.1) (others_are_among p (plus w seen) ws a.1)
 
 all_of_both : (p : WordSet) (vs ws : List Word) → list_all p vs ≡ true → list_all p ws ≡ true → list_all p (vs ++ ws) ≡ true
@@ -59,7 +60,7 @@ all_of_both p vs ws g h = list_all-append p vs ws ∙ both (list_all p vs) (list
 -- WORDS OF THEIR FORM
 
 upper_is_plain : (l u k : Bool) → u && k ≡ true → (l || u) && k ≡ true
-upper_is_plain true u k h = let a = and_inv u k h in a.1
+upper_is_plain true u k h = let a = and_parts u k h in a.1
 upper_is_plain false u k h = h
 
 lower_is_plain : (l u k : Bool) → l && k ≡ true → (l || u) && k ≡ true
@@ -75,30 +76,30 @@ lower_is_word w h = lower_is_plain (is_lower_name w) (is_upper_name w) (is_none 
 cons_are_words : (cs : List ConDecl) → list_all is_con_formed cs ≡ true → list_all is_word (map con_word cs) ≡ true
 cons_are_words [] h = refl
 cons_are_words (ConOf n bs fields ∷ cs) h =
-    let a = and_inv (is_con_formed (ConOf n bs fields)) (list_all is_con_formed cs) h in
-    let b = and_inv (is_upper_word n) (list_all is_type_formed fields) a.0 in
+    let a = and_parts (is_con_formed (ConOf n bs fields)) (list_all is_con_formed cs) h in
+    let b = and_parts (is_upper_word n) (list_all is_type_formed fields) a.0 in
     both (is_word n) (list_all is_word (map con_word cs)) (upper_is_word n b.0) (cons_are_words cs a.1)
 
 decl_has_words : (d : Decl) → is_decl_formed d ≡ true → list_all is_word (decl_words d) ≡ true
 decl_has_words (DData n ps cs) h =
-    let a = and_inv (is_upper_word n) (list_all is_con_formed cs) h in
+    let a = and_parts (is_upper_word n) (list_all is_con_formed cs) h in
     both (is_word n) (list_all is_word (map con_word cs)) (upper_is_word n a.0) (cons_are_words cs a.1)
 decl_has_words (DDef n t e) h =
-    let a = and_inv (is_lower_word n) (is_type_formed t && is_expr_formed e) h in both (is_word n) true (lower_is_word n a.0) refl
+    let a = and_parts (is_lower_word n) (is_type_formed t && is_expr_formed e) h in both (is_word n) true (lower_is_word n a.0) refl
 decl_has_words d h = false_true h
 
 decls_have_formed_words : (ds : List Decl) → list_all is_decl_formed ds ≡ true → list_all is_word (declared_words ds) ≡ true
 decls_have_formed_words [] h = refl
 decls_have_formed_words (d ∷ ds) h =
-    let a = and_inv (is_decl_formed d) (list_all is_decl_formed ds) h in
+    let a = and_parts (is_decl_formed d) (list_all is_decl_formed ds) h in
     ap (list_all is_word) (flat_map-cons decl_words d ds) ∙ all_of_both is_word (decl_words d) (declared_words ds) (decl_has_words d a.0) (decls_have_formed_words ds a.1)
 
 pub written_is_formed : (m : Module) → IsFormed m → IsFormed (written_of m)
 written_is_formed (ModuleOf m imports exports hidden ds) h =
     let seen = plus_all hidden (plus_all exports no_word) in
-    let a = and_inv (is_module_part m && is_word m) ((list_all is_word exports && list_all is_word hidden) && list_all is_decl_formed ds) h in
-    let b = and_inv (list_all is_word exports && list_all is_word hidden) (list_all is_decl_formed ds) a.1 in
-    let c = and_inv (list_all is_word exports) (list_all is_word hidden) b.0 in
+    let a = and_parts (is_module_part m && is_word m) ((list_all is_word exports && list_all is_word hidden) && list_all is_decl_formed ds) h in
+    let b = and_parts (list_all is_word exports && list_all is_word hidden) (list_all is_decl_formed ds) a.1 in
+    let c = and_parts (list_all is_word exports) (list_all is_word hidden) b.0 in
     let more = all_of_both is_word hidden (others seen (declared_words ds)) c.1 (others_are_among is_word seen (declared_words ds) (decls_have_formed_words ds b.1)) in
     rw (a.0, c.0, more, b.1) refl
 
@@ -177,7 +178,7 @@ hidden_lints m imports exports h g ds declared lint =
     let after = NModuleOf m imports exports g ds ∷ [] in
     let same = at_hidden m imports exports h g ds in
     let p = and_then_inv (exports_judged (NModuleOf m imports exports h ds)) _ done lint in
-    let a = and_inv (list_all (plus_all (ndeclared_words ds) no_word) exports) (list_all (plus_all (ndeclared_words ds) no_word) h) (need_is_done _ _ p.0 p.1) in
+    let a = and_parts (list_all (plus_all (ndeclared_words ds) no_word) exports) (list_all (plus_all (ndeclared_words ds) no_word) h) (need_is_done _ _ p.0 p.1) in
     rw (a.0, declared, ← type_decls_same before after same ds, ← def_types_same before after same ds, ← rights_same before after same ds) p.2
 
 -- hidden words that are kept are declared
@@ -185,7 +186,7 @@ hidden_are_declared : (m : Word) (imports exports h : List Word) (ds : List NDec
     → list_all (plus_all (ndeclared_words ds) no_word) h ≡ true
 hidden_are_declared m imports exports h ds lint =
     let p = and_then_inv (exports_judged (NModuleOf m imports exports h ds)) _ done lint in
-    let a = and_inv (list_all (plus_all (ndeclared_words ds) no_word) exports) (list_all (plus_all (ndeclared_words ds) no_word) h) (need_is_done _ _ p.0 p.1) in
+    let a = and_parts (list_all (plus_all (ndeclared_words ds) no_word) exports) (list_all (plus_all (ndeclared_words ds) no_word) h) (need_is_done _ _ p.0 p.1) in
     a.1
 
 pub written_lints : (m : Module) → Lints m → Lints (written_of m)

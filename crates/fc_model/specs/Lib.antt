@@ -1,5 +1,4 @@
 pub mod Acceptance
-pub mod Building
 pub mod Canonical
 pub mod Erasure
 pub mod Faulting

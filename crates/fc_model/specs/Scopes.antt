@@ -1,11 +1,7 @@
--- The words of the values that are bound around a piece, the innermost first, and what they are to resolution.
-use Rattle.std.specs.Prelude.{◌≡◌, ℕ, ◌+◌, List, map, reverse, Option, Some, None}
+-- What the words of the values that are bound around a piece, the innermost first, are to resolution.
+use Rattle.std.specs.Prelude.{List, map}
 use Rattle.fc_syntax.specs.Tree.{Word}
-use Rattle.fc_model.specs.Resolution.{Found, IsValue, IsJoin, Nowhere, Locals, TermWord, Value, found_term, no_locals}
-use Rattle.fc_model.specs.declared.scope.Scope.{Scope}
-
-unfoldable pub words_in : Scope → List Word
-words_in s = reverse s.words.items
+use Rattle.fc_model.specs.Resolution.{Locals, TermWord, Value, no_locals}
 
 abbrev pub values : List Word → List TermWord
 values ws = map Value ws
@@ -13,18 +9,3 @@ values ws = map Value ws
 -- no types, coercions and join points are bound
 abbrev pub scope_of : List Word → Locals
 scope_of ws = record no_locals { terms = values ws }
-
-abbrev pub value_at : Option ℕ → Found
-value_at (Some i) = IsValue i
-value_at None = Nowhere
-
--- further out by as many binders of values
-unfoldable pub further : ℕ → Found → Found
-further k (IsValue i) = IsValue (i + k)
-further k (IsJoin i) = IsJoin i
-further k Nowhere = Nowhere
-
--- the distance to the binder of a name, where it has no module and there is one
-abbrev pub LocalIs : List Word → Option Word → Word → Option ℕ → Type 0
-LocalIs ws None w found = found_term (values ws) w ≡ value_at found
-LocalIs ws (Some m) w found = found ≡ None

@@ -4,7 +4,6 @@ ghost use Rattle.fc_syntax.specs.View.{cons_of, decl_of, decls_of, module_of};
 ghost use Rattle.fc_model.specs.Headers.{con_word, decl_words, declared_words, others, written_of};
 ghost use Rattle.fc_model.specs.WordSets.{set_of};
 
-use crate::declared::add_words;
 use crate::word_set::WordSet;
 use fc_syntax::{ConDecl, Decl, Memory, Module, Seq, Text};
 use std::alloc::Global;
@@ -72,8 +71,8 @@ pub fn written(alloc: Global, m: &Module) -> Result<Module, Memory>
     ensures { IfOk result (λ w. module_of w ≡ written_of (module_of m.now)) }
 {
     let mut seen = WordSet::new(alloc);
-    add_words(alloc, m.exports.as_slice(), &mut seen)?;
-    add_words(alloc, m.hidden.as_slice(), &mut seen)?;
+    seen.add_all(alloc, m.exports.as_slice())?;
+    seen.add_all(alloc, m.hidden.as_slice())?;
     let words = words_declared(alloc, m.decls.as_slice())?;
     let mut whole = m.copy(alloc)?;
     push_others(alloc, words.as_slice(), &mut seen, &mut whole.hidden)?;

@@ -1,18 +1,14 @@
-//! The definitions of the project: the grammar, the canonical text, names, typing and meaning, over the pure trees.
+//! The definitions of the project: the grammar, the canonical text, names, typing and meaning, over the pure trees; the nameless
+//! tree, and the header that is written.
 #![tactic(auto)]
 
-mod alternatives;
-mod declared;
 mod flaw;
 mod header;
 mod keyword;
 mod laws;
 mod nameless;
-mod resolving;
-mod scope;
 mod word_set;
 
-pub use declared::{Declared, Spaces};
 pub use flaw::{Flaw, Flawed, deeper, flaw_here, in_declaration, next_part, not_built};
 pub use header::written;
 pub use keyword::Keyword;
@@ -21,5 +17,4 @@ pub use nameless::{
     NAlt, NArg, NBind, NBinder, NCo, NConDecl, NDecl, NExpr, NJoinBind, NModule, NParam, NPlain,
     NTy,
 };
-pub use resolving::resolve;
 pub use word_set::WordSet;

@@ -1,6 +1,6 @@
 //! Sets of words.
 ghost use Rattle.std.specs.Prelude.{◌≡◌, OnOk, OnErr};
-ghost use Rattle.fc_model.specs.Resolution.{no_word, plus};
+ghost use Rattle.fc_model.specs.Resolution.{no_word, plus, plus_all};
 
 use fc_syntax::{Memory, Text};
 use indexmap::IndexSet;
@@ -41,6 +41,16 @@ impl WordSet {
     {
         let word = String::from_str(alloc, word.as_str())?;
         self.words.insert(word)?;
+        Ok(())
+    }
+
+    /// Puts words in. Where memory is wanting, some of them may be missing.
+    pub fn add_all(&mut self, alloc: Global, words: &[Text]) -> Result<(), Memory>
+        ensures { OnOk result (set_of self.new ≡ plus_all words.now (set_of self.old)) }
+    {
+        for word in words {
+            self.add(alloc, word)?;
+        }
         Ok(())
     }
 }

@@ -1,5 +1,5 @@
 -- Lists that are built item by item, and words that are sought in lists.
-use Rattle.std.proofs.Common.{◌≡◌, ◌∙◌, suc, ◌<◌, ◌≤◌, ◌+◌, ℕ, ◌++◌, Bool, true, false, ◌||◌, if◌then◌else◌, List, [], ◌∷◌, bytes_eq, drop, get_or, length, map, refl, sym, ap, subst}
+use Rattle.std.proofs.Common.{◌≡◌, ◌∙◌, suc, ◌<◌, ◌≤◌, ◌+◌, ℕ, ◌++◌, Bool, true, false, if◌then◌else◌, List, [], ◌∷◌, bytes_eq, drop, get_or, length, map, refl, sym, ap, subst}
 use Rattle.std.proofs.lemmas.List.{drop_all}
 use Rattle.fc_syntax.specs.Tree.{Word, Binder, Alts, NoAlts, MoreAlts, Args, NoArgs, MoreArgs, Expr}
 use Rattle.fc_syntax.specs.View.{alt_of, alts_of, arg_of, args_of, binder_of, binders_of}
@@ -10,10 +10,10 @@ use Rattle.fc_model.specs.Resolution.{WordSet, no_word, plus, plus_all}
 use Rattle.fc_model.specs.declared.nameless.NAlt as N
 use Rattle.fc_model.specs.declared.nameless.NArg as A
 use Rattle.fc_model.specs.declared.nameless.NBinder as B
-use Rattle.fc_model.proofs.Building.{drop_item}
+use Rattle.fc_model.proofs.Lists.{drop_item}
 use Rattle.fc_naming.specs.Hinted.{HAlts, HArgs, HBinder, HValue, HNoValue, HExpr}
 use Rattle.fc_naming.specs.HintedView.{halt_of, halts_of, harg_of, hargs_of, hbinder_of, hbinders_of}
-use Rattle.fc_naming.specs.Naming.{AreEach, each_none, each_more, AreNamed, AreNamedAlts, IsNamedAlt, IsNamedArg, IsNamedBelow, IsNamedBinder, alt_uses, alts_use, arg_uses, args_use, below, either, hiding}
+use Rattle.fc_naming.specs.Naming.{AreEach, each_none, each_more, AreNamed, AreNamedAlts, IsNamedAlt, IsNamedArg, IsNamedBelow, IsNamedBinder, below, either, hiding}
 use Rattle.fc_naming.specs.Naming.{named_args, named_no_args, named_alts, named_no_alts, named_below_none, named_below_more, named_binder}
 use Rattle.fc_naming.specs.Scopes.{GoesOn, onto}
 
@@ -154,34 +154,6 @@ binders_whole own ws hs e items k words out all so_far f named =
     (so_far [] f (subst (λ l. IsNamedBelow own (plus_all words no_word) (onto words ws) (hbinders_of l) e [] f) (sym (drop_all k items all)) (named_below_none named)))
 
 -- SEEKING
-
-or_first : (a b : Bool) → a ≡ true → a || b ≡ true
-or_first true b h = refl
-or_first false b h = ap (λ x. x || b) h
-
-or_second : (a b : Bool) → a ≡ false → a || b ≡ b
-or_second true b h = ap (λ x. x || b) h
-or_second false b h = refl
-
-pub use_found : (w own : Word) (ws : List Word) (i : ℕ) (items : List A.NArg) (k : ℕ) (a : A.NArg) → k < length items → a ≡ get_or items k a
-    → arg_uses w own ws i (harg_of a) ≡ true → args_use w own ws i (hargs_of (drop k items)) ≡ true
-use_found w own ws i items k a low is h =
-    ap (λ l. args_use w own ws i (hargs_of l)) (drop_item items k a low is) ∙ or_first (arg_uses w own ws i (harg_of a)) (args_use w own ws i (hargs_of (drop (k + 1) items))) h
-
-pub use_further : (w own : Word) (ws : List Word) (i : ℕ) (items : List A.NArg) (k : ℕ) (a : A.NArg) → k < length items → a ≡ get_or items k a
-    → arg_uses w own ws i (harg_of a) ≡ false → args_use w own ws i (hargs_of (drop k items)) ≡ args_use w own ws i (hargs_of (drop (k + 1) items))
-use_further w own ws i items k a low is h =
-    ap (λ l. args_use w own ws i (hargs_of l)) (drop_item items k a low is) ∙ or_second (arg_uses w own ws i (harg_of a)) (args_use w own ws i (hargs_of (drop (k + 1) items))) h
-
-pub alt_use_found : (w own : Word) (ws : List Word) (i : ℕ) (items : List N.NAlt) (k : ℕ) (a : N.NAlt) → k < length items → a ≡ get_or items k a
-    → alt_uses w own ws i (halt_of a) ≡ true → alts_use w own ws i (halts_of (drop k items)) ≡ true
-alt_use_found w own ws i items k a low is h =
-    ap (λ l. alts_use w own ws i (halts_of l)) (drop_item items k a low is) ∙ or_first (alt_uses w own ws i (halt_of a)) (alts_use w own ws i (halts_of (drop (k + 1) items))) h
-
-pub alt_use_further : (w own : Word) (ws : List Word) (i : ℕ) (items : List N.NAlt) (k : ℕ) (a : N.NAlt) → k < length items → a ≡ get_or items k a
-    → alt_uses w own ws i (halt_of a) ≡ false → alts_use w own ws i (halts_of (drop k items)) ≡ alts_use w own ws i (halts_of (drop (k + 1) items))
-alt_use_further w own ws i items k a low is h =
-    ap (λ l. alts_use w own ws i (halts_of l)) (drop_item items k a low is) ∙ or_second (alt_uses w own ws i (halt_of a)) (alts_use w own ws i (halts_of (drop (k + 1) items))) h
 
 -- what a set says of a word depends on no other word
 plus_at : (vs : List Word) (s t : WordSet) (w : Word) → s w ≡ t w → plus_all vs s w ≡ plus_all vs t w

@@ -9,11 +9,11 @@ ghost use Rattle.fc_naming.specs.Naming.{AreNamed, AreNamedAlts, IsChosen, IsNam
 ghost use Rattle.fc_naming.specs.Scopes.{onto, words_of};
 
 use crate::binders::named_binders;
-use crate::names::{boxed, named_ty, short_head, short_name};
+use crate::names::{named_ty, short_head, short_name};
 use crate::scope::{Scope, word};
 use crate::uses::{alts_use, uses};
 use fc_model::{NAlt, NArg, NBinder, NExpr, NTy};
-use fc_syntax::{Alt, Arg, Bind, Binder, Expr, Memory, Name, Seq, Text};
+use fc_syntax::{Alt, Arg, Bind, Binder, Expr, Memory, Name, Seq, Text, boxed};
 use itoa::Buffer;
 use std::alloc::Global;
 

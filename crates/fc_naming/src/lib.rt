@@ -18,18 +18,8 @@ ghost use Rattle.fc_naming.specs.Laws.{NamingsAreUnique, NamingsResolve, WordsCo
 ghost use Rattle.fc_naming.specs.Naming.{IsNamedModule};
 
 use fc_model::NModule;
-use fc_syntax::{Memory, Module, Seq, Text};
+use fc_syntax::{Memory, Module, Text, copy_words};
 use std::alloc::Global;
-
-fn copied(alloc: Global, words: &[Text]) -> Result<Seq<Text>, Memory>
-    ensures { IfOk result (λ s. s ≡ words.now) }
-{
-    let mut all = Seq::new(alloc);
-    for word in words {
-        all.push(word.copy(alloc)?)?;
-    }
-    Ok(all)
-}
 
 /// Whether a word is among others. Takes no memory.
 fn is_among(words: &[Text], sought: &Text) -> bool
@@ -58,9 +48,9 @@ pub fn name_back(alloc: Global, m: &NModule) -> Result<Module, Memory>
     }
     let decls = declarations::named_decls(alloc, &m.name, m.decls.as_slice())?;
     let name = m.name.copy(alloc)?;
-    let imports = copied(alloc, m.imports.as_slice())?;
-    let exports = copied(alloc, m.exports.as_slice())?;
-    let hidden = copied(alloc, m.hidden.as_slice())?;
+    let imports = copy_words(alloc, m.imports.as_slice())?;
+    let exports = copy_words(alloc, m.exports.as_slice())?;
+    let hidden = copy_words(alloc, m.hidden.as_slice())?;
     Ok(Module {
         name,
         imports,

@@ -5,15 +5,8 @@ ghost use Rattle.fc_model.specs.NamelessView.{nty_of, ntys_of};
 ghost use Rattle.fc_naming.specs.Naming.{AreEach, IsNamedTy, outside, short, short_head as is_short_head};
 
 use fc_model::NTy;
-use fc_syntax::{Head, Memory, Name, Seq, Text, Ty};
+use fc_syntax::{Head, Memory, Name, Seq, Text, Ty, boxed};
 use std::alloc::Global;
-
-/// A part in a box.
-pub fn boxed<T: Drop>(alloc: Global, part: T) -> Result<Box<T>, Memory>
-    ensures { IfOk result (λ b. b.value ≡ part) }
-{
-    Ok(Box::new(alloc, part)?)
-}
 
 /// Whether a name is written without a module in the module `own`. Takes no memory.
 pub fn is_alone(own: &Text, name: &Name) -> bool

@@ -1,300 +1,249 @@
-//! What modules of one definition are named back to.
-use fc_model::{NAlt, NArg, NBind, NBinder, NDecl, NExpr, NModule, NTy, resolve};
+//! Texts of modules, and what they are named back to, by hand from the rules of naming back: with the words that they were read
+//! with, and with others.
+use fc_model::{NAlt, NBind, NBinder, NDecl, NExpr, NModule};
 use fc_naming::name_back;
-use fc_syntax::{Alt, Arg, Bind, Binder, Decl, Expr, Head, Memory, Module, Name, Seq, Text, Ty};
+use fc_printer::{put_decl, put_header};
+use fc_reader::read_module;
+use fc_resolve::resolve;
+use fc_syntax::{Memory, Module, Seq, Text};
 use std::alloc::Global;
 use std::process::Abort;
 use std::test::Fail;
 
-fn module_of(alloc: Global, decl: NDecl) -> Result<NModule, Memory> {
-    let mut decls = Seq::new(alloc);
-    decls.push(decl)?;
-    Ok(NModule {
-        name: Text::from_str(alloc, "M")?,
-        imports: Seq::new(alloc),
-        exports: Seq::new(alloc),
-        hidden: Seq::new(alloc),
-        decls,
-    })
+/// Definitions behind a data type `(data T () (K () T T))`; words for the binders of the last of them, the outermost first; and the
+/// definitions as they are named back, in their canonical text.
+type Row<'a> = (&'a [u8], &'a [&'a str], &'a [u8]);
+
+/// A module of the data type and definitions, on one line.
+fn module_with(alloc: Global, definitions: &[u8]) -> Result<Vec<u8>, Fail> {
+    let mut text = Vec::new(alloc);
+    text.extend_from_slice(b"(module M (imports) (exports K) (hidden f) (data T () (K () T T)) ")?;
+    text.extend_from_slice(definitions)?;
+    text.push(b')')?;
+    Ok(text)
 }
 
-/// Appends the words of binders, with a space before each.
-fn put_binders(binders: &[Binder], to: &mut String) -> Result<(), Fail> {
-    for binder in binders {
-        match binder {
-            Binder::Value(word, _) => {
-                to.push_str(" ")?;
-                to.push_str(word.as_str())?;
-            }
-            _ => return Err("another binder".into()),
-        }
+/// The nameless form of a text. Fails where it has none.
+fn nameless(alloc: Global, text: &[u8]) -> Result<NModule, Fail> {
+    if text.len() > 4000 {
+        return Err("a long text".into());
     }
-    Ok(())
-}
-
-/// Appends what an alternative is for, and the words of its binders before a dot.
-fn put_head(alt: &Alt, to: &mut String) -> Result<(), Fail> {
-    match &alt.head {
-        Head::Default => to.push_str(" | _")?,
-        Head::Lit(_) => to.push_str(" | 0")?,
-        Head::Con(name) => {
-            to.push_str(" | ")?;
-            to.push_str(name.text.as_str())?;
-        }
-    }
-    put_binders(alt.binders.as_slice(), to)?;
-    to.push_str(". ")?;
-    Ok(())
-}
-
-/// Appends the words of an expression: those of binders before a dot or an equals sign, and those of variables.
-fn put_words(e: &Expr, to: &mut String) -> Result<(), Fail> {
-    match e {
-        Expr::Var(name) => {
-            if name.module.is_some() {
-                to.push_str("M.")?;
-            }
-            to.push_str(name.text.as_str())?;
-        }
-        Expr::Lit(_) => to.push_str("0")?,
-        Expr::App(f, a) => {
-            put_words(f, to)?;
-            to.push_str(" ")?;
-            match &**a {
-                Arg::Term(a) => put_words(a, to)?,
-                _ => return Err("no term".into()),
-            }
-        }
-        Expr::Lam(binder, e) => {
-            match &**binder {
-                Binder::Value(word, _) => to.push_str(word.as_str())?,
-                _ => return Err("another binder".into()),
-            }
-            to.push_str(". ")?;
-            put_words(e, to)?;
-        }
-        Expr::Let(_, binds, e) => match binds.as_slice() {
-            [bind] => {
-                to.push_str(bind.name.as_str())?;
-                to.push_str(" = ")?;
-                put_words(&bind.rhs, to)?;
-                to.push_str("; ")?;
-                put_words(e, to)?;
-            }
-            _ => return Err("another let".into()),
-        },
-        Expr::Case(e, word, _, _, alts) => {
-            to.push_str("case ")?;
-            put_words(e, to)?;
-            to.push_str(" of ")?;
-            to.push_str(word.as_str())?;
-            match alts.as_slice() {
-                [alt] => {
-                    put_head(alt, to)?;
-                    put_words(&alt.body, to)?;
-                }
-                _ => return Err("another case".into()),
-            }
-        }
-        _ => return Err("another form".into()),
-    }
-    Ok(())
-}
-
-/// The words of the right side of a module's only definition.
-fn words_in(alloc: Global, m: &Module) -> Result<String, Fail> {
-    let mut words = String::new(alloc);
-    match m.decls.get(0) {
-        Some(Decl::Def(_, _, e)) => put_words(e, &mut words)?,
-        _ => return Err("no definition".into()),
-    }
-    Ok(words)
-}
-
-/// A definition `f` whose right side is resolved, and then named back with no change.
-fn read_and_named_back(alloc: Global, e: Expr) -> Result<String, Fail> {
-    let mut decls = Seq::new(alloc);
-    decls.push(Decl::Def(Text::from_str(alloc, "f")?, Ty::IntHash, e))?;
-    let m = Module {
-        name: Text::from_str(alloc, "M")?,
-        imports: Seq::new(alloc),
-        exports: Seq::new(alloc),
-        hidden: Seq::new(alloc),
-        decls,
+    let Ok(m) = read_module(alloc, "M.fc", text) else {
+        return Err("no module".into());
     };
-    let Ok(n) = resolve(alloc, &m) else {
+    match resolve(alloc, &m) {
+        Ok(n) => Ok(n),
+        Err(_) => Err("no nameless form".into()),
+    }
+}
+
+/// The canonical text of a module, but on one line.
+fn printed(alloc: Global, m: &Module) -> Result<Vec<u8>, Memory> {
+    let mut text = Vec::new(alloc);
+    text.extend_from_slice(b"(module ")?;
+    put_header(&mut text, m)?;
+    for decl in m.decls.as_slice() {
+        text.push(b' ')?;
+        put_decl(decl, &mut text)?;
+    }
+    text.push(b')')?;
+    Ok(text)
+}
+
+/// What a nameless module is named back to. Fails where that has no nameless form, as where a name stands with its module.
+fn named_back(alloc: Global, n: &NModule) -> Result<Vec<u8>, Fail> {
+    let m = name_back(alloc, n)?;
+    if resolve(alloc, &m).is_err() {
         return Err("no nameless form".into());
+    }
+    Ok(printed(alloc, &m)?)
+}
+
+/// Gives binders other words, the first word to the first.
+fn set_binders(alloc: Global, binders: &mut Seq<NBinder>, words: &[&str]) -> Result<(), Memory> {
+    for (at, word) in words.iter().enumerate() {
+        if at < binders.len() {
+            set_binder(alloc, binders.at_mut(at), word)?;
+        }
+    }
+    Ok(())
+}
+
+fn set_binder(alloc: Global, binder: &mut NBinder, word: &str) -> Result<(), Memory> {
+    match binder {
+        NBinder::Value(hint, _) => {
+            *hint = Text::from_str(alloc, word)?;
+            Ok(())
+        }
+        _ => Ok(()),
+    }
+}
+
+/// Gives the first bind another word.
+fn set_bind(alloc: Global, binds: &mut Seq<NBind>, word: &str) -> Result<(), Memory> {
+    if binds.is_empty() {
+        return Ok(());
+    }
+    let bind = binds.at_mut(0);
+    bind.hint = Text::from_str(alloc, word)?;
+    Ok(())
+}
+
+/// Gives the binders of the first alternative other words.
+fn set_alternative(alloc: Global, alts: &mut Seq<NAlt>, words: &[&str]) -> Result<(), Memory> {
+    if alts.is_empty() {
+        return Ok(());
+    }
+    let alt = alts.at_mut(0);
+    set_binders(alloc, &mut alt.binders, words)
+}
+
+/// Gives the binders of an expression other words, from the outermost in.
+fn set_words(alloc: Global, e: &mut NExpr, words: &[&str]) -> Result<(), Memory> {
+    let [word, others @ ..] = words else {
+        return Ok(());
     };
-    words_in(alloc, &name_back(alloc, &n)?)
+    match e {
+        NExpr::Lam(binder, body) => {
+            set_binder(alloc, &mut **binder, word)?;
+            set_words(alloc, &mut **body, others)
+        }
+        NExpr::Let(_, binds, body) => {
+            set_bind(alloc, binds, word)?;
+            set_words(alloc, &mut **body, others)
+        }
+        NExpr::Case(_, hint, _, _, alts) => {
+            *hint = Text::from_str(alloc, word)?;
+            set_alternative(alloc, alts, others)
+        }
+        _ => Ok(()),
+    }
 }
 
-fn variable(alloc: Global, word: &str) -> Result<Expr, Memory> {
-    Ok(Expr::Var(Name {
-        module: None,
-        text: Text::from_str(alloc, word)?,
-    }))
+/// Gives the binders of the last definition other words.
+fn set_words_in(alloc: Global, n: &mut NModule, words: &[&str]) -> Result<(), Memory> {
+    let count = n.decls.len();
+    if count == 0 {
+        return Ok(());
+    }
+    match n.decls.at_mut(count - 1) {
+        NDecl::Def(_, _, e) => set_words(alloc, e, words),
+        _ => Ok(()),
+    }
 }
 
-fn lambda(alloc: Global, word: &str, e: Expr) -> Result<Expr, Memory> {
-    let binder = Binder::Value(Text::from_str(alloc, word)?, Ty::IntHash);
-    Ok(Expr::Lam(Box::new(alloc, binder)?, Box::new(alloc, e)?))
+/// What a module of these definitions is named back to, after the binders of the last were given other words.
+fn named_with(alloc: Global, definitions: &[u8], words: &[&str]) -> Result<Vec<u8>, Fail> {
+    let text = module_with(alloc, definitions)?;
+    let mut n = nameless(alloc, text.as_slice())?;
+    set_words_in(alloc, &mut n, words)?;
+    named_back(alloc, &n)
 }
 
-fn let_of(alloc: Global, word: &str, rhs: Expr, e: Expr) -> Result<Expr, Memory> {
-    let mut binds = Seq::new(alloc);
-    binds.push(Bind {
-        name: Text::from_str(alloc, word)?,
-        ty: Ty::IntHash,
-        rhs,
-    })?;
-    Ok(Expr::Let(false, binds, Box::new(alloc, e)?))
+/// Names each module back, after its binders were given other words.
+fn are_named(rt: &impl Abort, alloc: Global, rows: &[Row<'_>]) -> Result<(), Fail> {
+    for (number, row) in rows.iter().enumerate() {
+        let (definitions, words, named) = row;
+        let wanted = module_with(alloc, named)?;
+        assert_eq!(rt;
+            named_with(alloc, definitions, words)?.as_slice(),
+            wanted.as_slice(),
+            "row {number}"
+        );
+    }
+    Ok(())
 }
 
-fn applied(alloc: Global, f: Expr, a: Expr) -> Result<Expr, Memory> {
-    let a = Arg::Term(a);
-    Ok(Expr::App(Box::new(alloc, f)?, Box::new(alloc, a)?))
+/// Names each module back as it was read.
+fn are_kept(rt: &impl Abort, alloc: Global, all: &[&[u8]]) -> Result<(), Fail> {
+    let none: [&str; 0] = [];
+    for definitions in all {
+        let wanted = module_with(alloc, definitions)?;
+        let named = named_with(alloc, definitions, none.as_slice())?;
+        assert_eq!(rt; named.as_slice(), wanted.as_slice());
+    }
+    Ok(())
 }
 
 #[test]
 fn words_come_back(rt: HostRuntime) -> Result<(), Fail> {
-    let alloc = rt.alloc();
-    let hidden = lambda(alloc, "x", lambda(alloc, "x", variable(alloc, "x")?)?)?;
-    assert_eq!(rt; read_and_named_back(alloc, hidden)?.as_str(), "x. x. x");
-    let both = applied(alloc, variable(alloc, "x")?, variable(alloc, "f")?)?;
-    let again = lambda(alloc, "x", let_of(alloc, "x", variable(alloc, "x")?, both)?)?;
-    assert_eq!(rt;
-        read_and_named_back(alloc, again)?.as_str(),
-        "x. x = x; x f"
-    );
-    Ok(())
-}
-
-/// A definition `f` with this right side, named back.
-fn named_back(alloc: Global, e: NExpr) -> Result<String, Fail> {
-    let decl = NDecl::Def(Text::from_str(alloc, "f")?, NTy::IntHash, e);
-    words_in(alloc, &name_back(alloc, &module_of(alloc, decl)?)?)
-}
-
-fn nlambda(alloc: Global, hint: &str, e: NExpr) -> Result<NExpr, Memory> {
-    let binder = NBinder::Value(Text::from_str(alloc, hint)?, NTy::IntHash);
-    Ok(NExpr::Lam(Box::new(alloc, binder)?, Box::new(alloc, e)?))
-}
-
-fn nlet(alloc: Global, hint: &str, rhs: NExpr, e: NExpr) -> Result<NExpr, Memory> {
-    let mut binds = Seq::new(alloc);
-    binds.push(NBind {
-        hint: Text::from_str(alloc, hint)?,
-        ty: NTy::IntHash,
-        rhs,
-    })?;
-    Ok(NExpr::Let(false, binds, Box::new(alloc, e)?))
-}
-
-fn napplied(alloc: Global, f: NExpr, a: NExpr) -> Result<NExpr, Memory> {
-    let a = NArg::Term(a);
-    Ok(NExpr::App(Box::new(alloc, f)?, Box::new(alloc, a)?))
-}
-
-fn in_m(alloc: Global, word: &str) -> Result<NExpr, Memory> {
-    Ok(NExpr::Var(Name {
-        module: Some(Text::from_str(alloc, "M")?),
-        text: Text::from_str(alloc, word)?,
-    }))
+    let all: [&[u8]; 3] = [
+        b"(def f T (lam ((x T) (x T)) x))",
+        b"(def f T (lam ((x T)) (let (x T x) (app x f))))",
+        b"(def f T (lam ((f T)) (case f (f T) T (default f) (K ((f T) (x T)) (con K f x)))))",
+    ];
+    are_kept(&rt, rt.alloc(), all.as_slice())
 }
 
 #[test]
-fn no_binder_hides_a_local_variable(rt: HostRuntime) -> Result<(), Fail> {
-    let alloc = rt.alloc();
-    let outer = nlambda(alloc, "x", nlambda(alloc, "x", NExpr::Local(1))?)?;
-    assert_eq!(rt; named_back(alloc, outer)?.as_str(), "x. x_1. x");
-    let right = nlambda(
-        alloc,
-        "x",
-        nlet(alloc, "x", NExpr::Local(0), NExpr::Local(1))?,
-    )?;
-    assert_eq!(rt; named_back(alloc, right)?.as_str(), "x. x_1 = x; x");
-    Ok(())
+fn no_binder_hides_a_name_that_is_used(rt: HostRuntime) -> Result<(), Fail> {
+    let rows: [Row<'_>; 7] = [
+        // a binder further out: below a lambda, below a let, in an alternative
+        (
+            b"(def f T (lam ((x T) (y T)) x))",
+            &["x", "x"],
+            b"(def f T (lam ((x T) (x_1 T)) x))",
+        ),
+        (
+            b"(def f T (lam ((x T)) (let (y T x) x)))",
+            &["x", "x"],
+            b"(def f T (lam ((x T)) (let (x_1 T x) x)))",
+        ),
+        (
+            b"(def f T (lam ((x T)) (case x (y T) T (default x))))",
+            &["x", "x"],
+            b"(def f T (lam ((x T)) (case x (x_1 T) T (default x))))",
+        ),
+        // a definition, and one with the first word that would be taken instead
+        (
+            b"(def f_1 T f_1) (def f T (lam ((x T)) (app f f_1)))",
+            &["f"],
+            b"(def f_1 T f_1) (def f T (lam ((f_2 T)) (app f f_1)))",
+        ),
+        // binders of one alternative have different words, and hide what is not used
+        (
+            b"(def f T (lam ((x T)) (case x (y T) T (K ((a T) (b T)) b))))",
+            &["x", "x", "a", "a"],
+            b"(def f T (lam ((x T)) (case x (x T) T (K ((a T) (a_1 T)) a_1))))",
+        ),
+        // nor do they hide the binder of their case
+        (
+            b"(def f T (lam ((x T)) (case x (y T) T (K ((a T) (b T)) y))))",
+            &["x", "y", "x", "y"],
+            b"(def f T (lam ((x T)) (case x (y T) T (K ((x T) (y_1 T)) y))))",
+        ),
+        (
+            b"(def f T (lam ((x T)) (case x (y T) T (K ((a T) (b T)) y))))",
+            &["x", "x", "x", "x"],
+            b"(def f T (lam ((x T)) (case x (x T) T (K ((x_1 T) (x_2 T)) x))))",
+        ),
+    ];
+    are_named(&rt, rt.alloc(), rows.as_slice())
 }
 
-#[test]
-fn no_binder_hides_a_definition(rt: HostRuntime) -> Result<(), Fail> {
-    let alloc = rt.alloc();
-    let both = napplied(alloc, in_m(alloc, "f")?, in_m(alloc, "f_1")?)?;
-    let e = nlambda(alloc, "f", both)?;
-    assert_eq!(rt; named_back(alloc, e)?.as_str(), "f_2. f f_1");
-    Ok(())
-}
-
-/// A case of the innermost variable, with one alternative.
-fn ncase(alloc: Global, hint: &str, alt: NAlt) -> Result<NExpr, Memory> {
-    let mut alts = Seq::new(alloc);
-    alts.push(alt)?;
-    let scrutinee = Box::new(alloc, NExpr::Local(0))?;
-    let hint = Text::from_str(alloc, hint)?;
-    Ok(NExpr::Case(scrutinee, hint, NTy::IntHash, NTy::IntHash, alts))
-}
-
-/// An alternative of the constructor `K` with two parts.
-fn of_two(alloc: Global, first: &str, second: &str, body: NExpr) -> Result<NAlt, Memory> {
-    let head = Head::Con(Name {
-        module: Some(Text::from_str(alloc, "M")?),
-        text: Text::from_str(alloc, "K")?,
-    });
-    let mut binders = Seq::new(alloc);
-    binders.push(NBinder::Value(Text::from_str(alloc, first)?, NTy::IntHash))?;
-    binders.push(NBinder::Value(Text::from_str(alloc, second)?, NTy::IntHash))?;
-    Ok(NAlt {
-        head,
-        binders,
-        body,
-    })
-}
-
-fn default(alloc: Global, body: NExpr) -> NAlt {
-    NAlt {
-        head: Head::Default,
-        binders: Seq::new(alloc),
-        body,
+/// Puts the variable of the innermost binder but one in the place of what a lambda of the last definition answers.
+fn leave_scope(n: &mut NModule) {
+    let count = n.decls.len();
+    if count == 0 {
+        return;
+    }
+    match n.decls.at_mut(count - 1) {
+        NDecl::Def(_, _, NExpr::Lam(_, body)) => **body = NExpr::Local(1),
+        _ => {}
     }
 }
 
-#[test]
-fn binders_of_an_alternative_have_words_of_their_own(rt: HostRuntime) -> Result<(), Fail> {
-    let alloc = rt.alloc();
-    let clash = of_two(alloc, "a", "a", NExpr::Local(0))?;
-    let e = nlambda(alloc, "x", ncase(alloc, "x", clash)?)?;
-    assert_eq!(rt;
-        named_back(alloc, e)?.as_str(),
-        "x. case x of x | K a a_1. a_1"
-    );
-    let inner = of_two(alloc, "x", "y", NExpr::Local(2))?;
-    let e = nlambda(alloc, "x", ncase(alloc, "y", inner)?)?;
-    assert_eq!(rt;
-        named_back(alloc, e)?.as_str(),
-        "x. case x of y | K x y_1. y"
-    );
-    Ok(())
-}
-
-#[test]
-fn the_binder_of_a_case_hides_nothing_in_its_alternatives(rt: HostRuntime) -> Result<(), Fail> {
-    let alloc = rt.alloc();
-    let outer = ncase(alloc, "x", default(alloc, NExpr::Local(1)))?;
-    let e = nlambda(alloc, "x", outer)?;
-    assert_eq!(rt; named_back(alloc, e)?.as_str(), "x. case x of x_1 | _. x");
-    Ok(())
+fn has_names(alloc: Global, n: &NModule) -> bool {
+    name_back(alloc, n).is_ok()
 }
 
 #[test]
 fn what_is_not_in_scope_has_no_word(rt: HostRuntime) -> Result<(), Fail> {
     let alloc = rt.alloc();
-    let decl = NDecl::Def(
-        Text::from_str(alloc, "f")?,
-        NTy::IntHash,
-        nlambda(alloc, "x", NExpr::Local(1))?,
-    );
-    match name_back(alloc, &module_of(alloc, decl)?) {
-        Ok(_) => Err("a name".into()),
-        Err(_) => Ok(()),
-    }
+    let text = module_with(alloc, b"(def f T (lam ((x T)) x))")?;
+    let mut n = nameless(alloc, text.as_slice())?;
+    assert!(rt; has_names(alloc, &n));
+    leave_scope(&mut n);
+    assert!(rt; !has_names(alloc, &n));
+    Ok(())
 }

@@ -1,4 +1,5 @@
 //! Texts and their canonical form, by hand from the rules of printing.
+use fc_iface::print_interface;
 use fc_printer::print_module;
 use fc_reader::read_module;
 use std::alloc::Global;
@@ -18,9 +19,18 @@ fn canonical(alloc: Global, text: &[u8]) -> Result<Vec<u8>, Fail> {
 
 /// Prints each module, and prints what was printed again.
 fn are_printed(rt: &impl Abort, alloc: Global, cases: &[(&[u8], &[u8])]) -> Result<(), Fail> {
-    for (text, printed) in cases {
-        assert_eq!(rt; canonical(alloc, text)?.as_slice(), *printed);
-        assert_eq!(rt; canonical(alloc, printed)?.as_slice(), *printed);
+    for (number, case) in cases.iter().enumerate() {
+        let (text, printed) = case;
+        assert_eq!(rt;
+            canonical(alloc, text)?.as_slice(),
+            *printed,
+            "row {number}"
+        );
+        assert_eq!(rt;
+            canonical(alloc, printed)?.as_slice(),
+            *printed,
+            "row {number}, again"
+        );
     }
     Ok(())
 }
@@ -28,7 +38,16 @@ fn are_printed(rt: &impl Abort, alloc: Global, cases: &[(&[u8], &[u8])]) -> Resu
 #[test]
 fn each_declaration_is_on_its_line(rt: HostRuntime) -> Result<(), Fail> {
     let alloc = rt.alloc();
-    let cases: [(&[u8], &[u8]); 3] = [
+    let cases: [(&[u8], &[u8]); 7] = [
+        // of no declaration
+        (
+            b"(module M (imports) (exports))",
+            b"(module M (imports) (exports))\n",
+        ),
+        (
+            b" ( module\tM_2;c(\r\n(imports)(exports f K' $x#)\n(hidden caseof _y))\n; end",
+            b"(module M_2 (imports) (exports f K' $x#) (hidden caseof _y))\n",
+        ),
         (
             b"(module M (imports) (exports f) (hidden g) (data Int () (I# () Int#)) (data Void ()) (def f Int (con I# -9223372036854775808#)) (def g Int (con Some (con I# f))))",
             b"(module M (imports) (exports f) (hidden g)\n (data Int () (I# () Int#))\n (data Void ())\n (def f Int (con I# -9223372036854775808#))\n (def g Int (con Some (con I# f))))\n",
@@ -42,6 +61,15 @@ fn each_declaration_is_on_its_line(rt: HostRuntime) -> Result<(), Fail> {
             b"(module M (imports) (exports) (def d T (con K 007# -0# -010#)))",
             b"(module M (imports) (exports)\n (def d T (con K 7# 0# -10#)))\n",
         ),
+        // constructors without a field and with two; the least and the largest literal, in a constructor and in one within it
+        (
+            b"(module M (imports) (exports)(data Void ()) (data T ()(K ())(L () Int# T)))",
+            b"(module M (imports) (exports)\n (data Void ())\n (data T () (K ()) (L () Int# T)))\n",
+        ),
+        (
+            b"(module M (imports) (exports) (def f T (con K x -9223372036854775808# (con L (con M) 9223372036854775807#) 007# -0#)) (def g Int# g))",
+            b"(module M (imports) (exports)\n (def f T (con K x -9223372036854775808# (con L (con M) 9223372036854775807#) 7# 0#))\n (def g Int# g))\n",
+        ),
     ];
     are_printed(&rt, alloc, cases.as_slice())
 }
@@ -49,7 +77,7 @@ fn each_declaration_is_on_its_line(rt: HostRuntime) -> Result<(), Fail> {
 #[test]
 fn functions_are_flattened_as_far_as_they_go(rt: HostRuntime) -> Result<(), Fail> {
     let alloc = rt.alloc();
-    let cases: [(&[u8], &[u8]); 6] = [
+    let cases: [(&[u8], &[u8]); 13] = [
         // the result of a function, and not what it takes
         (
             b"(module M (imports) (exports) (def d (fun T (fun U Int#)) e))",
@@ -59,10 +87,26 @@ fn functions_are_flattened_as_far_as_they_go(rt: HostRuntime) -> Result<(), Fail
             b"(module M (imports) (exports) (def d (fun (fun T U) (fun (fun T T) T)) e))",
             b"(module M (imports) (exports)\n (def d (fun (fun T U) (fun T T) T) e))\n",
         ),
+        (
+            b"(module M (imports) (exports) (def d ( fun A(fun B C) ) 1#))",
+            b"(module M (imports) (exports)\n (def d (fun A B C) 1#))\n",
+        ),
+        (
+            b"(module M (imports) (exports) (def d (fun (fun A B) C) 1#))",
+            b"(module M (imports) (exports)\n (def d (fun (fun A B) C) 1#))\n",
+        ),
         // the head of an application, and not its argument
         (
             b"(module M (imports) (exports) (def d T (app (app g x) (app h y))))",
             b"(module M (imports) (exports)\n (def d T (app g x (app h y))))\n",
+        ),
+        (
+            b"(module M (imports) (exports) (def d T (app(app f a)b)))",
+            b"(module M (imports) (exports)\n (def d T (app f a b)))\n",
+        ),
+        (
+            b"(module M (imports) (exports) (def d T (app f (app a b))))",
+            b"(module M (imports) (exports)\n (def d T (app f (app a b))))\n",
         ),
         (
             b"(module M (imports) (exports) (def d T (app (lam ((x T)) x) (con K))))",
@@ -74,8 +118,20 @@ fn functions_are_flattened_as_far_as_they_go(rt: HostRuntime) -> Result<(), Fail
             b"(module M (imports) (exports)\n (def d T (lam ((x T) (y T)) (app f y))))\n",
         ),
         (
+            b"(module M (imports) (exports) (def d T (lam ((a A)) (lam ((b B) (c C)) b))))",
+            b"(module M (imports) (exports)\n (def d T (lam ((a A) (b B) (c C)) b)))\n",
+        ),
+        (
+            b"(module M (imports) (exports) (def d T (lam ((a A) (b B)) (lam ((c C)) b))))",
+            b"(module M (imports) (exports)\n (def d T (lam ((a A) (b B) (c C)) b)))\n",
+        ),
+        (
             b"(module M (imports) (exports) (def d T (lam ((x T)) (let (f T (lam ((y T)) y)) (lam ((z T)) -1#)))))",
             b"(module M (imports) (exports)\n (def d T (lam ((x T)) (let (f T (lam ((y T)) y)) (lam ((z T)) -1#)))))\n",
+        ),
+        (
+            b"(module M (imports) (exports) (def d T (let(y(fun A B)(lam((a A))f))(app y z))))",
+            b"(module M (imports) (exports)\n (def d T (let (y (fun A B) (lam ((a A)) f)) (app y z))))\n",
         ),
     ];
     are_printed(&rt, alloc, cases.as_slice())
@@ -84,7 +140,7 @@ fn functions_are_flattened_as_far_as_they_go(rt: HostRuntime) -> Result<(), Fail
 #[test]
 fn cases_are_printed_with_each_alternative(rt: HostRuntime) -> Result<(), Fail> {
     let alloc = rt.alloc();
-    let cases: [(&[u8], &[u8]); 4] = [
+    let cases: [(&[u8], &[u8]); 11] = [
         (
             b"(module M (imports) (exports) (def d T (case x(y T)Int# (default 1#)(-02# 3#)\n(K ((a T)(b Int#)) a) (L ()y))))",
             b"(module M (imports) (exports)\n (def d T (case x (y T) Int# (default 1#) (-2# 3#) (K ((a T) (b Int#)) a) (L () y))))\n",
@@ -103,6 +159,58 @@ fn cases_are_printed_with_each_alternative(rt: HostRuntime) -> Result<(), Fail> 
             b"(module M (imports) (exports) (def d T (lam ((x T)) (case x (y T) T (default (lam ((z T)) z))))))",
             b"(module M (imports) (exports)\n (def d T (lam ((x T)) (case x (y T) T (default (lam ((z T)) z))))))\n",
         ),
+        // of a literal, with two defaults, with literals that fall and stay
+        (
+            b"(module M (imports) (exports) (def d T (case 1# (y Int#) Int#(default y))))",
+            b"(module M (imports) (exports)\n (def d T (case 1# (y Int#) Int# (default y))))\n",
+        ),
+        (
+            b"(module M (imports) (exports) (def d T ( case x(y T)T ( default 1# ) (default 2#) )))",
+            b"(module M (imports) (exports)\n (def d T (case x (y T) T (default 1#) (default 2#))))\n",
+        ),
+        (
+            b"(module M (imports) (exports) (def d T (case x (y (fun T T)) (fun T T T) (-1# y) (-0# y) (1# y) (1# y))))",
+            b"(module M (imports) (exports)\n (def d T (case x (y (fun T T)) (fun T T T) (-1# y) (0# y) (1# y) (1# y))))\n",
+        ),
+        // in an alternative, in an argument, in a let, and binders of one word
+        (
+            b"(module M (imports) (exports) (def d T (case (case x (y T) T) (y T) T (default (case x (y T) T (K () y))))))",
+            b"(module M (imports) (exports)\n (def d T (case (case x (y T) T) (y T) T (default (case x (y T) T (K () y))))))\n",
+        ),
+        (
+            b"(module M (imports) (exports) (def d T (case x (y T) T (K ((y T) (y (fun T T))) y) (default y))))",
+            b"(module M (imports) (exports)\n (def d T (case x (y T) T (K ((y T) (y (fun T T))) y) (default y))))\n",
+        ),
+        (
+            b"(module M (imports) (exports) (def d T (app (case x (y T) T) (lam ((z T)) (case z (y T) T)))))",
+            b"(module M (imports) (exports)\n (def d T (app (case x (y T) T) (lam ((z T)) (case z (y T) T)))))\n",
+        ),
+        (
+            b"(module M (imports) (exports) (def d T (let (z T (case x (y T) T)) (case z (y T) T (K () (con K y))))))",
+            b"(module M (imports) (exports)\n (def d T (let (z T (case x (y T) T)) (case z (y T) T (K () (con K y))))))\n",
+        ),
     ];
     are_printed(&rt, alloc, cases.as_slice())
+}
+
+/// The text of the interface of the module that a text spells. Fails where it spells none.
+fn interface(alloc: Global, text: &[u8]) -> Result<Vec<u8>, Fail> {
+    if text.len() > 4000 {
+        return Err("a long text".into());
+    }
+    let Ok(m) = read_module(alloc, "M.fc", text) else {
+        return Err("no module".into());
+    };
+    Ok(print_interface(alloc, &m)?)
+}
+
+#[test]
+fn an_interface_leaves_out_right_sides(rt: HostRuntime) -> Result<(), Fail> {
+    let alloc = rt.alloc();
+    let text =
+        b"(module M (imports) (exports f) (hidden Int) (data Int () (I# () Int#)) (def f Int 7#) (def g (fun Int Int) (lam ((x Int)) x)))";
+    let expected =
+        b"(interface 1 M (imports) (exports f) (hidden Int)\n (data Int () (I# () Int#))\n (value f Int (sig) none)\n (value g (fun Int Int) (sig) none))\n";
+    assert_eq!(rt; interface(alloc, text)?.as_slice(), expected.as_slice());
+    Ok(())
 }

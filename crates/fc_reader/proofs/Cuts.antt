@@ -150,10 +150,6 @@ further {rest = rest} front e p = record { front = front ++ p.front; parts = e �
 at_once : {rest : List Tok} → Ends (Close ∷ rest) rest
 at_once = record { front = []; parts = refl }
 
-types_closed : {ts rest : List Tok} {tys : List Ty} → TypesAt ts tys rest → Ends ts rest
-types_closed types_end = at_once
-types_closed (types_more t d) = let p = type_cut t in further p.front p.parts (types_closed d)
-
 cons_closed : {ts rest : List Tok} {cs : List ConDecl} → ConsAt ts cs rest → Ends ts rest
 cons_closed cons_end = at_once
 cons_closed (cons_more c d) = let p = con_cut c in further p.front p.parts (cons_closed d)

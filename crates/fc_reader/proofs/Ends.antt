@@ -10,11 +10,11 @@ use Rattle.fc_model.specs.Words.{Tok, Open, Close, tok_of, toks}
 use Rattle.fc_model.specs.Texts.{ModuleAt}
 use Rattle.fc_model.specs.Texts.{DeclAt, BeginsWithDecls}
 use Rattle.fc_model.specs.ReadFaults.{nests_within, Begins, CannotGoOn, IsBadFormAt, IsDeclAt, IsDeepBracketAt, NestsWithin, WithinSoFar, byte_of, decls_within}
-use Rattle.fc_reader.specs.declared.parts.Stop.TheVariants as stop
+use Rattle.fc_read_parts.specs.declared.parts.Stop.TheVariants as stop
 use Rattle.fc_reader.specs.declared.limits.Halt.{Halt}
 use Rattle.fc_reader.specs.declared.limits.Halt.TheVariants as halt
 use Rattle.fc_reader.specs.Halting.{FirstBadWithin, Halts, PastLimit, Refuses}
-use Rattle.fc_reader.specs.Machine.{AModule, stuck}
+use Rattle.fc_read_parts.specs.Machine.{AModule, stuck}
 use Rattle.fc_reader.specs.Nested.{EndsDeep, IsDeepBefore, IsPart, NestsAll}
 use Rattle.fc_reader.proofs.Cuts.{begins_cut, decl_closed, decl_cut, module_closed}
 use Rattle.fc_reader.proofs.Levels.{nests_front}
@@ -37,10 +37,6 @@ stuck_behind bytes (t ∷ rest) h = ap (λ (n : ℕ). Some (suc n)) (length-map 
 pub refused_behind : {m : Module} (ts : List Tok) (bytes : List ℕ) (rest : List Token) → (length rest ≡ 0 → ⊥) → stuck (AModule ∷ []) ts ≡ stuck [] (toks bytes rest)
     → ModuleAt ts m (toks bytes rest) → decls_within m ≡ true → FirstBadWithin ts (length rest)
 refused_behind ts bytes rest h e d w = record { bad = is_first_bad ts (length rest) (e ∙ stuck_behind bytes rest h); within = module_all d w }
-
-pub no_tokens : (bytes : List ℕ) (rest : List Token) → length rest ≤ 0 → toks bytes rest ≡ []
-no_tokens bytes [] h = refl
-no_tokens bytes (t ∷ rest) h = absurd (omega arith)
 
 -- a list parted as its image is
 record Split {A B : Type 0} (f : A → B) (xs : List A) (front back : List B) : Type 0 where
@@ -129,9 +125,6 @@ behind_part bytes tokens part true p = record { others = p.behind; is = p.parts 
 behind_part bytes tokens part false p = record { others = []; is = sym (append-nil part ∙ p.all) }
 
 -- ---- the faults of the part that is read are those of all
-
-goes_no_further : (good bad others : List Tok) (t : Tok) → CannotGoOn good (t ∷ bad) → CannotGoOn good ((t ∷ bad) ++ others)
-goes_no_further good bad others t h = h
 
 bad_form_at : (bytes : List ℕ) (tokens part good bad others : List Token) (n : ℕ) → part ≡ good ++ bad → tokens ≡ part ++ others → length bad ≡ n
     → Begins (toks bytes good) → CannotGoOn (toks bytes good) (toks bytes (bad ++ others)) → NestsWithin (toks bytes good) → WithinSoFar (toks bytes good)

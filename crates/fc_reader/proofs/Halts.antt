@@ -10,16 +10,16 @@ use Rattle.fc_model.specs.declared.keyword.Keyword.TheVariants as word
 use Rattle.fc_model.specs.Words.{Tok, Open, Close, Key}
 use Rattle.fc_model.specs.Texts.{NamesAt, DeclAt, DeclsAt, decls_end, SomeDeclsAt, no_decls, SomeBodyAt, some_hidden, some_plain, BeginsWithDecls, begins_with}
 use Rattle.fc_model.specs.ReadFaults.{are_within, counts_fit, depth_fits}
-use Rattle.fc_reader.specs.declared.parts.Stop.{Stop}
-use Rattle.fc_reader.specs.declared.parts.Stop.TheVariants as stop
+use Rattle.fc_read_parts.specs.declared.parts.Stop.{Stop}
+use Rattle.fc_read_parts.specs.declared.parts.Stop.TheVariants as stop
 use Rattle.fc_reader.specs.declared.limits.Halt.{Halt}
 use Rattle.fc_reader.specs.declared.limits.Halt.TheVariants as halt
-use Rattle.fc_reader.specs.Header.{HeaderAt, header_at}
+use Rattle.fc_read_parts.specs.Header.{HeaderAt, header_at}
 use Rattle.fc_reader.specs.Halting.{PastLimit, IsDeep, IsMuch, HaltsAt, Halts}
-use Rattle.fc_reader.specs.Machine.{Want, AModule, AHeader, ADecl, Names, Body, Decls, stuck}
-use Rattle.fc_reader.specs.Reading.{Stops, Takes, IsPlain}
-use Rattle.fc_reader.proofs.Follow.{module_goes_on}
-use Rattle.fc_reader.proofs.Forms.{Token, token}
+use Rattle.fc_read_parts.specs.Machine.{Want, AModule, AHeader, ADecl, Names, Body, Decls, stuck}
+use Rattle.fc_read_parts.specs.Reading.{Stops, Takes, IsPlain}
+use Rattle.fc_read_parts.proofs.Follow.{module_goes_on}
+use Rattle.fc_read_parts.proofs.Forms.{Token, token}
 use Rattle.fc_reader.proofs.Within.{begins_all, header_stops, hidden_all, hidden_stops, more_within, plain_all, size_more, some_more, some_then, some_within, stopped_decl}
 
 -- ---- in the list of the declarations

@@ -1,16 +1,10 @@
-pub mod Ascii
-pub mod Chains
 pub mod Cuts
 pub mod Ends
-pub mod Follow
 pub mod Formed
-pub mod Forms
 pub mod Laws
 pub mod Halts
 pub mod Levels
 pub mod One
 pub mod Readings
-pub mod Stars
-pub mod TreeForms
 pub mod Viable
 pub mod Within

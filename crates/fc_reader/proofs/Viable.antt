@@ -13,13 +13,13 @@ use Rattle.fc_model.specs.Texts.{plain_name, ExprAt, expr_var, expr_lit, expr_co
 use Rattle.fc_model.specs.Texts.{AltAt, alt_default, alt_literal, alt_con, AltsAt, alts_end, alts_more}
 use Rattle.fc_model.specs.Texts.{BodyAt, body_hidden, body_plain, ModuleAt, module_at}
 use Rattle.fc_model.specs.ReadFaults.{Begins, CannotGoOn}
-use Rattle.fc_reader.specs.Header.{HeaderAt, header_at}
-use Rattle.fc_reader.specs.Machine.{Want, AModule, AHeader, AModuleWord, AModuleName, AnImportsWord, AnExportsWord, AName, Names, Body, ABodyForm, Decls, ADecl, ADeclForm, Cons, ACon, Types, AType, ATypeForm, ABinder, Binders, AnExpr, AnExprForm, Arguments, ACaseBinder, Alternatives, AnAlternative, AnAlternativeForm, ALower, AnUpper, AnOpen, AClose, AToken}
-use Rattle.fc_reader.specs.Machine.{next, next_name, next_type, next_expr, next_decl_form, then_want, stuck}
+use Rattle.fc_read_parts.specs.Header.{HeaderAt, header_at}
+use Rattle.fc_read_parts.specs.Machine.{Want, AModule, AHeader, AModuleWord, AModuleName, AnImportsWord, AnExportsWord, AName, Names, Body, ABodyForm, Decls, ADecl, ADeclForm, Cons, ACon, Types, AType, ATypeForm, ABinder, Binders, AnExpr, AnExprForm, Arguments, ACaseBinder, Alternatives, AnAlternative, AnAlternativeForm, ALower, AnUpper, AnOpen, AClose, AToken}
+use Rattle.fc_read_parts.specs.Machine.{next, next_name, next_type, next_expr, next_decl_form, then_want, stuck}
 use Rattle.fc_reader.specs.Places.{FirstBad}
-use Rattle.fc_reader.specs.Reading.{CaseBinderAt, case_binder, IsName}
-use Rattle.fc_reader.proofs.Forms.{Token, token}
-use Rattle.fc_reader.proofs.Follow.{module_taken, stuck_on}
+use Rattle.fc_read_parts.specs.Reading.{CaseBinderAt, case_binder, IsName}
+use Rattle.fc_read_parts.proofs.Forms.{Token, token}
+use Rattle.fc_read_parts.proofs.Follow.{module_taken, stuck_on}
 
 pub data Nothing : List Tok → List Tok → Type 0 where
   nothing : {ts : List Tok} → Nothing ts ts

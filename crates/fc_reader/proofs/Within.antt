@@ -9,12 +9,12 @@ use Rattle.fc_model.specs.Words.{Tok, Open, Close, Key}
 use Rattle.fc_model.specs.Texts.{NamesAt, DeclAt, DeclsAt, decls_end, decls_more, BodyAt, body_hidden, body_plain, ModuleAt, module_at}
 use Rattle.fc_model.specs.Texts.{SomeDeclsAt, no_decls, some_decls, SomeBodyAt, some_hidden, some_plain, BeginsWithDecls, begins_with}
 use Rattle.fc_model.specs.ReadFaults.{are_within, counts_fit, depth_fits, decls_within, WithinSoFar}
-use Rattle.fc_reader.specs.Header.{HeaderAt, header_at}
+use Rattle.fc_read_parts.specs.Header.{HeaderAt, header_at}
 use Rattle.fc_reader.specs.Halting.{AllWithin}
-use Rattle.fc_reader.specs.Reading.{NotHidden}
-use Rattle.fc_reader.specs.Machine.{Want, AHeader, ADecl, AToken, Names, stuck}
+use Rattle.fc_read_parts.specs.Reading.{NotHidden}
+use Rattle.fc_read_parts.specs.Machine.{Want, AHeader, ADecl, AToken, Names, stuck}
 use Rattle.fc_reader.proofs.Cuts.{begins_longer}
-use Rattle.fc_reader.proofs.Follow.{decl_taken, header_taken, names_taken}
+use Rattle.fc_read_parts.proofs.Follow.{decl_taken, header_taken, names_taken}
 use Rattle.fc_reader.proofs.One.{names_one, decl_one, no_decl_at_close, no_decl_at_hidden}
 
 -- ---- what is within the limits together is so in part

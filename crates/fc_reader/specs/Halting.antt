@@ -6,13 +6,13 @@ use Rattle.fc_syntax.specs.Tree.{Decl}
 use Rattle.fc_model.specs.Words.{Tok}
 use Rattle.fc_model.specs.Texts.{DeclAt, BeginsWithDecls}
 use Rattle.fc_model.specs.ReadFaults.{are_within, counts_fit, depth_fits, WithinSoFar}
-use Rattle.fc_reader.specs.declared.parts.Stop.{Stop}
-use Rattle.fc_reader.specs.declared.parts.Stop.TheVariants as stop
+use Rattle.fc_read_parts.specs.declared.parts.Stop.{Stop}
+use Rattle.fc_read_parts.specs.declared.parts.Stop.TheVariants as stop
 use Rattle.fc_reader.specs.declared.limits.Halt.{Halt}
 use Rattle.fc_reader.specs.declared.limits.Halt.TheVariants as halt
 use Rattle.fc_reader.specs.declared.limits.Judged.{Judged}
 use Rattle.fc_reader.specs.declared.limits.Judged.TheVariants as judged
-use Rattle.fc_reader.specs.Machine.{Want, stuck}
+use Rattle.fc_read_parts.specs.Machine.{Want, stuck}
 use Rattle.fc_reader.specs.Places.{FirstBad}
 
 -- the declaration nests too deep

@@ -1,9 +1,5 @@
-pub mod Classes
 pub mod Halting
-pub mod Header
-pub mod Machine
 pub mod Nested
 pub mod Outcomes
 pub mod Places
-pub mod Reading
 pub mod Refusals

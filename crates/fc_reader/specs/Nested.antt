@@ -4,8 +4,8 @@ use Rattle.fc_syntax.specs.Limits.{standard_limits}
 use Rattle.fc_syntax.specs.declared.token.Token.{Token}
 use Rattle.fc_model.specs.Words.{Tok, Open, toks}
 use Rattle.fc_model.specs.ReadFaults.{nests_within, NestsWithin}
-use Rattle.fc_reader.specs.declared.class.Class.{Class}
-use Rattle.fc_reader.specs.Classes.{seen}
+use Rattle.fc_read_parts.specs.declared.class.Class.{Class}
+use Rattle.fc_read_parts.specs.Classes.{seen}
 
 -- behind a token of this class the level is another
 abbrev pub StepsTo : Class → ℕ → ℕ → Type 0

@@ -5,15 +5,15 @@ ghost use Rattle.fc_syntax.specs.View.{ty_of, binders_of, expr_of, alt_of, alts_
 ghost use Rattle.fc_model.specs.Words.{Open, Key, toks};
 ghost use Rattle.fc_model.specs.declared.keyword.Keyword.TheVariants as key;
 ghost use Rattle.fc_model.specs.Texts.{ExprAt, AltAt, AltsAt};
-ghost use Rattle.fc_reader.specs.Machine.{AnExprForm, ACaseBinder, Alternatives, AnAlternative};
-ghost use Rattle.fc_reader.specs.Reading.{CaseBinderAt, HeadAt, Stops, Takes, TakesAlternativeHead};
+ghost use Rattle.fc_read_parts.specs.Machine.{AnExprForm, ACaseBinder, Alternatives, AnAlternative};
+ghost use Rattle.fc_read_parts.specs.Reading.{CaseBinderAt, HeadAt, Stops, Takes, TakesAlternativeHead};
 
-use crate::class::{Class, first};
 use crate::exprs::read_expr;
-use crate::parts::{Stop, closes, name_text, read_close, read_lower, read_open};
-use crate::trees::case_of;
-use crate::types::{read_binders, read_type};
 use fc_model::Keyword;
+use fc_read_parts::{
+    Class, Stop, case_of, closes, first, name_text, read_binders, read_close, read_lower,
+    read_open, read_type,
+};
 use fc_syntax::{Alt, Binder, Expr, Head, Name, Seq, Text, Token, Ty};
 use std::alloc::Global;
 

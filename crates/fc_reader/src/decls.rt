@@ -5,16 +5,17 @@ ghost use Rattle.fc_syntax.specs.View.{decl_of, decls_of};
 ghost use Rattle.fc_model.specs.Words.{Open, toks};
 ghost use Rattle.fc_model.specs.Texts.{DeclAt, DeclsAt, SomeDeclsAt};
 ghost use Rattle.fc_model.specs.ReadFaults.{are_within};
-ghost use Rattle.fc_reader.specs.Machine.{ADecl, ADeclForm, Decls};
-ghost use Rattle.fc_reader.specs.Reading.{Stops, Takes};
+ghost use Rattle.fc_read_parts.specs.Machine.{ADecl, ADeclForm, Decls};
+ghost use Rattle.fc_read_parts.specs.Reading.{Stops, Takes};
 ghost use Rattle.fc_reader.specs.Halting.{Halts};
 
-use crate::class::{Class, first};
 use crate::exprs::read_expr;
 use crate::limits::{Halt, Judged, judge};
-use crate::parts::{Stop, closes, read_close, read_lower, read_open, read_upper};
-use crate::types::{read_constructors, read_type};
 use fc_model::Keyword;
+use fc_read_parts::{
+    Class, Stop, closes, first, read_close, read_constructors, read_lower, read_open, read_type,
+    read_upper,
+};
 use fc_syntax::{Decl, Seq, Token};
 use std::alloc::Global;
 

@@ -6,15 +6,15 @@ ghost use Rattle.fc_syntax.specs.View.{binder_of, binders_of, expr_of, args_of};
 ghost use Rattle.fc_model.specs.Words.{Open, Key, toks};
 ghost use Rattle.fc_model.specs.declared.keyword.Keyword.TheVariants as key;
 ghost use Rattle.fc_model.specs.Texts.{plain_name, ExprAt, ArgsAt};
-ghost use Rattle.fc_reader.specs.Machine.{AnExpr, AnExprForm, Arguments};
-ghost use Rattle.fc_reader.specs.Reading.{AppliedAt, AppliesAt, BindsAt, Stops, Takes, TakesBinders, TakesHead};
+ghost use Rattle.fc_read_parts.specs.Machine.{AnExpr, AnExprForm, Arguments};
+ghost use Rattle.fc_read_parts.specs.Reading.{AppliedAt, AppliesAt, BindsAt, Stops, Takes, TakesBinders, TakesHead};
 
 use crate::alternatives::read_case;
-use crate::class::{Class, first};
-use crate::parts::{Stop, closes, name_text, read_close, read_lower, read_open, read_upper};
-use crate::trees::{application, binding, lambda_over};
-use crate::types::{read_binder, read_binders, read_type};
 use fc_model::Keyword;
+use fc_read_parts::{
+    Class, Stop, application, binding, closes, first, lambda_over, name_text, read_binder,
+    read_binders, read_close, read_lower, read_open, read_type, read_upper,
+};
 use fc_syntax::{Arg, Binder, Expr, Name, Seq, Text, Token};
 use std::alloc::Global;
 
@@ -62,15 +62,13 @@ pub(crate) fn read_expr<'a>(
             Ok((variable(name), rest))
         }
         Class::Literal(n) => Ok((literal(n), rest)),
-        Class::Open => {
-            let (e, rest) = read_expr_form(alloc, bytes, rest)?;
-            Ok((e, rest))
-        }
+        Class::Open => read_expr_form(alloc, bytes, rest),
         _ => Err(Stop::Form(tokens.len())),
     }
 }
 
-/// An expression behind its opening bracket.
+/// An expression behind its opening bracket. The readers of the forms stand alone and answer for this one, so that each level of
+/// brackets takes little stack.
 #[cycle(exprs)]
 fn read_expr_form<'a>(
     alloc: Global,
@@ -88,36 +86,58 @@ fn read_expr_form<'a>(
         return Err(Stop::Form(0));
     };
     match class {
-        Class::Key(Keyword::Con) => {
-            let (name, rest) = read_upper(alloc, bytes, rest)?;
-            let (args, rest) = read_arguments(alloc, bytes, rest)?;
-            Ok((built(name, args), rest))
-        }
-        Class::Key(Keyword::App) => {
-            let (head, rest) = read_application(alloc, bytes, rest)?;
-            let (e, rest) = read_applied(alloc, bytes, head, rest)?;
-            Ok((e, rest))
-        }
-        Class::Key(Keyword::Lam) => {
-            let (e, rest) = read_lambda(alloc, bytes, rest)?;
-            Ok((e, rest))
-        }
-        Class::Key(Keyword::Let) => {
-            let (e, rest) = read_let(alloc, bytes, rest)?;
-            Ok((e, rest))
-        }
-        Class::Key(Keyword::Case) => {
-            let (e, rest) = read_case(alloc, bytes, rest)?;
-            Ok((e, rest))
-        }
+        Class::Key(Keyword::Con) => read_constructor(alloc, bytes, rest),
+        Class::Key(Keyword::App) => read_application(alloc, bytes, rest),
+        Class::Key(Keyword::Lam) => read_lambda(alloc, bytes, rest),
+        Class::Key(Keyword::Let) => read_let(alloc, bytes, rest),
+        Class::Key(Keyword::Case) => read_case(alloc, bytes, rest),
         _ => Err(Stop::Form(tokens.len())),
     }
 }
 
-/// The head of an application with its first argument, behind its word. The readers of the forms stand alone, so that each level of brackets takes little stack.
+/// A constructor with its arguments, behind its word.
+#[cycle(exprs)]
+#[inline(never)]
+fn read_constructor<'a>(
+    alloc: Global,
+    bytes: &[u8],
+    tokens: &'a [Token],
+) -> Result<(Expr, &'a [Token]), Stop>
+    requires { AreSlices bytes.now tokens.now }
+    ensures read { IfOk result (λ x. ExprAt (Open ∷ Key key.Con ∷ toks bytes.now tokens.now) (expr_of x.0) (toks bytes.now x.1.now)) }
+    ensures taken { IfOk result (λ x. Takes AnExprForm (Key key.Con ∷ toks bytes.now tokens.now) (toks bytes.now x.1.now)) }
+    ensures inside { IfOk result (λ x. AreSlices bytes.now x.1.now) }
+    ensures shorter { IfOk result (λ x. length x.1.now < length tokens.now) }
+    ensures fault { IfErr result (Stops AnExprForm (Key key.Con ∷ toks bytes.now tokens.now)) }
+{
+    let (name, rest) = read_upper(alloc, bytes, tokens)?;
+    let (args, rest) = read_arguments(alloc, bytes, rest)?;
+    Ok((built(name, args), rest))
+}
+
+/// An application behind its word.
 #[cycle(exprs)]
 #[inline(never)]
 fn read_application<'a>(
+    alloc: Global,
+    bytes: &[u8],
+    tokens: &'a [Token],
+) -> Result<(Expr, &'a [Token]), Stop>
+    requires { AreSlices bytes.now tokens.now }
+    ensures read { IfOk result (λ x. ExprAt (Open ∷ Key key.App ∷ toks bytes.now tokens.now) (expr_of x.0) (toks bytes.now x.1.now)) }
+    ensures taken { IfOk result (λ x. Takes AnExprForm (Key key.App ∷ toks bytes.now tokens.now) (toks bytes.now x.1.now)) }
+    ensures inside { IfOk result (λ x. AreSlices bytes.now x.1.now) }
+    ensures shorter { IfOk result (λ x. length x.1.now < length tokens.now) }
+    ensures fault { IfErr result (Stops AnExprForm (Key key.App ∷ toks bytes.now tokens.now)) }
+{
+    let (head, rest) = read_head(alloc, bytes, tokens)?;
+    read_applied(alloc, bytes, head, rest)
+}
+
+/// The head of an application with its first argument, behind its word.
+#[cycle(exprs)]
+#[inline(never)]
+fn read_head<'a>(
     alloc: Global,
     bytes: &[u8],
     tokens: &'a [Token],

@@ -6,17 +6,16 @@ ghost use Rattle.fc_syntax.specs.Tree.{ModuleOf};
 ghost use Rattle.fc_model.specs.Words.{toks};
 ghost use Rattle.fc_model.specs.Texts.{NamesAt, BodyAt, SomeBodyAt, ModuleAt, BeginsWithDecls};
 ghost use Rattle.fc_model.specs.ReadFaults.{are_within, decls_within};
-ghost use Rattle.fc_reader.specs.Header.{HeaderAt};
-ghost use Rattle.fc_reader.specs.Machine.{AModule, AHeader, Names, Body as spec_Body};
-ghost use Rattle.fc_reader.specs.Reading.{Stops, Takes};
+ghost use Rattle.fc_read_parts.specs.Header.{HeaderAt};
+ghost use Rattle.fc_read_parts.specs.Machine.{AModule, AHeader, Names, Body as spec_Body};
+ghost use Rattle.fc_read_parts.specs.Reading.{Stops, Takes};
 ghost use Rattle.fc_reader.specs.Halting.{Halts};
 
-use crate::class::{Class, first};
 use crate::decls::read_decls;
 use crate::limits::Halt;
-use crate::parts::{
-    Stop, closes, opens_hidden, read_close, read_exports_word, read_imports_word, read_module_name,
-    read_module_word, read_name, read_open,
+use fc_read_parts::{
+    Class, Stop, closes, first, opens_hidden, read_close, read_exports_word, read_imports_word,
+    read_module_name, read_module_word, read_name, read_open,
 };
 use fc_syntax::{Decl, Module, Seq, Text, Token};
 use std::alloc::Global;

@@ -9,17 +9,12 @@ ghost use Rattle.fc_model.specs.ReadFaults.{ReadsTo};
 ghost use Rattle.fc_reader.specs.Refusals.{IsReadRefusal, SpellsOne};
 
 mod alternatives;
-mod class;
 mod decls;
 mod exprs;
 mod header;
 mod limits;
 mod nesting;
-mod parts;
-mod trees;
-mod types;
 mod whole;
-mod words;
 
 use crate::whole::{read_tokens, refusal_of};
 use fc_syntax::{Module, Refusal};
@@ -46,7 +41,7 @@ pub fn read_module(alloc: Global, file: &str, bytes: &[u8]) -> Result<Module, Re
     read_tokens(alloc, file, bytes, tokens.as_slice())
 }
 
-/// Bytes spell at most one module, and where there is a fault they spell none.
+/// Bytes spell at most one module, and where there is a first fault they spell none within the limits.
 pub fn a_text_has_one_module()
     ensures one { SpellsOne }
 {}

@@ -5,10 +5,11 @@ ghost use Rattle.fc_syntax.specs.View.{binders_of, con_of, cons_of, decl_of};
 ghost use Rattle.fc_model.specs.ReadFaults.{co_count, con_counts_fit, type_count, counts_fit as spec_counts_fit};
 ghost use Rattle.fc_reader.specs.Halting.{IsJudged};
 ghost use Rattle.fc_reader.specs.declared.limits.Halt.TheVariants.{Stop as stopped};
-ghost use Rattle.fc_reader.specs.declared.parts.Stop.TheVariants.{Memory as memory_stop};
+ghost use Rattle.fc_read_parts.specs.declared.parts.Stop.TheVariants.{Memory as memory_stop};
 
-use crate::parts::Stop;
-use fc_syntax::{Binder, ConDecl, Decl, Memory, depth, size_of_decl};
+use fc_measures::{add, depth, size_of_decl};
+use fc_read_parts::Stop;
+use fc_syntax::{Binder, ConDecl, Decl, Memory};
 
 /// Depth of a declaration.
 const MOST_DEEP: u32 = 500;
@@ -47,13 +48,6 @@ pub(crate) enum Judged {
     Fits(u64),
 }
 
-/// `a + b`, or `most` where that is less.
-fn add(a: u64, b: u64, most: u64) -> u64
-    ensures { result ≡ min (a + b) most }
-{
-    a.saturating_add(b).min(most)
-}
-
 /// How many of the binders bind a type, or `most` where that is less.
 fn types_among(binders: &[Binder], most: u64) -> u64
     ensures { result ≡ min (type_count (binders_of binders.now)) most }
@@ -84,7 +78,7 @@ fn coercions_among(binders: &[Binder], most: u64) -> u64
     sum
 }
 
-#[tactic(auto, using(fc_syntax::proofs::Leaves::leaf_rules, std::proofs::lemmas::Grind::common_steps))]
+#[tactic(auto, using(fc_measures::proofs::Leaves::leaf_rules, std::proofs::lemmas::Grind::common_steps))]
 fn constructor_fits(con: &ConDecl) -> bool
     ensures { result ≡ con_counts_fit (con_of con.now) }
 {
@@ -105,7 +99,7 @@ fn constructors_fit(cons: &[ConDecl]) -> bool
     true
 }
 
-#[tactic(auto, using(fc_syntax::proofs::Leaves::leaf_rules, std::proofs::lemmas::Grind::common_steps))]
+#[tactic(auto, using(fc_measures::proofs::Leaves::leaf_rules, std::proofs::lemmas::Grind::common_steps))]
 fn counts_fit(decl: &Decl) -> bool
     ensures { result ≡ spec_counts_fit (decl_of decl.now) }
 {

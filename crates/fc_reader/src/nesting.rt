@@ -5,7 +5,7 @@ ghost use Rattle.fc_model.specs.Words.{toks};
 ghost use Rattle.fc_model.specs.ReadFaults.{NestsWithin};
 ghost use Rattle.fc_reader.specs.Nested.{IsDeepBefore, IsPart, IsTooDeep, StepsTo};
 
-use crate::class::{Class, first};
+use fc_read_parts::{Class, first};
 use fc_syntax::Token;
 
 /// Brackets nest no deeper than this.

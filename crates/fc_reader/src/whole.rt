@@ -13,8 +13,8 @@ ghost use Rattle.fc_reader.specs.Outcomes.{IsRefusalAt, IsRefusalOf};
 use crate::header::read_module_form;
 use crate::limits::Halt;
 use crate::nesting::up_to_deep_bracket;
-use crate::parts::Stop;
 use fc_lex::LexError;
+use fc_read_parts::Stop;
 use fc_syntax::{Fault, FaultKind, Module, Place, Refusal, Text, Token};
 use std::alloc::Global;
 

@@ -2,6 +2,4 @@
 #![tactic(auto)]
 
 #[cfg(test)]
-mod case_tests;
-#[cfg(test)]
 mod tests;

@@ -1,5 +1,5 @@
 -- The tokens of a text, taken a byte, a word or a comment at a time.
-use Rattle.std.proofs.Common.{◌≡◌, ℕ, ◌+◌, Bool, true, false, List, [], ◌∷◌, ◌++◌, length, refl, sym, ◌∙◌, ap, arith, add-zero, cond}
+use Rattle.std.proofs.Common.{◌≡◌, ℕ, ◌+◌, true, false, List, [], ◌∷◌, ◌++◌, length, refl, sym, ◌∙◌, ap, arith, add-zero, cond}
 use Rattle.std.specs.Prelude.{Result, Ok, Err, ⊤}
 use Rattle.std.specs.List.{list_all, take_while}
 use Rattle.std.proofs.lemmas.Bool.{and_parts, true≢false}
@@ -7,8 +7,7 @@ use Rattle.std.proofs.lemmas.Bool.Decides.{nat_tests}
 use Rattle.std.proofs.lemmas.List.Sums.{take_while-cons}
 use Rattle.fc_syntax.specs.declared.fault.FaultKind.TheVariants as fault
 use Rattle.fc_syntax.specs.declared.token.TokenKind.{TokenKind}
-use Rattle.fc_syntax.specs.declared.token.TokenKind.TheVariants as kind
-use Rattle.fc_syntax.specs.Tokens.{as_lexeme, word_kind, ByteClass, Blank, LineFeed, Opening, Closing, Semicolon, Plain, Foreign, byte_class, is_plain, ByteFault, Lexeme, then_lexemes, word_lexeme, Before, Between, InWord, InComment, Move, Passes, IsBracket, StartsWord, Breaks, move, lexed}
+use Rattle.fc_syntax.specs.Tokens.{as_lexeme, word_kind, ByteClass, Blank, LineFeed, Opening, Closing, Semicolon, Plain, Foreign, byte_class, is_plain, ByteFault, Lexeme, then_lexemes, word_lexeme, Before, Between, InWord, Move, Passes, IsBracket, StartsWord, Breaks, move, lexed}
 
 -- what follows a move
 abbrev pub moved : ℕ → ℕ → List ℕ → Move → Result (List Lexeme) ByteFault
@@ -75,73 +74,6 @@ lexed_word at b w rest p h =
     lexed_first Between at b (w ++ rest) Plain (plain_class b parts.0)
     ∙ (ap (λ v. then_lexemes (word_lexeme at v) (lexed InWord (at + 1) (w ++ rest))) (take_while_word (b ∷ w) rest p h)
     ∙ ap (then_lexemes (word_lexeme at (b ∷ w))) (lexed_in_word (at + 1) w rest parts.1 h ∙ ap (λ n. lexed Between n rest) e))
-
--- a byte that may stand in a comment
-abbrev pub in_comment : ByteClass → Bool
-in_comment Blank = true
-in_comment LineFeed = false
-in_comment Opening = true
-in_comment Closing = true
-in_comment Semicolon = true
-in_comment Plain = true
-in_comment Foreign = false
-
-abbrev pub is_comment_byte : ℕ → Bool
-is_comment_byte b = in_comment (byte_class b)
-
-pub comment_goes_on : (c : ByteClass) → in_comment c ≡ true → move InComment c ≡ Passes InComment
-comment_goes_on Blank h = refl
-comment_goes_on LineFeed h = absurd (true≢false (sym h))
-comment_goes_on Opening h = refl
-comment_goes_on Closing h = refl
-comment_goes_on Semicolon h = refl
-comment_goes_on Plain h = refl
-comment_goes_on Foreign h = absurd (true≢false (sym h))
-
--- a text that is empty or begins with a line feed
-abbrev pub EndsLine : List ℕ → Type 0
-EndsLine [] = ⊤
-EndsLine (b ∷ bs) = byte_class b ≡ LineFeed
-
-pub lexed_line_end : (at : ℕ) (rest : List ℕ) → EndsLine rest → lexed InComment at rest ≡ lexed Between at rest
-lexed_line_end at [] h = refl
-lexed_line_end at (b ∷ bs) h = lexed_first InComment at b bs LineFeed h ∙ sym (lexed_first Between at b bs LineFeed h)
-
--- one byte of a comment
-pub lexed_comment_byte : (at b : ℕ) (bs : List ℕ) → is_comment_byte b ≡ true → lexed InComment at (b ∷ bs) ≡ lexed InComment (at + 1) bs
-lexed_comment_byte at b bs h = ap (moved at b bs) (comment_goes_on (byte_class b) h)
-
--- the rest of a comment
-pub lexed_in_comment : (at : ℕ) (w rest : List ℕ) → list_all is_comment_byte w ≡ true → EndsLine rest → lexed InComment at (w ++ rest) ≡ lexed Between (at + length w) rest
-lexed_in_comment at [] rest p h = rw add-zero (lexed_line_end at rest h)
-lexed_in_comment at (b ∷ w) rest p h =
-    let parts = and_parts (is_comment_byte b) (list_all is_comment_byte w) p in
-    let e : at + 1 + length w ≡ at + length (b ∷ w) = omega arith in
-    lexed_comment_byte at b (w ++ rest) parts.0 ∙ (lexed_in_comment (at + 1) w rest parts.1 h ∙ ap (λ n. lexed Between n rest) e)
-
--- A comment, from its semicolon up to its line feed or the end of the text, and what follows it.
-pub lexed_comment : (at : ℕ) (w rest : List ℕ) → list_all is_comment_byte w ≡ true → EndsLine rest
-    → lexed Between at ((59 ∷ w) ++ rest) ≡ lexed Between (at + length (59 ∷ w)) rest
-lexed_comment at w rest p h =
-    let e : at + 1 + length w ≡ at + length (59 ∷ w) = omega arith in
-    lexed_in_comment (at + 1) w rest p h ∙ ap (λ n. lexed Between n rest) e
-
--- a blank, or the end of a line
-pub lexed_blank : (at b : ℕ) (rest : List ℕ) → byte_class b ≡ Blank → lexed Between at (b ∷ rest) ≡ lexed Between (at + 1) rest
-lexed_blank at b rest h = lexed_first Between at b rest Blank h
-
-pub lexed_line_feed : (at b : ℕ) (rest : List ℕ) → byte_class b ≡ LineFeed → lexed Between at (b ∷ rest) ≡ lexed Between (at + 1) rest
-lexed_line_feed at b rest h = lexed_first Between at b rest LineFeed h
-
-pub lexed_foreign : (at b : ℕ) (rest : List ℕ) → byte_class b ≡ Foreign → lexed Between at (b ∷ rest) ≡ Err (record { kind = fault.BadByte; at = at })
-lexed_foreign at b rest h = lexed_first Between at b rest Foreign h
-
--- brackets
-pub lexed_opening : (at : ℕ) (rest : List ℕ) → lexed Between at (40 ∷ rest) ≡ then_lexemes (Ok (record { from = at; text = 40 ∷ []; kind = kind.Open })) (lexed Between (at + 1) rest)
-lexed_opening at rest = refl
-
-pub lexed_closing : (at : ℕ) (rest : List ℕ) → lexed Between at (41 ∷ rest) ≡ then_lexemes (Ok (record { from = at; text = 41 ∷ []; kind = kind.Close })) (lexed Between (at + 1) rest)
-lexed_closing at rest = refl
 
 -- a word that is a token, and what follows it
 pub lexed_token : (at b : ℕ) (w rest : List ℕ) (k : TokenKind) → list_all is_plain (b ∷ w) ≡ true → StartsApart rest → word_kind at (b ∷ w) ≡ Ok k

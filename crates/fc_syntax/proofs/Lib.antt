@@ -1,4 +1,3 @@
-pub mod Leaves
 pub mod Lexing
 pub mod NameWords
 pub mod Snoc

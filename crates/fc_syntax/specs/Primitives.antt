@@ -15,7 +15,7 @@ truth false = pos 0
 abbrev pub divided : ℤ → ℤ → Option ℤ
 divided b z = if int_eq b (pos 0) then None else Some z
 
--- sums, differences and products wrap at 64 bits; a quotient is rounded toward zero, and a remainder has the dividend's sign
+-- sums, differences, products and quotients wrap at 64 bits; a quotient is rounded toward zero, and a remainder has the dividend's sign
 abbrev pub primitive_value : PrimOp → ℤ → ℤ → Option ℤ
 primitive_value op.Plus a b = Some (int_wrap w64 (a +ℤ b))
 primitive_value op.Minus a b = Some (int_wrap w64 (a -ℤ b))

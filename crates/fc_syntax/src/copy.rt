@@ -3,6 +3,7 @@ ghost use Rattle.std.specs.Prelude.{◌≡◌, IfOk};
 ghost use Rattle.fc_syntax.specs.View.{kind_of, ty_of, co_of, cos_of, binder_of, binders_of};
 ghost use Rattle.fc_syntax.specs.View.{expr_of, exprs_of, arg_of, args_of, bind_of, binds_of, join_of, joins_of, alt_of, alts_of};
 
+use crate::boxes::boxed_copy;
 use crate::co::Co;
 use crate::expr::{Alt, Arg, Bind, Binder, Expr, Head, JoinBind};
 use crate::fault::Memory;
@@ -10,13 +11,6 @@ use crate::seq::Seq;
 use crate::text::Text;
 use crate::ty::{Kind, Name, Ty};
 use std::alloc::Global;
-
-/// A value in a box, where there is one.
-fn boxed<T: Drop>(alloc: Global, value: Result<T, Memory>) -> Result<Box<T>, Memory>
-    ensures { IfOk result (λ b. value ≡ Ok b.value) }
-{
-    Ok(Box::new(alloc, value?)?)
-}
 
 impl Text {
     /// The same word again. Fails only where memory is wanting.
@@ -53,8 +47,8 @@ impl Kind {
             Kind::Star => Ok(Kind::Star),
             Kind::Hash => Ok(Kind::Hash),
             Kind::Arrow(from, to) => {
-                let from = boxed(alloc, from.copy(alloc))?;
-                let to = boxed(alloc, to.copy(alloc))?;
+                let from = boxed_copy(alloc, from.copy(alloc))?;
+                let to = boxed_copy(alloc, to.copy(alloc))?;
                 Ok(Kind::Arrow(from, to))
             }
         }
@@ -72,25 +66,25 @@ impl Ty {
             Ty::Con(name) => Ok(Ty::Con(name.copy(alloc)?)),
             Ty::IntHash => Ok(Ty::IntHash),
             Ty::App(t, u) => {
-                let t = boxed(alloc, t.copy(alloc))?;
-                let u = boxed(alloc, u.copy(alloc))?;
+                let t = boxed_copy(alloc, t.copy(alloc))?;
+                let u = boxed_copy(alloc, u.copy(alloc))?;
                 Ok(Ty::App(t, u))
             }
             Ty::Fun(t, u) => {
-                let t = boxed(alloc, t.copy(alloc))?;
-                let u = boxed(alloc, u.copy(alloc))?;
+                let t = boxed_copy(alloc, t.copy(alloc))?;
+                let u = boxed_copy(alloc, u.copy(alloc))?;
                 Ok(Ty::Fun(t, u))
             }
             Ty::Forall(a, kind, body) => {
                 let a = a.copy(alloc)?;
                 let kind = kind.copy(alloc)?;
-                let body = boxed(alloc, body.copy(alloc))?;
+                let body = boxed_copy(alloc, body.copy(alloc))?;
                 Ok(Ty::Forall(a, kind, body))
             }
             Ty::CoForall(role, left, right, body) => {
-                let left = boxed(alloc, left.copy(alloc))?;
-                let right = boxed(alloc, right.copy(alloc))?;
-                let body = boxed(alloc, body.copy(alloc))?;
+                let left = boxed_copy(alloc, left.copy(alloc))?;
+                let right = boxed_copy(alloc, right.copy(alloc))?;
+                let body = boxed_copy(alloc, body.copy(alloc))?;
                 Ok(Ty::CoForall(*role, left, right, body))
             }
         }
@@ -108,12 +102,12 @@ impl Co {
             Co::Var(c) => Ok(Co::Var(c.copy(alloc)?)),
             Co::Refl(role, t) => Ok(Co::Refl(*role, t.copy(alloc)?)),
             Co::Sym(g) => {
-                let g = boxed(alloc, g.copy(alloc))?;
+                let g = boxed_copy(alloc, g.copy(alloc))?;
                 Ok(Co::Sym(g))
             }
             Co::Trans(g, h) => {
-                let g = boxed(alloc, g.copy(alloc))?;
-                let h = boxed(alloc, h.copy(alloc))?;
+                let g = boxed_copy(alloc, g.copy(alloc))?;
+                let h = boxed_copy(alloc, h.copy(alloc))?;
                 Ok(Co::Trans(g, h))
             }
             Co::Tc(role, name, parts) => {
@@ -122,46 +116,46 @@ impl Co {
                 Ok(Co::Tc(*role, name, parts))
             }
             Co::Capp(g, h) => {
-                let g = boxed(alloc, g.copy(alloc))?;
-                let h = boxed(alloc, h.copy(alloc))?;
+                let g = boxed_copy(alloc, g.copy(alloc))?;
+                let h = boxed_copy(alloc, h.copy(alloc))?;
                 Ok(Co::Capp(g, h))
             }
             Co::FunCo(g, h) => {
-                let g = boxed(alloc, g.copy(alloc))?;
-                let h = boxed(alloc, h.copy(alloc))?;
+                let g = boxed_copy(alloc, g.copy(alloc))?;
+                let h = boxed_copy(alloc, h.copy(alloc))?;
                 Ok(Co::FunCo(g, h))
             }
             Co::AllCo(a, kind, g) => {
                 let a = a.copy(alloc)?;
                 let kind = kind.copy(alloc)?;
-                let g = boxed(alloc, g.copy(alloc))?;
+                let g = boxed_copy(alloc, g.copy(alloc))?;
                 Ok(Co::AllCo(a, kind, g))
             }
             Co::CoAllCo(role, ends, g, h, k) => {
-                let g = boxed(alloc, g.copy(alloc))?;
-                let h = boxed(alloc, h.copy(alloc))?;
-                let k = boxed(alloc, k.copy(alloc))?;
+                let g = boxed_copy(alloc, g.copy(alloc))?;
+                let h = boxed_copy(alloc, h.copy(alloc))?;
+                let k = boxed_copy(alloc, k.copy(alloc))?;
                 Ok(Co::CoAllCo(*role, *ends, g, h, k))
             }
             Co::Inst(g, h) => {
-                let g = boxed(alloc, g.copy(alloc))?;
-                let h = boxed(alloc, h.copy(alloc))?;
+                let g = boxed_copy(alloc, g.copy(alloc))?;
+                let h = boxed_copy(alloc, h.copy(alloc))?;
                 Ok(Co::Inst(g, h))
             }
             Co::Nth(number, g) => {
-                let g = boxed(alloc, g.copy(alloc))?;
+                let g = boxed_copy(alloc, g.copy(alloc))?;
                 Ok(Co::Nth(*number, g))
             }
             Co::Left(g) => {
-                let g = boxed(alloc, g.copy(alloc))?;
+                let g = boxed_copy(alloc, g.copy(alloc))?;
                 Ok(Co::Left(g))
             }
             Co::Right(g) => {
-                let g = boxed(alloc, g.copy(alloc))?;
+                let g = boxed_copy(alloc, g.copy(alloc))?;
                 Ok(Co::Right(g))
             }
             Co::Sub(g) => {
-                let g = boxed(alloc, g.copy(alloc))?;
+                let g = boxed_copy(alloc, g.copy(alloc))?;
                 Ok(Co::Sub(g))
             }
             Co::Ax(name, parts) => {
@@ -249,22 +243,22 @@ impl Expr {
             Expr::Var(name) => Ok(Expr::Var(name.copy(alloc)?)),
             Expr::Lit(n) => Ok(Expr::Lit(*n)),
             Expr::App(f, a) => {
-                let f = boxed(alloc, f.copy(alloc))?;
-                let a = boxed(alloc, a.copy(alloc))?;
+                let f = boxed_copy(alloc, f.copy(alloc))?;
+                let a = boxed_copy(alloc, a.copy(alloc))?;
                 Ok(Expr::App(f, a))
             }
             Expr::Lam(b, e) => {
-                let b = boxed(alloc, b.copy(alloc))?;
-                let e = boxed(alloc, e.copy(alloc))?;
+                let b = boxed_copy(alloc, b.copy(alloc))?;
+                let e = boxed_copy(alloc, e.copy(alloc))?;
                 Ok(Expr::Lam(b, e))
             }
             Expr::Let(recursive, binds, e) => {
                 let binds = copy_binds(alloc, binds.as_slice())?;
-                let e = boxed(alloc, e.copy(alloc))?;
+                let e = boxed_copy(alloc, e.copy(alloc))?;
                 Ok(Expr::Let(*recursive, binds, e))
             }
             Expr::Case(s, x, t, u, alts) => {
-                let s = boxed(alloc, s.copy(alloc))?;
+                let s = boxed_copy(alloc, s.copy(alloc))?;
                 let x = x.copy(alloc)?;
                 let t = t.copy(alloc)?;
                 let u = u.copy(alloc)?;
@@ -272,7 +266,7 @@ impl Expr {
                 Ok(Expr::Case(s, x, t, u, alts))
             }
             Expr::Cast(e, g) => {
-                let e = boxed(alloc, e.copy(alloc))?;
+                let e = boxed_copy(alloc, e.copy(alloc))?;
                 let g = g.copy(alloc)?;
                 Ok(Expr::Cast(e, g))
             }
@@ -289,7 +283,7 @@ impl Expr {
             Expr::Join(recursive, t, binds, e) => {
                 let t = t.copy(alloc)?;
                 let binds = copy_joins(alloc, binds.as_slice())?;
-                let e = boxed(alloc, e.copy(alloc))?;
+                let e = boxed_copy(alloc, e.copy(alloc))?;
                 Ok(Expr::Join(*recursive, t, binds, e))
             }
             Expr::Jump(j, args) => {

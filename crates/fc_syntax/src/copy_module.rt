@@ -120,7 +120,8 @@ impl Module {
     }
 }
 
-fn copy_words(alloc: Global, items: &[Text]) -> Result<Seq<Text>, Memory>
+/// The same words again. Fails only where memory is wanting.
+pub fn copy_words(alloc: Global, items: &[Text]) -> Result<Seq<Text>, Memory>
     ensures { IfOk result (λ s. s ≡ items.now) }
 {
     let mut all = Seq::new(alloc);

@@ -191,7 +191,8 @@ impl FaultKind {
 pub struct Fault {
     /// What is wrong.
     pub kind: FaultKind,
-    /// The module, or for a fault of a file's bytes or form the name of the file.
+    /// The module; the name of the file where the fault comes before its module is known: one of its bytes, form or limits, a file
+    /// that is missing, and more files than a set may have.
     pub module: Text,
     /// The word of the declaration, where the fault stands in one.
     pub def: Option<Text>,

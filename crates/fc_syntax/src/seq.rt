@@ -35,13 +35,6 @@ impl<T> Seq<T> {
         }
     }
 
-    /// The list of the items of a vector, which is not copied.
-    pub fn from_vec(items: Vec<T>) -> Seq<T>
-        ensures { result ≡ items.items }
-    {
-        Seq { items }
-    }
-
     /// The vector of the items, which are not copied.
     pub fn into_vec(self) -> Vec<T>
         ensures { result.items ≡ self }

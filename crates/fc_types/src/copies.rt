@@ -1,17 +1,10 @@
 //! Copies of types.
-ghost use Rattle.std.specs.Prelude.{◌≡◌, IfOk, Ok};
+ghost use Rattle.std.specs.Prelude.{◌≡◌, IfOk};
 ghost use Rattle.fc_model.specs.NamelessView.{nty_of};
 
 use fc_model::NTy;
-use fc_syntax::Memory;
+use fc_syntax::{Memory, boxed_copy};
 use std::alloc::Global;
-
-/// A type in a box, where there is one.
-fn boxed(alloc: Global, t: Result<NTy, Memory>) -> Result<Box<NTy>, Memory>
-    ensures { IfOk result (λ b. t ≡ Ok b.value) }
-{
-    Ok(Box::new(alloc, t?)?)
-}
 
 /// The same type again, with the same words at its binders. Fails only where memory is wanting.
 #[tactic(auto, using(fc_model::proofs::NamelessView::nview_rules))]
@@ -23,25 +16,25 @@ pub fn copy_type(alloc: Global, t: &NTy) -> Result<NTy, Memory>
         NTy::Con(name) => Ok(NTy::Con(name.copy(alloc)?)),
         NTy::IntHash => Ok(NTy::IntHash),
         NTy::App(t, u) => {
-            let t = boxed(alloc, copy_type(alloc, t))?;
-            let u = boxed(alloc, copy_type(alloc, u))?;
+            let t = boxed_copy(alloc, copy_type(alloc, t))?;
+            let u = boxed_copy(alloc, copy_type(alloc, u))?;
             Ok(NTy::App(t, u))
         }
         NTy::Fun(t, u) => {
-            let t = boxed(alloc, copy_type(alloc, t))?;
-            let u = boxed(alloc, copy_type(alloc, u))?;
+            let t = boxed_copy(alloc, copy_type(alloc, t))?;
+            let u = boxed_copy(alloc, copy_type(alloc, u))?;
             Ok(NTy::Fun(t, u))
         }
         NTy::Forall(a, kind, body) => {
             let a = a.copy(alloc)?;
             let kind = kind.copy(alloc)?;
-            let body = boxed(alloc, copy_type(alloc, body))?;
+            let body = boxed_copy(alloc, copy_type(alloc, body))?;
             Ok(NTy::Forall(a, kind, body))
         }
         NTy::CoForall(role, left, right, body) => {
-            let left = boxed(alloc, copy_type(alloc, left))?;
-            let right = boxed(alloc, copy_type(alloc, right))?;
-            let body = boxed(alloc, copy_type(alloc, body))?;
+            let left = boxed_copy(alloc, copy_type(alloc, left))?;
+            let right = boxed_copy(alloc, copy_type(alloc, right))?;
+            let body = boxed_copy(alloc, copy_type(alloc, body))?;
             Ok(NTy::CoForall(*role, left, right, body))
         }
     }

@@ -1,11 +1,27 @@
-//! Types and declarations of a small module: what the tables of names and kinds give, by hand.
-
-use fc_model::{Flawed, NConDecl, NDecl, NExpr, NModule, NTy};
-use fc_syntax::{FaultKind, Kind, Memory, Name, Seq, Text};
-use fc_types::{Declarations, copy_type, kind, same_type};
+//! Types and declarations of modules that are read: which types are the same, and what the tables of names and kinds answer, by hand
+//! from the rules of the language.
+use fc_model::{Flaw, Flawed, NDecl, NModule, NTy};
+use fc_reader::read_module;
+use fc_resolve::resolve;
+use fc_syntax::{FaultKind, Kind, Memory, Name, Text};
+use fc_types::{Declarations, copy_type, kind, kind_of_part, same_type};
 use std::alloc::Global;
 use std::process::Abort;
 use std::test::Fail;
+
+/// The nameless form of a text. Fails where it has none.
+fn nameless(alloc: Global, text: &[u8]) -> Result<NModule, Fail> {
+    if text.len() > 4000 {
+        return Err("a long text".into());
+    }
+    let Ok(m) = read_module(alloc, "M.fc", text) else {
+        return Err("no module".into());
+    };
+    match resolve(alloc, &m) {
+        Ok(n) => Ok(n),
+        Err(_) => Err("no nameless form".into()),
+    }
+}
 
 fn name(alloc: Global, module: &str, word: &str) -> Result<Name, Memory> {
     let text = Text::from_str(alloc, word)?;
@@ -15,74 +31,79 @@ fn name(alloc: Global, module: &str, word: &str) -> Result<Name, Memory> {
     })
 }
 
-/// A type of the module `M`.
-fn named(alloc: Global, word: &str) -> Result<NTy, Memory> {
-    Ok(NTy::Con(name(alloc, "M", word)?))
-}
-
-fn boxed(alloc: Global, t: Result<NTy, Memory>) -> Result<Box<NTy>, Memory> {
-    Ok(Box::new(alloc, t?)?)
-}
-
-fn fun(alloc: Global, from: Result<NTy, Memory>, to: Result<NTy, Memory>) -> Result<NTy, Memory> {
-    let from = boxed(alloc, from)?;
-    Ok(NTy::Fun(from, boxed(alloc, to)?))
-}
-
-fn forall(alloc: Global, word: &str, kind: Kind, body: NTy) -> Result<NTy, Memory> {
-    let body = boxed(alloc, Ok(body))?;
-    Ok(NTy::Forall(Text::from_str(alloc, word)?, kind, body))
-}
-
-/// Types of which no two are the same, with a word at their binders.
-fn sample(alloc: Global, at: usize, word: &str) -> Result<NTy, Memory> {
-    match at {
-        0 => Ok(NTy::IntHash),
-        1 => Ok(NTy::Var(0)),
-        2 => Ok(NTy::Var(1)),
-        3 => named(alloc, "T"),
-        4 => named(alloc, "U"),
-        5 => Ok(NTy::Con(name(alloc, "N", "T")?)),
-        6 => fun(alloc, named(alloc, "T"), Ok(NTy::IntHash)),
-        7 => fun(alloc, Ok(NTy::IntHash), named(alloc, "T")),
-        8 => forall(alloc, word, Kind::Star, NTy::Var(0)),
-        9 => forall(alloc, word, Kind::Hash, NTy::Var(0)),
-        _ => forall(alloc, word, Kind::Star, NTy::Var(1)),
+/// The type of the definition of a word.
+fn type_of<'a>(
+    alloc: Global,
+    declared: &'a Declarations,
+    module: &str,
+    word: &str,
+) -> Result<&'a NTy, Fail> {
+    let name = name(alloc, module, word)?;
+    match declared.definition_named(&name) {
+        Some(t) => Ok(t),
+        None => Err("no definition".into()),
     }
 }
 
-fn is_same(t: &Result<NTy, Memory>, u: &Result<NTy, Memory>) -> bool {
-    match (t, u) {
-        (Ok(t), Ok(u)) => same_type(t, u),
-        _ => false,
-    }
+/// Whether two types are the same, and a copy of the first and the second.
+fn are_same(alloc: Global, t: &NTy, u: &NTy) -> Result<(bool, bool), Memory> {
+    let copy = copy_type(alloc, t)?;
+    Ok((same_type(t, u), same_type(&copy, u)))
 }
 
-fn copied(alloc: Global, t: &Result<NTy, Memory>) -> Result<NTy, Memory> {
-    match t {
-        Ok(t) => copy_type(alloc, t),
-        Err(_) => Err(Memory),
-    }
+/// Definitions of which no two have the same type.
+const DIFFERENT: &[u8] =
+    b"(module M (imports) (exports) (data T ()) (data U ()) (def a Int# 0#) (def b T b) (def c U c) (def d (fun T Int#) d) (def e (fun Int# T) e) (def f (fun T U) f) (def g (fun U T) g) (def h (fun T T T) h) (def i (fun (fun T T) T) i))";
+
+/// Whether the types of two definitions, and a copy of the first and the second, are the same exactly where the words are.
+fn are_same_alone(
+    alloc: Global,
+    declared: &Declarations,
+    first: &str,
+    second: &str,
+) -> Result<bool, Fail> {
+    let t = type_of(alloc, declared, "M", first)?;
+    let u = type_of(alloc, declared, "M", second)?;
+    let same = first == second;
+    Ok(are_same(alloc, t, u)? == (same, same))
 }
 
-#[test]
-fn types_and_copies_are_the_same_up_to_bound_names(rt: HostRuntime) -> Result<(), Fail> {
-    let alloc = rt.alloc();
-    for i in 0..11usize {
-        for j in 0..11usize {
-            let t = sample(alloc, i, "a");
-            let u = sample(alloc, j, "b");
-            let same = is_same(&t, &u) && is_same(&copied(alloc, &t), &u);
-            let differs = !is_same(&t, &u) && !is_same(&copied(alloc, &t), &u);
-            assert!(rt; if i == j { same } else { differs }, "at {i} and {j}");
+/// Compares the types of definitions with these words, each with each.
+fn are_all_same_alone(
+    rt: &impl Abort,
+    alloc: Global,
+    declared: &Declarations,
+    words: &[&str],
+) -> Result<(), Fail> {
+    for first in words {
+        for second in words {
+            assert!(rt;
+                are_same_alone(alloc, declared, first, second)?,
+                "{first} and {second}"
+            );
         }
     }
     Ok(())
 }
 
-fn has_word(t: &Result<NTy, Memory>, word: &str) -> bool {
+#[test]
+fn types_and_copies_are_the_same_by_their_parts(rt: HostRuntime) -> Result<(), Fail> {
+    let alloc = rt.alloc();
+    let m = nameless(alloc, DIFFERENT)?;
+    let declared = Declarations::new(alloc, &m)?;
+    let words = ["a", "b", "c", "d", "e", "f", "g", "h", "i"];
+    are_all_same_alone(&rt, alloc, &declared, words.as_slice())
+}
+
+/// A forall over a variable that is its body. No text gives one yet.
+fn of_all(alloc: Global, word: &str) -> Result<NTy, Memory> {
+    let body = Box::new(alloc, NTy::Var(0))?;
+    Ok(NTy::Forall(Text::from_str(alloc, word)?, Kind::Star, body))
+}
+
+fn has_word(t: &NTy, word: &str) -> bool {
     match t {
-        Ok(NTy::Forall(a, _, _)) => a.as_str() == word,
+        NTy::Forall(a, _, _) => a.as_str() == word,
         _ => false,
     }
 }
@@ -91,72 +112,10 @@ fn has_word(t: &Result<NTy, Memory>, word: &str) -> bool {
 #[test]
 fn copies_keep_the_words_at_binders(rt: HostRuntime) -> Result<(), Fail> {
     let alloc = rt.alloc();
-    for at in 8..11usize {
-        let copy = copied(alloc, &sample(alloc, at, "a"));
-        assert!(rt; has_word(&copy, "a"), "at {at}");
-    }
+    let t = of_all(alloc, "a")?;
+    let copy = copy_type(alloc, &t)?;
+    assert!(rt; has_word(&copy, "a"));
     Ok(())
-}
-
-/// A data type with one constructor, which has one field.
-fn data(
-    alloc: Global,
-    word: &str,
-    constructor: &str,
-    field: Result<NTy, Memory>,
-) -> Result<NDecl, Memory> {
-    let mut fields = Seq::new(alloc);
-    fields.push(field?)?;
-    let mut cons = Seq::new(alloc);
-    let con = NConDecl {
-        name: Text::from_str(alloc, constructor)?,
-        binders: Seq::new(alloc),
-        fields,
-    };
-    cons.push(con)?;
-    Ok(NDecl::DataType(Text::from_str(alloc, word)?, Seq::new(alloc), cons))
-}
-
-fn definition(alloc: Global, word: &str, of_type: Result<NTy, Memory>) -> Result<NDecl, Memory> {
-    let of_type = of_type?;
-    Ok(NDecl::Def(Text::from_str(alloc, word)?, of_type, NExpr::Lit(0)))
-}
-
-fn add(decls: &mut Seq<NDecl>, decl: Result<NDecl, Memory>) -> Result<(), Memory> {
-    decls.push(decl?)
-}
-
-/// `(data T (K Int#)) (data U (L T)) (data T (K T)) (def x T) (def x U)`: `T`, `K` and `x` are declared twice.
-fn add_all(decls: &mut Seq<NDecl>, alloc: Global) -> Result<(), Memory> {
-    add(decls, data(alloc, "T", "K", Ok(NTy::IntHash)))?;
-    add(decls, data(alloc, "U", "L", named(alloc, "T")))?;
-    add(decls, data(alloc, "T", "K", named(alloc, "T")))?;
-    add(decls, definition(alloc, "x", named(alloc, "T")))?;
-    add(decls, definition(alloc, "x", named(alloc, "U")))
-}
-
-fn module(alloc: Global) -> Result<NModule, Memory> {
-    let mut decls = Seq::new(alloc);
-    add_all(&mut decls, alloc)?;
-    Ok(NModule {
-        name: Text::from_str(alloc, "M")?,
-        imports: Seq::new(alloc),
-        exports: Seq::new(alloc),
-        hidden: Seq::new(alloc),
-        decls,
-    })
-}
-
-/// Whether the type of this name is the first of the two declarations of `T`.
-fn is_first_type(declared: &Declarations, name: &Result<Name, Memory>) -> bool {
-    let Ok(name) = name else { return false };
-    match declared.type_named(name) {
-        Some(NDecl::DataType(_, _, cons)) => match cons.get(0) {
-            Some(con) => is_integer(con.fields.get(0)),
-            None => false,
-        },
-        _ => false,
-    }
 }
 
 fn is_integer(t: Option<&NTy>) -> bool {
@@ -166,194 +125,140 @@ fn is_integer(t: Option<&NTy>) -> bool {
     }
 }
 
-/// Whether the constructor of this name is the first of the two declarations of `K`.
-fn is_first_constructor(declared: &Declarations, name: &Result<Name, Memory>) -> bool {
-    let Ok(name) = name else { return false };
+/// Whether a name is that of a data type of one constructor.
+fn is_type(declared: &Declarations, name: &Name) -> bool {
+    match declared.type_named(name) {
+        Some(NDecl::DataType(_, _, cons)) => cons.len() == 1,
+        _ => false,
+    }
+}
+
+/// Whether a name is that of the second constructor of `T`, which has an integer.
+fn is_constructor(declared: &Declarations, name: &Name) -> bool {
     match declared.constructor_named(name) {
         Some(con) => con.data_word.as_str() == "T"
-            && con.number == 0
+            && con.number == 1
             && is_integer(con.con.fields.get(0)),
         None => false,
     }
 }
 
-/// Whether the definition of this name has the type `T`, which the first of the two definitions of `x` has.
-fn is_first_definition(
-    declared: &Declarations,
-    name: &Result<Name, Memory>,
-    t: &Result<NTy, Memory>,
-) -> bool {
-    match (name, t) {
-        (Ok(name), Ok(t)) => match declared.definition_named(name) {
-            Some(u) => same_type(u, t),
-            None => false,
-        },
-        _ => false,
-    }
+/// A module and a word of it; whether that has a type, a constructor and a definition, as the module below declares them.
+type Named<'a> = (&'a str, &'a str, bool, bool, bool);
+
+fn is_found(alloc: Global, declared: &Declarations, row: &Named<'_>) -> Result<bool, Memory> {
+    let (module, word, of_type, constructor, definition) = row;
+    let name = name(alloc, module, word)?;
+    Ok(
+        is_type(declared, &name) == *of_type
+            && is_constructor(declared, &name) == *constructor
+            && is_integer(declared.definition_named(&name)) == *definition,
+    )
 }
 
 #[test]
-fn first_of_two_declarations_counts(rt: HostRuntime) -> Result<(), Fail> {
+fn names_are_found_in_their_space(rt: HostRuntime) -> Result<(), Fail> {
     let alloc = rt.alloc();
-    let m = module(alloc)?;
+    let m = nameless(
+        alloc,
+        b"(module M (imports) (exports) (data T () (J ()) (K () Int#)) (data K () (T ())) (def x Int# 0#) (def y T x))",
+    )?;
     let declared = Declarations::new(alloc, &m)?;
-    let t = named(alloc, "T");
-    for (module, word, of_type, constructor, definition) in [
-        ("M", "T", true, false, false),
-        ("M", "K", false, true, false),
+    let rows: [Named<'_>; 7] = [
+        ("M", "T", false, false, false),
+        ("M", "K", true, true, false),
+        ("M", "J", false, false, false),
         ("M", "x", false, false, true),
         ("M", "y", false, false, false),
-        ("N", "T", false, false, false),
         ("N", "K", false, false, false),
         ("N", "x", false, false, false),
-    ] {
-        let name = name(alloc, module, word);
-        assert_eq!(rt; is_first_type(&declared, &name), of_type, "{module}.{word}");
-        assert_eq!(rt;
-            is_first_constructor(&declared, &name),
-            constructor,
-            "{module}.{word}"
-        );
-        assert_eq!(rt;
-            is_first_definition(&declared, &name, &t),
-            definition,
-            "{module}.{word}"
-        );
+    ];
+    for (number, row) in rows.iter().enumerate() {
+        assert!(rt; is_found(alloc, &declared, row)?, "row {number}");
     }
     Ok(())
 }
 
-/// The kind of a name: `*`, `#`, `20` for `Unbound` at the name itself, or `?`.
-fn told_kind(alloc: Global, t: Result<NTy, Memory>, declared: &Declarations) -> &'static str {
-    let Ok(t) = t else { return "?" };
-    match kind(alloc, &t, declared) {
-        Ok(Kind::Star) => "*",
-        Ok(Kind::Hash) => "#",
-        Ok(Kind::Arrow(_, _)) => "?",
-        Err(Flawed::Flaw(flaw)) => {
-            if flaw.kind == FaultKind::Unbound && flaw.def.is_none() && flaw.path.is_empty() {
-                "20"
-            } else {
-                "?"
-            }
-        }
-        Err(Flawed::Memory) => "?",
+/// A type; the part that it is judged as, where it is judged as one; its kind, or `20` for `Unbound`; and the place of that, the
+/// innermost part number first. The types `T` and `U` are declared where it is judged, with constructors `K` and `L`.
+type Row<'a> = (&'a [u8], Option<u32>, &'a str, &'a [u32]);
+
+fn is_unbound_at(flaw: &Flaw, path: &[u32]) -> bool {
+    flaw.kind == FaultKind::Unbound && flaw.def.is_none() && flaw.path.as_slice() == path
+}
+
+/// Whether the kind of a type is told as in a row.
+fn is_told(alloc: Global, t: &NTy, declared: &Declarations, row: &Row<'_>) -> bool {
+    let (_, part, told, path) = row;
+    let judged = match part {
+        None => kind(alloc, t, declared),
+        Some(part) => kind_of_part(alloc, t, declared, *part),
+    };
+    match judged {
+        Ok(Kind::Star) => *told == "*",
+        Ok(Kind::Hash) => *told == "#",
+        Ok(Kind::Arrow(_, _)) => false,
+        Err(Flawed::Flaw(flaw)) => *told == "20" && is_unbound_at(&flaw, path),
+        Err(Flawed::Memory) => false,
     }
 }
 
-fn integer() -> Result<NTy, Memory> {
-    Ok(NTy::IntHash)
+/// A module with a definition `x` of a type, in which more types are declared.
+fn with_definition(alloc: Global, of_type: &[u8]) -> Result<NModule, Fail> {
+    let mut text = Vec::new(alloc);
+    text.extend_from_slice(
+        b"(module M (imports) (exports) (data T ()) (data U ()) (data V ()) (data W ()) (data K ()) (def x ",
+    )?;
+    text.extend_from_slice(of_type)?;
+    text.extend_from_slice(b" 0#))")?;
+    nameless(alloc, text.as_slice())
+}
+
+/// Whether the kind of a row's type is told as there.
+fn is_row_told(alloc: Global, declared: &Declarations, row: &Row<'_>) -> Result<bool, Fail> {
+    let n = with_definition(alloc, row.0)?;
+    let more = Declarations::new(alloc, &n)?;
+    let t = type_of(alloc, &more, "M", "x")?;
+    Ok(is_told(alloc, t, declared, row))
+}
+
+/// Judges the type of each row where `T` and `U` are declared.
+fn are_told(rt: &impl Abort, alloc: Global, rows: &[Row<'_>]) -> Result<(), Fail> {
+    let m = nameless(
+        alloc,
+        b"(module M (imports) (exports) (data T () (K () Int#)) (data U () (L () T)))",
+    )?;
+    let declared = Declarations::new(alloc, &m)?;
+    for (number, row) in rows.iter().enumerate() {
+        assert!(rt; is_row_told(alloc, &declared, row)?, "row {number}");
+    }
+    Ok(())
 }
 
 #[test]
-fn kinds_of_names_and_of_the_integer_type(rt: HostRuntime) -> Result<(), Fail> {
-    let alloc = rt.alloc();
-    let m = module(alloc)?;
-    let declared = Declarations::new(alloc, &m)?;
-    for (word, want) in [
-        ("T", "*"),
-        ("U", "*"),
-        ("V", "20"),
-        ("K", "20"),
-        ("x", "20"),
-    ] {
-        assert_eq!(rt;
-            told_kind(alloc, named(alloc, word), &declared),
-            want,
-            "{word}"
-        );
-    }
-    assert_eq!(rt; told_kind(alloc, integer(), &declared), "#");
-    Ok(())
-}
-
-/// Functions between types of the forms that are built.
-fn function(
-    alloc: Global,
-    from: Result<NTy, Memory>,
-    to: Result<NTy, Memory>,
-) -> Result<NTy, Memory> {
-    let from = boxed(alloc, from)?;
-    Ok(NTy::Fun(from, boxed(alloc, to)?))
-}
-
-/// Function types with ends that are declared.
-fn functions(alloc: Global, at: usize) -> Result<NTy, Memory> {
-    match at {
-        0 => function(alloc, named(alloc, "T"), named(alloc, "U")),
-        1 => function(alloc, integer(), named(alloc, "T")),
-        2 => function(alloc, named(alloc, "T"), integer()),
-        _ => function(
-            alloc,
-            function(alloc, named(alloc, "T"), integer()),
-            named(alloc, "U"),
-        ),
-    }
-}
-
-/// Functions are lifted, whatever the kinds of their ends.
-#[test]
-fn kinds_of_functions(rt: HostRuntime) -> Result<(), Fail> {
-    let alloc = rt.alloc();
-    let m = module(alloc)?;
-    let declared = Declarations::new(alloc, &m)?;
-    for at in 0..4usize {
-        assert_eq!(rt;
-            told_kind(alloc, functions(alloc, at), &declared),
-            "*",
-            "at {at}"
-        );
-    }
-    Ok(())
-}
-
-/// Function types with an end that is not declared, `V` or `W`.
-fn faulty_functions(alloc: Global, at: usize) -> Result<NTy, Memory> {
-    match at {
-        0 => function(alloc, named(alloc, "V"), named(alloc, "T")),
-        1 => function(alloc, named(alloc, "T"), named(alloc, "V")),
-        2 => function(alloc, named(alloc, "V"), named(alloc, "W")),
-        3 => function(
-            alloc,
-            function(alloc, named(alloc, "T"), named(alloc, "V")),
-            named(alloc, "W"),
-        ),
-        _ => function(
-            alloc,
-            named(alloc, "T"),
-            function(alloc, named(alloc, "V"), named(alloc, "W")),
-        ),
-    }
-}
-
-/// Whether the first fault of a type is `Unbound` at these part numbers, of which the innermost stands first.
-fn is_unbound_at(
-    alloc: Global,
-    t: Result<NTy, Memory>,
-    declared: &Declarations,
-    path: &[u32],
-) -> bool {
-    let Ok(t) = t else { return false };
-    match kind(alloc, &t, declared) {
-        Err(Flawed::Flaw(flaw)) => flaw.kind == FaultKind::Unbound
-            && flaw.def.is_none()
-            && flaw.path.as_slice() == path,
-        _ => false,
-    }
-}
-
-/// The parts of a function type are its ends, from left to right.
-#[test]
-fn first_faults_of_functions(rt: HostRuntime) -> Result<(), Fail> {
-    let alloc = rt.alloc();
-    let m = module(alloc)?;
-    let declared = Declarations::new(alloc, &m)?;
-    let cases: [&[u32]; 5] = [&[0], &[1], &[0], &[1, 0], &[0, 1]];
-    for (at, path) in cases.iter().enumerate() {
-        assert!(rt;
-            is_unbound_at(alloc, faulty_functions(alloc, at), &declared, path),
-            "at {at}"
-        );
-    }
-    Ok(())
+fn kinds_of_types(rt: HostRuntime) -> Result<(), Fail> {
+    let rows: [Row<'_>; 17] = [
+        (b"Int#", None, "#", &[]),
+        (b"T", None, "*", &[]),
+        (b"U", None, "*", &[]),
+        // a word without a declaration, and one that only a constructor has
+        (b"V", None, "20", &[]),
+        (b"K", None, "20", &[]),
+        // functions are lifted, whatever the kinds of their ends
+        (b"(fun T U)", None, "*", &[]),
+        (b"(fun Int# T)", None, "*", &[]),
+        (b"(fun T Int#)", None, "*", &[]),
+        (b"(fun (fun T Int#) U)", None, "*", &[]),
+        // the parts of a function type are its ends, from left to right
+        (b"(fun V T)", None, "20", &[0]),
+        (b"(fun T V)", None, "20", &[1]),
+        (b"(fun V W)", None, "20", &[0]),
+        (b"(fun (fun T V) W)", None, "20", &[1, 0]),
+        (b"(fun T (fun V W))", None, "20", &[0, 1]),
+        // as a part
+        (b"Int#", Some(7), "#", &[]),
+        (b"V", Some(7), "20", &[7]),
+        (b"(fun (fun T V) W)", Some(7), "20", &[1, 0, 7]),
+    ];
+    are_told(&rt, rt.alloc(), rows.as_slice())
 }

@@ -1,7 +1,11 @@
 use Rattle.std.proofs.Common.{◌∷◌, ◌∙◌, arith, rules}
-use Rattle.fc_syntax.specs.View.{binders_of}
-use Rattle.fc_reader.proofs.Forms.{token_is, key_is}
-use Rattle.fc_reader.proofs.TreeForms.{var_read, lit_read, form_read, expr_con_read, key_form_read, app_form_read, app_read, lam_read, let_read, case_read, alt_read, alts_more_read, alts_end_read, applied_more_read, applied_end_read, args_more_read, args_end_read}
+use Rattle.std.specs.Prelude.{IfOk}
+use Rattle.std.proofs.lemmas.Result.{IfOk-weaker}
+use Rattle.fc_syntax.specs.View.{binders_of, expr_of}
+use Rattle.fc_model.specs.Words.{Open, toks}
+use Rattle.fc_model.specs.Texts.{ExprAt}
+use Rattle.fc_read_parts.proofs.Forms.{key_is, on_token, token, token_is}
+use Rattle.fc_read_parts.proofs.TreeForms.{var_read, lit_read, expr_con_read, app_form_read, app_read, lam_read, let_read, case_read, alt_read, alts_more_read, alts_end_read, applied_more_read, applied_end_read, args_more_read, args_end_read}
 use Rattle.fc_reader.proofs.+exprs.Goals as goal
 
 pub exprs::read_expr-returns-in_ok-name-in-Lower-clause-read : goal.exprs::read_expr-returns-in_ok-name-in-Lower-clause-read
@@ -10,28 +14,38 @@ exprs::read_expr-returns-in_ok-name-in-Lower-clause-read t c = var_read c.variab
 pub exprs::read_expr-returns-in-Literal-clause-read : goal.exprs::read_expr-returns-in-Literal-clause-read
 exprs::read_expr-returns-in-Literal-clause-read t c = lit_read c.literal.ensures (search rules) (token_is (rw c.in-Literal.is at c.in-Some.ensures.some.is))
 
-pub exprs::read_expr-returns-in_ok-e-in-Open-clause-read : goal.exprs::read_expr-returns-in_ok-e-in-Open-clause-read
-exprs::read_expr-returns-in_ok-e-in-Open-clause-read t c = form_read (token_is (rw c.in-Open.is at c.in-Some.ensures.some.is)) c.in_ok-e-in-Open.ensures.read
+pub exprs::read_expr-returns-in-Open-clause-read : goal.exprs::read_expr-returns-in-Open-clause-read
+exprs::read_expr-returns-in-Open-clause-read t c =
+    on_token (λ ts. IfOk c.read_expr_form.result (λ x. ExprAt ts (expr_of x.0) (toks c.args.bytes.now x.1.now))) (token_is (rw c.in-Open.is at c.in-Some.ensures.some.is)) c.read_expr_form.ensures.read
 
-pub exprs::read_expr_form-returns-in_ok-args-in-Key-Con-clause-read : goal.exprs::read_expr_form-returns-in_ok-args-in-Key-Con-clause-read
-exprs::read_expr_form-returns-in_ok-args-in-Key-Con-clause-read t c =
-    expr_con_read c.built.ensures (key_is (rw c.in-Key-Con.is at c.in-Key-Con.field-0-is) (rw c.in-Key-Con.is at c.in-Some.ensures.some.is))
-    (token_is c.in_ok-name-in-Key-Con.ensures.read) c.in_ok-args-in-Key-Con.ensures.read
+pub exprs::read_expr_form-returns-in-Key-Con-clause-read : goal.exprs::read_expr_form-returns-in-Key-Con-clause-read
+exprs::read_expr_form-returns-in-Key-Con-clause-read t c =
+    on_token (λ ts. IfOk c.read_constructor.result (λ x. ExprAt (Open ∷ ts) (expr_of x.0) (toks c.args.bytes.now x.1.now))) (key_is (rw c.in-Key-Con.is at c.in-Key-Con.field-0-is) (rw c.in-Key-Con.is at c.in-Some.ensures.some.is)) c.read_constructor.ensures.read
 
-pub exprs::read_expr_form-returns-in_ok-e-in-Key-App-clause-read : goal.exprs::read_expr_form-returns-in_ok-e-in-Key-App-clause-read
-exprs::read_expr_form-returns-in_ok-e-in-Key-App-clause-read t c = app_form_read (key_is (rw c.in-Key-App.is at c.in-Key-App.field-0-is) (rw c.in-Key-App.is at c.in-Some.ensures.some.is)) c.in_ok-head-in-Key-App.ensures.read c.in_ok-e-in-Key-App.ensures.read
+pub exprs::read_constructor-returns-clause-read : goal.exprs::read_constructor-returns-clause-read
+exprs::read_constructor-returns-clause-read t c = expr_con_read c.built.ensures token (token_is c.in_ok-name.ensures.read) c.in_ok-args.ensures.read
 
-pub exprs::read_expr_form-returns-in_ok-e-in-Key-Lam-clause-read : goal.exprs::read_expr_form-returns-in_ok-e-in-Key-Lam-clause-read
-exprs::read_expr_form-returns-in_ok-e-in-Key-Lam-clause-read t c = key_form_read (key_is (rw c.in-Key-Lam.is at c.in-Key-Lam.field-0-is) (rw c.in-Key-Lam.is at c.in-Some.ensures.some.is)) c.in_ok-e-in-Key-Lam.ensures.read
-
-pub exprs::read_expr_form-returns-in_ok-e-in-Key-Let-clause-read : goal.exprs::read_expr_form-returns-in_ok-e-in-Key-Let-clause-read
-exprs::read_expr_form-returns-in_ok-e-in-Key-Let-clause-read t c = key_form_read (key_is (rw c.in-Key-Let.is at c.in-Key-Let.field-0-is) (rw c.in-Key-Let.is at c.in-Some.ensures.some.is)) c.in_ok-e-in-Key-Let.ensures.read
-
-pub exprs::read_expr_form-returns-in_ok-e-in-Key-Case-clause-read : goal.exprs::read_expr_form-returns-in_ok-e-in-Key-Case-clause-read
-exprs::read_expr_form-returns-in_ok-e-in-Key-Case-clause-read t c = key_form_read (key_is (rw c.in-Key-Case.is at c.in-Key-Case.field-0-is) (rw c.in-Key-Case.is at c.in-Some.ensures.some.is)) c.in_ok-e-in-Key-Case.ensures.read
+pub exprs::read_expr_form-returns-in-Key-App-clause-read : goal.exprs::read_expr_form-returns-in-Key-App-clause-read
+exprs::read_expr_form-returns-in-Key-App-clause-read t c =
+    on_token (λ ts. IfOk c.read_application.result (λ x. ExprAt (Open ∷ ts) (expr_of x.0) (toks c.args.bytes.now x.1.now))) (key_is (rw c.in-Key-App.is at c.in-Key-App.field-0-is) (rw c.in-Key-App.is at c.in-Some.ensures.some.is)) c.read_application.ensures.read
 
 pub exprs::read_application-returns-clause-read : goal.exprs::read_application-returns-clause-read
-exprs::read_application-returns-clause-read t c = app_read c.in_ok-head.ensures c.in_ok-f.ensures.read c.in_ok-a.ensures.read
+exprs::read_application-returns-clause-read t c = IfOk-weaker c.read_applied.result _ _ (λ x read. app_form_read token c.in_ok-head.ensures.read read) c.read_applied.ensures.read
+
+pub exprs::read_expr_form-returns-in-Key-Lam-clause-read : goal.exprs::read_expr_form-returns-in-Key-Lam-clause-read
+exprs::read_expr_form-returns-in-Key-Lam-clause-read t c =
+    on_token (λ ts. IfOk c.read_lambda.result (λ x. ExprAt (Open ∷ ts) (expr_of x.0) (toks c.args.bytes.now x.1.now))) (key_is (rw c.in-Key-Lam.is at c.in-Key-Lam.field-0-is) (rw c.in-Key-Lam.is at c.in-Some.ensures.some.is)) c.read_lambda.ensures.read
+
+pub exprs::read_expr_form-returns-in-Key-Let-clause-read : goal.exprs::read_expr_form-returns-in-Key-Let-clause-read
+exprs::read_expr_form-returns-in-Key-Let-clause-read t c =
+    on_token (λ ts. IfOk c.read_let.result (λ x. ExprAt (Open ∷ ts) (expr_of x.0) (toks c.args.bytes.now x.1.now))) (key_is (rw c.in-Key-Let.is at c.in-Key-Let.field-0-is) (rw c.in-Key-Let.is at c.in-Some.ensures.some.is)) c.read_let.ensures.read
+
+pub exprs::read_expr_form-returns-in-Key-Case-clause-read : goal.exprs::read_expr_form-returns-in-Key-Case-clause-read
+exprs::read_expr_form-returns-in-Key-Case-clause-read t c =
+    on_token (λ ts. IfOk c.read_case.result (λ x. ExprAt (Open ∷ ts) (expr_of x.0) (toks c.args.bytes.now x.1.now))) (key_is (rw c.in-Key-Case.is at c.in-Key-Case.field-0-is) (rw c.in-Key-Case.is at c.in-Some.ensures.some.is)) c.read_case.ensures.read
+
+pub exprs::read_head-returns-clause-read : goal.exprs::read_head-returns-clause-read
+exprs::read_head-returns-clause-read t c = app_read c.in_ok-head.ensures c.in_ok-f.ensures.read c.in_ok-a.ensures.read
 
 pub exprs::read_lambda-returns-clause-read : goal.exprs::read_lambda-returns-clause-read
 exprs::read_lambda-returns-clause-read t c = lam_read (binders_of c.in_ok-binder.others) c.in_ok-e.ensures c.in_ok-binder.ensures.read c.in_ok-body.ensures.read (token_is c.in_ok-rest.ensures.read)

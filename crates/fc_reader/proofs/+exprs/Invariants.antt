@@ -2,27 +2,33 @@ use Rattle.std.proofs.Common.{◌≡◌, ◌≤◌, List, ◌∷◌, length, ◌
 use Rattle.fc_syntax.specs.Tokens.{AreSlices}
 use Rattle.fc_syntax.specs.View.{expr_of}
 use Rattle.fc_model.specs.Words.{toks}
-use Rattle.fc_reader.specs.Machine.{Want, Alternatives, Arguments, stuck}
-use Rattle.fc_reader.proofs.TreeForms.{AltsSoFar, AppliedSoFar, ArgsSoFar}
+use Rattle.fc_read_parts.specs.Machine.{Want, Alternatives, Arguments, stuck}
+use Rattle.fc_read_parts.proofs.TreeForms.{AltsSoFar, AppliedSoFar, ArgsSoFar}
 use Rattle.fc_reader.proofs.+exprs.Given as goal
 
 abbrev pub decreases-exprs::read_expr : goal.decreases-exprs::read_expr
-decreases-exprs::read_expr l = 2 * length l.tokens.now
+decreases-exprs::read_expr l = 3 * length l.tokens.now
 
 abbrev pub decreases-exprs::read_expr_form : goal.decreases-exprs::read_expr_form
-decreases-exprs::read_expr_form l = 2 * length l.tokens.now
+decreases-exprs::read_expr_form l = 3 * length l.tokens.now
 
 abbrev pub decreases-exprs::read_application : goal.decreases-exprs::read_application
-decreases-exprs::read_application l = 2 * length l.tokens.now + 1
+decreases-exprs::read_application l = 3 * length l.tokens.now + 2
+
+abbrev pub decreases-exprs::read_constructor : goal.decreases-exprs::read_constructor
+decreases-exprs::read_constructor l = 3 * length l.tokens.now + 1
+
+abbrev pub decreases-exprs::read_head : goal.decreases-exprs::read_head
+decreases-exprs::read_head l = 3 * length l.tokens.now + 1
 
 abbrev pub decreases-exprs::read_lambda : goal.decreases-exprs::read_lambda
-decreases-exprs::read_lambda l = 2 * length l.tokens.now + 1
+decreases-exprs::read_lambda l = 3 * length l.tokens.now + 1
 
 abbrev pub decreases-exprs::read_let : goal.decreases-exprs::read_let
-decreases-exprs::read_let l = 2 * length l.tokens.now + 1
+decreases-exprs::read_let l = 3 * length l.tokens.now + 1
 
 abbrev pub decreases-exprs::read_applied : goal.decreases-exprs::read_applied
-decreases-exprs::read_applied l = 2 * length l.tokens.now + 1
+decreases-exprs::read_applied l = 3 * length l.tokens.now + 1
 
 abbrev pub decreases-exprs::read_applied-each : goal.decreases-exprs::read_applied-each
 decreases-exprs::read_applied-each l = length l.rest
@@ -36,7 +42,7 @@ invariant-exprs::read_applied-each l = record {
 }
 
 abbrev pub decreases-exprs::read_arguments : goal.decreases-exprs::read_arguments
-decreases-exprs::read_arguments l = 2 * length l.tokens.now + 1
+decreases-exprs::read_arguments l = 3 * length l.tokens.now + 1
 
 abbrev pub decreases-exprs::read_arguments-each : goal.decreases-exprs::read_arguments-each
 decreases-exprs::read_arguments-each l = length l.rest
@@ -50,13 +56,13 @@ invariant-exprs::read_arguments-each l = record {
 }
 
 abbrev pub decreases-alternatives::read_case : goal.decreases-alternatives::read_case
-decreases-alternatives::read_case l = 2 * length l.tokens.now + 1
+decreases-alternatives::read_case l = 3 * length l.tokens.now + 1
 
 abbrev pub decreases-alternatives::read_alternative : goal.decreases-alternatives::read_alternative
-decreases-alternatives::read_alternative l = 2 * length l.tokens.now
+decreases-alternatives::read_alternative l = 3 * length l.tokens.now
 
 abbrev pub decreases-alternatives::read_alternatives : goal.decreases-alternatives::read_alternatives
-decreases-alternatives::read_alternatives l = 2 * length l.tokens.now + 1
+decreases-alternatives::read_alternatives l = 3 * length l.tokens.now + 1
 
 abbrev pub decreases-alternatives::read_alternatives-each : goal.decreases-alternatives::read_alternatives-each
 decreases-alternatives::read_alternatives-each l = length l.rest

@@ -1,5 +1,5 @@
-use Rattle.fc_reader.proofs.Forms.{token_is}
-use Rattle.fc_reader.proofs.TreeForms.{case_binder_read}
+use Rattle.fc_read_parts.proofs.Forms.{token_is}
+use Rattle.fc_read_parts.proofs.TreeForms.{case_binder_read}
 use Rattle.fc_reader.proofs.alternatives.read_case_binder.Goals as goal
 
 pub returns-clause-read : goal.returns-clause-read

@@ -1,7 +1,7 @@
 use Rattle.std.proofs.Common.{ap, rules}
 use Rattle.fc_syntax.specs.View.{binders_of}
-use Rattle.fc_reader.proofs.Forms.{token_is, key_is}
-use Rattle.fc_reader.proofs.TreeForms.{default_head_read, literal_head_read, con_head_read}
+use Rattle.fc_read_parts.proofs.Forms.{token_is, key_is}
+use Rattle.fc_read_parts.proofs.TreeForms.{default_head_read, literal_head_read, con_head_read}
 use Rattle.fc_reader.proofs.alternatives.read_head.Goals as goal
 
 pub returns-in-Key-Default-clause-read : goal.returns-in-Key-Default-clause-read

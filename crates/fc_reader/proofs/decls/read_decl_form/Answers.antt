@@ -1,7 +1,7 @@
 use Rattle.std.proofs.Common.{ap}
 use Rattle.fc_syntax.specs.View.{params_of}
-use Rattle.fc_reader.proofs.Forms.{token_is, key_is}
-use Rattle.fc_reader.proofs.TreeForms.{data_read, def_read}
+use Rattle.fc_read_parts.proofs.Forms.{token_is, key_is}
+use Rattle.fc_read_parts.proofs.TreeForms.{data_read, def_read}
 use Rattle.fc_reader.proofs.decls.read_decl_form.Goals as goal
 
 pub returns-in_ok-cons-in-Key-Data-clause-read : goal.returns-in_ok-cons-in-Key-Data-clause-read

@@ -3,7 +3,7 @@ use Rattle.std.proofs.lemmas.List.{length-map}
 use Rattle.fc_syntax.specs.Tokens.{lexeme_of}
 use Rattle.fc_syntax.specs.View.{decls_of}
 use Rattle.fc_model.specs.Words.{tok_of}
-use Rattle.fc_reader.proofs.Forms.{token_is}
+use Rattle.fc_read_parts.proofs.Forms.{token_is}
 use Rattle.fc_reader.proofs.Halts.{decl_deep, decl_more_read, decl_more_size, decl_more_within, decl_much, decl_stops, decls_end_read, none_read, none_size, none_within}
 use Rattle.fc_reader.proofs.decls.read_decls.Goals as goal
 

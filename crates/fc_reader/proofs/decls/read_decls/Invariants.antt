@@ -5,7 +5,7 @@ use Rattle.fc_syntax.specs.View.{decls_of}
 use Rattle.fc_model.specs.Words.{toks}
 use Rattle.fc_model.specs.Texts.{SomeDeclsAt}
 use Rattle.fc_model.specs.ReadFaults.{are_within}
-use Rattle.fc_reader.specs.Machine.{Want, Decls, stuck}
+use Rattle.fc_read_parts.specs.Machine.{Want, Decls, stuck}
 use Rattle.fc_reader.proofs.decls.read_decls.Given as goal
 
 abbrev pub decreases-each : goal.decreases-each

@@ -1,5 +1,5 @@
-use Rattle.fc_reader.proofs.Forms.{token_is}
-use Rattle.fc_reader.proofs.TreeForms.{lam_binders_read}
+use Rattle.fc_read_parts.proofs.Forms.{token_is}
+use Rattle.fc_read_parts.proofs.TreeForms.{lam_binders_read}
 use Rattle.fc_reader.proofs.exprs.read_lambda_binders.Goals as goal
 
 pub returns-clause-read : goal.returns-clause-read

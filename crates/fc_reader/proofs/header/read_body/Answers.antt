@@ -1,4 +1,4 @@
-use Rattle.fc_reader.proofs.Forms.{hidden_read, plain_read}
+use Rattle.fc_read_parts.proofs.Forms.{hidden_read, plain_read}
 use Rattle.fc_reader.proofs.Halts.{hidden_halts, hidden_names_stop, plain_halts}
 use Rattle.fc_reader.proofs.header.read_body.Goals as goal
 

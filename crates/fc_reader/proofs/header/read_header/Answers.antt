@@ -1,4 +1,4 @@
-use Rattle.fc_reader.proofs.Forms.{token_is, header_read}
+use Rattle.fc_read_parts.proofs.Forms.{token_is, header_read}
 use Rattle.fc_reader.proofs.header.read_header.Goals as goal
 
 pub returns-clause-read : goal.returns-clause-read

@@ -1,9 +1,9 @@
 use Rattle.std.proofs.Common.{◌∷◌, ◌∙◌, ap}
 use Rattle.fc_model.specs.Words.{toks}
 use Rattle.fc_model.specs.ReadFaults.{decls_within}
-use Rattle.fc_reader.specs.Machine.{Body as spec_Body}
-use Rattle.fc_reader.proofs.Follow.{module_goes_on}
-use Rattle.fc_reader.proofs.Forms.{module_read}
+use Rattle.fc_read_parts.specs.Machine.{Body as spec_Body}
+use Rattle.fc_read_parts.proofs.Follow.{module_goes_on}
+use Rattle.fc_read_parts.proofs.Forms.{module_read}
 use Rattle.fc_reader.proofs.Halts.{body_halts, header_halts}
 use Rattle.fc_reader.proofs.header.read_module_form.Goals as goal
 

@@ -1,5 +1,5 @@
 use Rattle.std.proofs.Common.{◌∷◌, ◌∙◌, arith, rules}
-use Rattle.fc_reader.proofs.Forms.{token_is, names_more_read, names_end_read}
+use Rattle.fc_read_parts.proofs.Forms.{token_is, names_more_read, names_end_read}
 use Rattle.fc_reader.proofs.header.read_names.Goals as goal
 
 pub returns-in-Some-clause-read : goal.returns-in-Some-clause-read

@@ -1,8 +1,8 @@
 use Rattle.std.proofs.Common.{◌≡◌, ◌≤◌, List, ◌∷◌, length}
 use Rattle.fc_syntax.specs.Tokens.{AreSlices}
 use Rattle.fc_model.specs.Words.{toks}
-use Rattle.fc_reader.specs.Machine.{Want, Names, stuck}
-use Rattle.fc_reader.proofs.Forms.{NamesSoFar}
+use Rattle.fc_read_parts.specs.Machine.{Want, Names, stuck}
+use Rattle.fc_read_parts.proofs.Forms.{NamesSoFar}
 use Rattle.fc_reader.proofs.header.read_names.Given as goal
 
 abbrev pub decreases-each : goal.decreases-each

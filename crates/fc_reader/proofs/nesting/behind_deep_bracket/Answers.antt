@@ -2,7 +2,7 @@ use Rattle.std.proofs.Common.{arith, rules}
 use Rattle.std.proofs.lemmas.List.{length-map}
 use Rattle.fc_syntax.specs.Tokens.{lexeme_of}
 use Rattle.fc_model.specs.Words.{tok_of}
-use Rattle.fc_reader.specs.Classes.{word_at}
+use Rattle.fc_read_parts.specs.Classes.{word_at}
 use Rattle.fc_reader.proofs.Levels.{level_deep, level_more}
 use Rattle.fc_reader.proofs.nesting.behind_deep_bracket.Goals as goal
 

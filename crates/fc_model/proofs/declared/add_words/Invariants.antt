@@ -1,7 +1,0 @@
-use Rattle.std.proofs.Common.{◌≡◌, drop}
-use Rattle.fc_model.specs.Resolution.{plus_all}
-use Rattle.fc_model.specs.WordSets.{set_of}
-use Rattle.fc_model.proofs.declared.add_words.Given as goal
-
-abbrev pub invariant-loop-word : goal.invariant-loop-word
-invariant-loop-word l = plus_all (drop l.word-index l.words) (set_of l.set) ≡ plus_all l.words (set_of l.fn.set)

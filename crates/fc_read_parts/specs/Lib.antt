@@ -1,0 +1,4 @@
+pub mod Classes
+pub mod Header
+pub mod Machine
+pub mod Reading

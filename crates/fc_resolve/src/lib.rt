@@ -1,0 +1,67 @@
+//! From names to distances: the nameless form of a module. Forms that are not built yet never come here, since the reader lets none
+//! through; one of them would be answered with want of memory, which says nothing of the module.
+#![tactic(auto)]
+
+mod alternatives;
+mod declarations;
+mod declared;
+mod expressions;
+mod scope;
+mod types;
+
+ghost use Rattle.std.specs.Prelude.{◌≡◌, Ok, IfOk};
+ghost use Rattle.fc_syntax.specs.View.{decls_of, module_of};
+ghost use Rattle.fc_model.specs.Faulting.{and_then};
+ghost use Rattle.fc_model.specs.Nameless.{NModuleOf};
+ghost use Rattle.fc_model.specs.NamelessView.{ndecls_of, nmodule_of};
+ghost use Rattle.fc_model.specs.Resolution.{resolved_decls as decls_resolved, resolved_or_fault};
+ghost use Rattle.fc_model.specs.Says.{Says};
+ghost use Rattle.fc_resolve.specs.DeclaredWords.{top_by, words_by_space};
+
+use crate::declarations::resolved_decls;
+use crate::declared::{Declared, Spaces};
+use fc_model::{Flawed, NDecl, NModule};
+use fc_syntax::{Memory, Module, Seq, copy_words};
+use std::alloc::Global;
+
+/// A module's header before declarations.
+fn assembled(alloc: Global, m: &Module, decls: Seq<NDecl>) -> Result<NModule, Memory>
+    ensures { IfOk result (λ n. nmodule_of n ≡ NModuleOf m.now.name m.now.imports m.now.exports m.now.hidden (ndecls_of decls)) }
+{
+    let name = m.name.copy(alloc)?;
+    let imports = copy_words(alloc, m.imports.as_slice())?;
+    let exports = copy_words(alloc, m.exports.as_slice())?;
+    let hidden = copy_words(alloc, m.hidden.as_slice())?;
+    Ok(NModule {
+        name,
+        imports,
+        exports,
+        hidden,
+        decls,
+    })
+}
+
+/// The nameless form of a module over what it declares and imports, behind the words of declarations before.
+fn resolved_over(
+    alloc: Global,
+    top: &Declared,
+    earlier: &mut Spaces,
+    m: &Module,
+) -> Result<NModule, Flawed>
+    ensures { Says nmodule_of result (and_then (decls_resolved (top_by top.now) (words_by_space earlier.old) (decls_of m.now.decls)) (λ ds. Ok (NModuleOf m.now.name m.now.imports m.now.exports m.now.hidden ds))) }
+{
+    let decls = resolved_decls(alloc, top, earlier, m.decls.as_slice())?;
+    let whole = assembled(alloc, m, decls)?;
+    Ok(whole)
+}
+
+/// The nameless form of a module. A word that is not in scope is `Unbound`, one that is bound twice in its space `Duplicate`: the
+/// first of them in the order of the text is answered, with its declaration and the numbers of the parts on the way to it. After
+/// want of memory nothing is known of the module.
+pub fn resolve(alloc: Global, m: &Module) -> Result<NModule, Flawed>
+    ensures { Says nmodule_of result (resolved_or_fault (module_of m.now)) }
+{
+    let top = Declared::of_module(alloc, m)?;
+    let mut earlier = Spaces::new(alloc);
+    resolved_over(alloc, &top, &mut earlier, m)
+}
