@@ -1,8 +1,8 @@
 #!/usr/bin/env python3
 """Builds modules of growing size with the program `coreopt`, and prints for each the seconds, the bytes a second and the peak
 memory. There are four kinds of modules: constants that give a constructor two names of other definitions; functions whose bodies
-are lets and applications, a hundred deep; small functions that call others; and functions by case. Run it from anywhere, on a machine where the
-program is built (`./coreopt build examples/Shapes.fc`)."""
+are lets and applications, a hundred deep; small functions that call others; and functions by case. Run it from anywhere, on a
+machine where the program is built (`./coreopt build examples/Shapes.fc`)."""
 import os
 import subprocess
 import sys

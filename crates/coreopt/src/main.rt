@@ -9,17 +9,21 @@ use std::process::ExitCode;
 /// The status where the words of the command line cannot be had.
 const MEMORY: u8 = 5;
 
+/// The end of the program where the words of the command line cannot be had, with its line.
+fn out_of_memory<S: Sink>(err: &mut S) -> ExitCode {
+    let _ = err.put(b"out of memory\n");
+    ExitCode::from(MEMORY)
+}
+
 fn main(rt: HostRuntime) -> ExitCode {
     let alloc = rt.alloc();
     let mut out = HostSink::new(rt.stdout());
     let mut err = HostSink::new(rt.stderr());
     let Ok(args) = env::args(&rt) else {
-        let _ = err.put(b"out of memory\n");
-        return ExitCode::from(MEMORY);
+        return out_of_memory(&mut err);
     };
     let Ok(words) = args.skip(1).collect::<Vec<String>>(alloc) else {
-        let _ = err.put(b"out of memory\n");
-        return ExitCode::from(MEMORY);
+        return out_of_memory(&mut err);
     };
     let mut files = HostFiles::new(rt);
     ExitCode::from(run(alloc, words.as_slice(), &mut files, &mut out, &mut err))
