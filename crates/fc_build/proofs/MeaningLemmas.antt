@@ -18,6 +18,8 @@ use Rattle.fc_model.specs.Texts.{Spells}
 use Rattle.fc_model.proofs.Parts.{and_then_inv}
 use Rattle.fc_model.proofs.Sameness.{bytes_eq_refl}
 use Rattle.fc_model.proofs.UnderHeader.{at_hidden}
+use Rattle.fc_words.specs.Asking.{Building}
+use Rattle.fc_words.specs.declared.Tuning.{Tuning}
 use Rattle.fc_build.specs.Meaning.{KeepsMeaning, ShowsTheSame}
 use Rattle.fc_build.specs.Product.{core_name, interface_name, outputs_of, put_all}
 
@@ -73,23 +75,24 @@ other_length : (p q : List ℕ) → length p ≢ length q → bytes_eq p q ≡ f
 other_length p q differ = grind (arith, bytes_eq-Decides p q)
 
 -- the interface does not stand where the core does
-names_differ : (m : Module) → bytes_eq (interface_name m) (core_name m) ≡ false
-names_differ m = other_length (interface_name m) (core_name m) (λ e. omega (arith, length-append (codes "./") (name_of m ++ codes ".fci"), length-append (name_of m) (codes ".fci"), length-append (codes "./") (name_of m ++ codes ".opt.fc"), length-append (name_of m) (codes ".opt.fc"), e))
+names_differ : (prefix : List ℕ) (m : Module) → bytes_eq (interface_name prefix m) (core_name prefix m) ≡ false
+names_differ prefix m = other_length (interface_name prefix m) (core_name prefix m) (λ e. omega (arith, length-append prefix (name_of m ++ codes ".fci"), length-append (name_of m) (codes ".fci"), length-append prefix (name_of m ++ codes ".opt.fc"), length-append (name_of m) (codes ".opt.fc"), e))
 
-core_is_held : (m : Module) (old new : FileMap) → new ≡ put_all (outputs_of m) old → new (core_name (written_of m)) ≡ Some (canonical (written_of m))
-core_is_held m old new e =
-    ap (λ (f : FileMap). f (core_name (written_of m))) e ∙ rw (names_differ (written_of m), bytes_eq_refl (core_name (written_of m))) refl
+core_is_held : (tuning : Tuning) (prefix : List ℕ) (m : Module) (old new : FileMap) → new ≡ put_all (outputs_of (Building tuning prefix) m) old
+    → new (core_name prefix (written_of m)) ≡ Some (canonical (written_of m))
+core_is_held tuning prefix m old new e =
+    ap (λ (f : FileMap). f (core_name prefix (written_of m))) e ∙ rw (names_differ prefix (written_of m), bytes_eq_refl (core_name prefix (written_of m))) refl
 
-pub keeps_meaning : (m : Module) → Lints m → Spells (canonical (written_of m)) (written_of m) → (old new : FileMap) → new ≡ put_all (outputs_of m) old
-    → KeepsMeaning m (new (core_name m))
-keeps_meaning (ModuleOf m imports exports hidden ds) lint spells old new e =
+pub keeps_meaning : (tuning : Tuning) (prefix : List ℕ) (m : Module) → Lints m → Spells (canonical (written_of m)) (written_of m) → (old new : FileMap)
+    → new ≡ put_all (outputs_of (Building tuning prefix) m) old → KeepsMeaning m (new (core_name prefix (written_of m)))
+keeps_meaning tuning prefix (ModuleOf m imports exports hidden ds) lint spells old new e =
     let read = ModuleOf m imports exports hidden ds in
     let p = and_then_inv (resolved_or_fault read) (λ n. lint_or_fault n) done lint in
     let q = and_then_inv (resolved_decls (top_of read) no_words ds) _ p.0 p.1 in
     let more = hidden ++ others (plus_all hidden (plus_all exports no_word)) (declared_words ds) in
     record {
       bytes = canonical (written_of read);
-      holds = core_is_held read old new e;
+      holds = core_is_held tuning prefix read old new e;
       written = written_of read;
       spells = spells;
       before = NModuleOf m imports exports hidden q.0;

@@ -1,114 +1,176 @@
--- What the parts of a build come to in the answers of the top call.
-use Rattle.std.proofs.Common.{◌≡◌, ◌++◌, ◌∙◌, ℕ, List, [], ◌∷◌, length, Option, Some, None, IfSome, refl, sym, ap, subst, arith}
-use Rattle.std.proofs.Math.Seq.{take-length}
+-- What the parts of the work come to in the answers of the top call.
+use Rattle.std.proofs.Common.{◌≡◌, ◌⊎◌, ◌∙◌, ◌∷◌, ℕ, List, [], length, Option, Some, None, IfSome, inr, refl, sym, ap, subst, arith}
 use Rattle.fc_files.specs.Outside.{FileMap, Rose, Told}
 use Rattle.fc_syntax.specs.Tree.{Module, ModuleOf}
-use Rattle.fc_model.specs.Acceptance.{Accepted, FirstFault, SetFault, missing, bad_form, def_type}
-use Rattle.fc_model.specs.Canonical.{IsBuilt, IsFormed}
+use Rattle.fc_syntax.specs.declared.fault.Fault.{Fault}
+use Rattle.fc_model.specs.Acceptance.{Accepted, FaultOfBytes, FaultOfEntry, FirstFault, too_long, unread, unlinted}
 use Rattle.fc_model.specs.Headers.{written_of}
 use Rattle.fc_model.specs.Linting.{Lints}
+use Rattle.fc_model.specs.ReadFaults.{ReadsTo}
 use Rattle.fc_model.proofs.UnderHeader.{written_is_built, written_is_formed, written_lints}
 use Rattle.fc_printer.proofs.ReadBack.{canonical_spells}
-use Rattle.fc_reader.proofs.Laws.{one_module}
+use Rattle.fc_reader.proofs.Laws.{no_module, one_module}
+use Rattle.fc_words.specs.Asking.{Asked, Order, Building, Linting, asked}
+use Rattle.fc_words.specs.declared.Tuning.{Tuning}
 use Rattle.fc_build.proofs.MeaningLemmas.{keeps_meaning}
-use Rattle.fc_build.specs.Words.{AsksBuild}
-use Rattle.fc_build.specs.Lines.{Gets, Says, whole, cut, memory_line, refused_line, write_fault_line}
+use Rattle.fc_build.specs.Judging.{IsReady}
 use Rattle.fc_build.specs.Meaning.{KeepsMeaning}
-use Rattle.fc_build.specs.Product.{IsNameAmong, Output, StopsAt, TakesSome, WritesSome, built_line, core_name, outputs_of, put_all}
-use Rattle.fc_build.specs.Run.{IsDone, IsFaithful, IsMemoryEnd, IsRefused, IsWriteFault, at_a_file, at_file, at_out}
+use Rattle.fc_build.specs.Delivering.{Delivers, IsSameDevice}
+use Rattle.fc_build.specs.Preparing.{IsAccepted, IsProduct, Stops, files_in}
+use Rattle.fc_build.specs.Product.{Output, core_name, done_line, outputs, outputs_of, put_all}
+use Rattle.fc_build.specs.Ending.{TellsDelivery, delivery_status, stop_status}
+use Rattle.fc_build.specs.Run.{IsDone, IsFaithful, IsMemoryEnd, IsWriteFault, Keeps, at_a_file, at_file, at_out}
+use Rattle.fc_build.specs.declared.deliver.Delivery.{Delivery}
+use Rattle.fc_build.specs.declared.deliver.Delivery.TheVariants as delivery
+use Rattle.fc_build.specs.declared.product.File.{File}
+use Rattle.fc_build.specs.declared.product.Product.{Product}
+use Rattle.fc_build.specs.declared.prepare.Stop.{Stop}
+use Rattle.fc_build.specs.declared.prepare.Stop.TheVariants as stop
 
--- the words ask for at most one file
-same_head : (a b x y : List ℕ) → a ∷ x ∷ [] ≡ b ∷ y ∷ [] → x ≡ y
-same_head a b x y e = cc
+-- A SET WITH A FAULT IS NOT ACCEPTED
 
-ask_one : (ws : List (List ℕ)) (f g : List ℕ) → AsksBuild ws f → AsksBuild ws g → f ≡ g
-ask_one ws f g p q = same_head _ _ f g (sym p.form ∙ q.form)
+not_in_bytes : (file bytes : List ℕ) (f : Fault) (n : Module) → FaultOfBytes file bytes f → ReadsTo bytes n → Lints n → ⊥
+not_in_bytes file bytes f n (too_long over is) reads lints = omega (arith, over, reads.short)
+not_in_bytes file bytes f n (unread fault short first is) reads lints = no_module bytes fault n first reads
+not_in_bytes file bytes f n (unlinted m k def path read fails is) reads lints =
+    let same : m ≡ n = one_module bytes m n read.spelled reads.spelled in
+    let holds : Lints m = subst Lints (sym same) lints in
+    let clash : _ ≡ _ = sym holds ∙ fails in
+    cc
 
--- a set with a fault is not accepted
-exclusive : (entry : Option (List ℕ)) (f : SetFault) (n : Module) → FirstFault entry f → Accepted entry n → ⊥
-exclusive None f n fault accepted = accepted
-exclusive (Some b) missing n fault accepted = cc
-exclusive (Some b) bad_form n fault accepted = fault n accepted.0
-exclusive (Some b) (def_type m) n fault accepted = fault.1 (subst Lints (one_module b n m accepted.0.spelled fault.0.spelled) accepted.1)
+not_in_entry : (file : List ℕ) (entry : Option (List ℕ)) (f : Fault) (n : Module) → FaultOfEntry file entry f → Accepted (file ∷ []) (λ _. entry) n → ⊥
+not_in_entry file None f n fault accepted = accepted
+not_in_entry file (Some bytes) f n fault accepted = not_in_bytes file bytes f n fault accepted.0 accepted.1
 
-pub no_fault : (ws : List (List ℕ)) (file : List ℕ) (n : Module) (held : Option FileMap) (P : Type 0) → AsksBuild ws file → IfSome held (λ m. Accepted (m file) n)
-    → (f : List ℕ) → AsksBuild ws f → IfSome held (λ m. (fault : SetFault) → FirstFault (m f) fault → P)
-no_fault ws file n None P asked accepted f ask = tt
-no_fault ws file n (Some m) P asked accepted f ask = λ fault is. absurd (exclusive (m f) fault n is (subst (λ x. Accepted (m x) n) (ask_one ws file f asked ask) accepted))
+exclusive : (files : List (List ℕ)) (m : FileMap) (f : Fault) (n : Module) → FirstFault files m f → Accepted files m n → ⊥
+exclusive [] m f n fault accepted = accepted
+exclusive (file ∷ []) m f n fault accepted = not_in_entry file (m file) f n fault accepted
+exclusive (file ∷ other ∷ files) m f n fault accepted = accepted
 
-pub not_accepted : (ws : List (List ℕ)) (file : List ℕ) (fault : SetFault) (held : Option FileMap) (P : Type 0) → AsksBuild ws file → IfSome held (λ m. FirstFault (m file) fault)
-    → (f : List ℕ) → AsksBuild ws f → IfSome held (λ m. (n : Module) → Accepted (m f) n → P)
-not_accepted ws file fault None P asked is f ask = tt
-not_accepted ws file fault (Some m) P asked is f ask = λ n accepted. absurd (exclusive (m file) fault n is (subst (λ x. Accepted (m x) n) (sym (ask_one ws file f asked ask)) accepted))
+-- the words ask for one thing at most
+same_some : (a b : Asked) → Some a ≡ Some b → a ≡ b
+same_some a b e = cc
 
-pub refused : (ws : List (List ℕ)) (file : List ℕ) (fault : SetFault) (held : Option FileMap) (err err' : Option (List ℕ)) (e e' : ℕ)
-    → AsksBuild ws file → IfSome held (λ m. FirstFault (m file) fault) → Gets (refused_line fault file) e e' err err' → IsRefused ws held err err' e e'
-refused ws file fault held err err' e e' asked is line = record { input = file; fault = fault; asked = asked; first = is; line = line }
+asked_one : (o : Option Asked) (a b : Asked) → o ≡ Some a → o ≡ Some b → a ≡ b
+asked_one o a b p q = same_some a b (sym p ∙ q)
 
--- what is told of the files that were read is told of those before
-pub told_at : (held mid held' : Option FileMap) (os os' : List Output) (step : List Output → FileMap → FileMap → Type 0) → mid ≡ held → os ≡ os' → Told mid held' (step os) → Told held held' (step os')
-told_at held mid held' os os' step e f h = subst (λ (x : Option FileMap). Told x held' (step os')) e (subst (λ (y : List Output). Told mid held' (step y)) f h)
+asked_none : (o : Option Asked) (a : Asked) → o ≡ None → o ≡ Some a → ⊥
+asked_none o a p q = let e : None ≡ Some a = sym p ∙ q in cc
 
-pub stopped_at : (ws : List (List ℕ)) (file : List ℕ) (unit : Module) (name : List ℕ) (held mid held' : Option FileMap) (os : List Output) (w v w' : ℕ) (out : Option (List ℕ)) (o : ℕ) (err err' : Option (List ℕ)) (e e' : ℕ)
-    → AsksBuild ws file → IfSome held (λ m. Accepted (m file) unit) → mid ≡ held → v ≡ w → os ≡ outputs_of unit
-    → IsNameAmong os name × Rose v w' × Told mid held' (StopsAt os name)
-    → Gets (write_fault_line name) e e' err err' → IsWriteFault ws held held' w w' out out o o err err' e e'
-stopped_at ws file unit name held mid held' os w v w' out o err err' e e' asked is m c f stops line =
-    at_file file unit name asked is (subst (λ (x : List Output). IsNameAmong x name) f stops.0) (subst (λ (x : ℕ). Rose x w') c stops.1)
-    (told_at held mid held' os (outputs_of unit) (λ x. StopsAt x name) m f stops.2) refl line
+-- an accepted set has no fault, and one with a fault is not accepted
+no_fault : (words : List (List ℕ)) (held : Option FileMap) (r : Asked) (unit : Module) (P : Type 0) → IsAccepted words held r unit
+    → (a : Asked) → asked words ≡ Some a → IfSome held (λ m. (f : Fault) → FirstFault (files_in a) m f → P)
+no_fault words None r unit P input a asks = tt
+no_fault words (Some m) r unit P input a asks = λ f fault.
+    let same : r ≡ a = asked_one (asked words) r a input.asks asks in
+    absurd (exclusive (files_in a) m f unit fault (subst (λ (x : Asked). Accepted (files_in x) m unit) same input.accepted))
 
-pub memory_at : (ws : List (List ℕ)) (file : List ℕ) (unit : Module) (held mid held' : Option FileMap) (os : List Output) (out : Option (List ℕ)) (err err' : Option (List ℕ)) (e e' : ℕ)
-    → AsksBuild ws file → IfSome held (λ m. Accepted (m file) unit) → mid ≡ held → os ≡ outputs_of unit → Told mid held' (WritesSome os)
-    → Gets memory_line e e' err err' → IsMemoryEnd ws held held' out out err err' e e'
-memory_at ws file unit held mid held' os out err err' e e' asked is m f some line =
-    record { stands = at_a_file file unit asked is (told_at held mid held' os (outputs_of unit) WritesSome m f some) refl; line = line }
+-- WHERE NOTHING IS WRITTEN
 
-some_of_says : (text : List ℕ) (f g : ℕ) (a b : List ℕ) → Says text f g a b → TakesSome text a b
-some_of_says text f g a b (whole is) = (length text, omega arith, is ∙ ap (λ (x : List ℕ). a ++ x) (sym (take-length text)))
-some_of_says text f g a b (cut n within is rose) = (n, within, is)
+-- an accepted set is not refused
+pub stop_complete : (words : List (List ℕ)) (held : Option FileMap) (reads reads' : ℕ) (s : Stop) (status : ℕ) → status ≡ stop_status s → Stops words held reads reads' s
+    → (a : Asked) → asked words ≡ Some a → (Rose reads reads' → ⊥) → IfSome held (λ m. (n : Module) → Accepted (files_in a) m n → (status ≡ 0) ⊎ (status ≡ 5))
+stop_complete words None reads reads' s status is why a asks stays = tt
+stop_complete words (Some m) reads reads' (stop.Refused line) status is why a asks stays = λ n accepted.
+    let same : why.first.request ≡ a = asked_one (asked words) why.first.request a why.first.asks asks in
+    absurd (exclusive (files_in a) m why.fault n (subst (λ (x : Asked). FirstFault (files_in x) m why.fault) same why.first.first) accepted)
+stop_complete words (Some m) reads reads' stop.Usage status is why a asks stays = λ n accepted. absurd (asked_none (asked words) a why asks)
+stop_complete words (Some m) reads reads' (stop.ReadFault name) status is why a asks stays = λ n accepted. absurd (stays why.rose)
+stop_complete words (Some m) reads reads' stop.Memory status is why a asks stays = λ n accepted. inr is
 
-some_of_gets : (text : List ℕ) (f g : ℕ) (out out' : Option (List ℕ)) → Gets text f g out out' → Told out out' (TakesSome text)
-some_of_gets text f g None out' gets = tt
-some_of_gets text f g (Some a) None gets = gets
-some_of_gets text f g (Some a) (Some b) gets = some_of_says text f g a b gets
-
-pub put_failed : (ws : List (List ℕ)) (file : List ℕ) (unit : Module) (held mid held' : Option FileMap) (os : List Output) (w w' : ℕ) (out out' : Option (List ℕ)) (o o' : ℕ) (err err' : Option (List ℕ)) (e e' : ℕ)
-    → AsksBuild ws file → IfSome held (λ m. Accepted (m file) unit) → mid ≡ held → os ≡ outputs_of unit
-    → Told mid held' (λ m m'. m' ≡ put_all os m) → Rose o o' → Gets (built_line unit) o o' out out'
-    → Gets (write_fault_line (45 ∷ [])) e e' err err' → IsWriteFault ws held held' w w' out out' o o' err err' e e'
-put_failed ws file unit held mid held' os w w' out out' o o' err err' e e' asked is m f told rose gets line =
-    at_out file unit asked is rose (told_at held mid held' os (outputs_of unit) (λ x m m'. m' ≡ put_all x m) m f told)
-    (some_of_gets (built_line unit) o o' out out' gets) line
+-- WHERE SOMETHING IS WRITTEN
 
 -- the text under the written header spells a module that lints, with the same exports and the same declarations
-faithful : (m : Module) → IsBuilt m → IsFormed m → Lints m → IsFaithful m
-faithful (ModuleOf m imports exports hidden ds) built formed lint =
+faithful : (m : Module) → IsReady m → IsFaithful m
+faithful (ModuleOf m imports exports hidden ds) ready =
     let read = ModuleOf m imports exports hidden ds in
     record {
-      spells = canonical_spells (written_of read) (written_is_built read built) (written_is_formed read formed);
-      lints = written_lints read lint;
+      spells = canonical_spells (written_of read) (written_is_built read ready.built) (written_is_formed read ready.formed);
+      lints = written_lints read ready.lints;
       name = refl;
       exports = refl;
       declarations = refl;
     }
 
 -- what stands at the name of the core means what was read
-means : (unit : Module) (held held' : Option FileMap) → IsBuilt unit × IsFormed unit × Lints unit → Told held held' (λ m m'. m' ≡ put_all (outputs_of unit) m)
-    → Told held held' (λ m m'. KeepsMeaning unit (m' (core_name unit)))
-means unit None held' ready told = tt
-means unit (Some m) None ready told = told
-means unit (Some m) (Some m') ready told = keeps_meaning unit ready.2 (faithful unit ready.0 ready.1 ready.2).spells m m' told
+means : (tuning : Tuning) (prefix : List ℕ) (unit : Module) (held held' : Option FileMap) → IsReady unit → Told held held' (λ m m'. m' ≡ put_all (outputs_of (Building tuning prefix) unit) m)
+    → Told held held' (λ m m'. KeepsMeaning unit (m' (core_name prefix (written_of unit))))
+means tuning prefix unit None held' ready told = tt
+means tuning prefix unit (Some m) None ready told = told
+means tuning prefix unit (Some m) (Some m') ready told = keeps_meaning tuning prefix unit ready.lints (faithful unit ready).spells m m' told
 
-pub done : (ws : List (List ℕ)) (file : List ℕ) (unit : Module) (held mid held' : Option FileMap) (os : List Output) (out out' : Option (List ℕ))
-    → AsksBuild ws file → IfSome held (λ m. Accepted (m file) unit) → IsBuilt unit × IsFormed unit × Lints unit → mid ≡ held → os ≡ outputs_of unit
-    → Told mid held' (λ m m'. m' ≡ put_all os m) → Told out out' (λ a b. b ≡ a ++ built_line unit) → IsDone ws held held' out out'
-done ws file unit held mid held' os out out' asked is ready m f told line = record {
-  input = file;
-  unit = unit;
-  asked = asked;
-  accepted = is;
-  faithful = faithful unit ready.0 ready.1 ready.2;
-  files = told_at held mid held' os (outputs_of unit) (λ x m m'. m' ≡ put_all x m) m f told;
-  line = line;
-  meaning = means unit held held' ready (told_at held mid held' os (outputs_of unit) (λ x m m'. m' ≡ put_all x m) m f told);
-}
+keeps : (order : Order) (unit : Module) (held held' : Option FileMap) → IsReady unit → Told held held' (λ m m'. m' ≡ put_all (outputs_of order unit) m) → (outputs_of order unit ≡ [] → held' ≡ held)
+    → Keeps order unit held held'
+keeps (Building tuning prefix) unit held held' ready told same = (faithful unit ready, means tuning prefix unit held held' ready told)
+keeps Linting unit held held' ready told same = same refl
+
+no_outputs : (files : List File) → outputs files ≡ [] → files ≡ []
+no_outputs [] e = refl
+no_outputs (f ∷ fs) e = absurd (omega (arith, ap (λ (os : List Output). length os) e))
+
+-- a set of which there is a product has no fault
+pub product_has_no_fault : (words : List (List ℕ)) (held : Option FileMap) (p : Product) (P : Type 0) → IsProduct words held p
+    → (a : Asked) → asked words ≡ Some a → IfSome held (λ m. (f : Fault) → FirstFault (files_in a) m f → P)
+product_has_no_fault words held p P product a asks = no_fault words held product.request product.unit P product.input a asks
+
+-- what comes of a product
+module _ (words : List (List ℕ)) (held mid held' : Option FileMap) (p : Product) (product : IsProduct words held p) (same : mid ≡ held)
+    (writes mid_writes writes' : ℕ) (same_writes : mid_writes ≡ writes) (out out' : Option (List ℕ)) (puts puts' : ℕ) where
+  pub delivered : (d : Delivery) → Delivers d (outputs p.list.items) p.line.items mid held' mid_writes writes' out out' puts puts'
+      → Delivers d (outputs_of product.request.order product.unit) (done_line product.request.order product.unit) held held' writes writes' out out' puts puts'
+  delivered d is =
+      subst (λ (h : Option FileMap). Delivers d (outputs_of product.request.order product.unit) (done_line product.request.order product.unit) h held' writes writes' out out' puts puts') same
+      (subst (λ (w : ℕ). Delivers d (outputs_of product.request.order product.unit) (done_line product.request.order product.unit) mid held' w writes' out out' puts puts') same_writes
+      (subst (λ (t : List ℕ). Delivers d (outputs_of product.request.order product.unit) t mid held' mid_writes writes' out out' puts puts') product.line
+      (subst (λ (os : List Output). Delivers d os p.line.items mid held' mid_writes writes' out out' puts puts') product.files is)))
+
+  -- where nothing is to be written, nothing is
+  pub nothing_written : (p.list.items ≡ [] → IsSameDevice mid held' mid_writes writes') → outputs_of product.request.order product.unit ≡ [] → IsSameDevice held held' writes writes'
+  nothing_written go none =
+      let same_all = go (no_outputs p.list.items (product.files ∙ none)) in
+      (same_all.0 ∙ same, same_all.1 ∙ same_writes)
+
+  pub delivered_done : (d : Delivery) → Delivers d (outputs p.list.items) p.line.items mid held' mid_writes writes' out out' puts puts'
+      → (p.list.items ≡ [] → IsSameDevice mid held' mid_writes writes') → delivery_status d ≡ 0 → IsDone words held held' out out'
+  delivered_done delivery.Done is go e =
+      let all = delivered delivery.Done is in
+      record {
+        request = product.request;
+        unit = product.unit;
+        input = product.input;
+        files = all.0;
+        line = all.1;
+        keeps = keeps product.request.order product.unit held held' product.input.ready all.0 (λ none. (nothing_written go none).0);
+      }
+  delivered_done (delivery.WriteFault name) is go e = absurd (omega (arith, e))
+  delivered_done delivery.PutFault is go e = absurd (omega (arith, e))
+  delivered_done delivery.Memory is go e = absurd (omega (arith, e))
+
+  module _ (err err' : Option (List ℕ)) (faults faults' : ℕ) where
+    pub delivered_write_fault : (d : Delivery) → Delivers d (outputs p.list.items) p.line.items mid held' mid_writes writes' out out' puts puts' → TellsDelivery d faults faults' err err'
+        → delivery_status d ≡ 4 → IsWriteFault words held held' writes writes' out out' puts puts' err err' faults faults'
+    delivered_write_fault delivery.Done is says e = absurd (omega (arith, e))
+    delivered_write_fault (delivery.WriteFault name) is says e =
+        let all = delivered (delivery.WriteFault name) is in
+        at_file product.request product.unit name.now product.input all.0 all.1 all.2 all.3 says
+    delivered_write_fault delivery.PutFault is says e =
+        let all = delivered delivery.PutFault is in
+        at_out product.request product.unit product.input all.0 all.1 all.2 says
+    delivered_write_fault delivery.Memory is says e = absurd (omega (arith, e))
+
+    pub delivered_memory : (d : Delivery) → Delivers d (outputs p.list.items) p.line.items mid held' mid_writes writes' out out' puts puts' → TellsDelivery d faults faults' err err'
+        → delivery_status d ≡ 5 → IsMemoryEnd words held held' out out' err err' faults faults'
+    delivered_memory delivery.Done is says e = absurd (omega (arith, e))
+    delivered_memory (delivery.WriteFault name) is says e = absurd (omega (arith, e))
+    delivered_memory delivery.PutFault is says e = absurd (omega (arith, e))
+    delivered_memory delivery.Memory is says e =
+        let all = delivered delivery.Memory is in
+        record { stands = at_a_file product.request product.unit product.input all.0 all.1; line = says }
+
+  lints_nothing : (a : Asked) → asked words ≡ Some a → a.order ≡ Linting → outputs_of product.request.order product.unit ≡ []
+  lints_nothing a asks lint =
+      let one : product.request ≡ a = asked_one (asked words) product.request a product.input.asks asks in
+      ap (λ (o : Order). outputs_of o product.unit) (ap (λ (x : Asked). x.order) one ∙ lint)
+
+  pub delivered_lint : (p.list.items ≡ [] → IsSameDevice mid held' mid_writes writes') → (a : Asked) → asked words ≡ Some a → a.order ≡ Linting → IsSameDevice held held' writes writes'
+  delivered_lint go a asks lint = nothing_written go (lints_nothing a asks lint)

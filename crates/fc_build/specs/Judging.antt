@@ -1,26 +1,55 @@
--- What the judge of a file answers.
-use Rattle.std.specs.Prelude.{ℕ, ⊤, List, Option}
+-- What the judge of a list of files answers.
+use Rattle.std.specs.Prelude.{◌≡◌, ℕ, ⊤, List, Option, IsSomeAnd, Err}
+use Rattle.fc_files.specs.Outside.{FileMap}
 use Rattle.fc_syntax.specs.View.{module_of}
-use Rattle.fc_model.specs.Acceptance.{Accepted, FirstFault, missing, bad_form, def_type}
+use Rattle.fc_syntax.specs.Tree.{Word, Module}
+use Rattle.fc_model.specs.Acceptance.{Accepted, FaultOfBytes, FaultOfEntry, FirstFault, of_module}
+use Rattle.fc_syntax.specs.declared.fault.FaultKind.{FaultKind}
+use Rattle.fc_model.specs.Faulting.{At}
+use Rattle.fc_model.specs.ReadFaults.{ReadsTo}
 use Rattle.fc_model.specs.Canonical.{IsBuilt, IsFormed}
-use Rattle.fc_model.specs.Linting.{Lints}
+use Rattle.fc_model.specs.Linting.{Lints, module_lint}
 use Rattle.fc_build.specs.declared.judge.Judged.{Judged}
 use Rattle.fc_build.specs.declared.judge.Judged.TheVariants as judged
 
--- what the answer says of what the name holds
-abbrev pub Judges : Option (List ℕ) → Judged → Type 0
-Judges entry (judged.Accepted m) = Accepted entry (module_of m)
-Judges entry judged.Missing = FirstFault entry missing
-Judges entry judged.BadForm = FirstFault entry bad_form
-Judges entry (judged.DefType m) = FirstFault entry (def_type (module_of m))
-Judges entry judged.ReadFault = ⊤
-Judges entry judged.Memory = ⊤
+-- what the answer says of a module
+abbrev pub JudgesModule : Module → Judged → Type 0
+JudgesModule m (judged.Accepted n) = (module_of n ≡ m) × Lints m
+JudgesModule m (judged.Refused f) =
+    (k : FaultKind) × (def : Option Word) × (path : List ℕ) × (module_lint m ≡ Err (At k def path)) × (f ≡ of_module m k def path)
+JudgesModule m judged.ReadFault = ⊥
+JudgesModule m judged.Memory = ⊤
 
--- an accepted module has the forms that are built, words of their forms, and lints
-abbrev pub IsReady : Judged → Type 0
-IsReady (judged.Accepted m) = IsBuilt (module_of m) × IsFormed (module_of m) × Lints (module_of m)
-IsReady judged.Missing = ⊤
-IsReady judged.BadForm = ⊤
-IsReady (judged.DefType m) = ⊤
-IsReady judged.ReadFault = ⊤
-IsReady judged.Memory = ⊤
+-- of the bytes of a file
+abbrev pub JudgesBytes : List ℕ → List ℕ → Judged → Type 0
+JudgesBytes file bytes (judged.Accepted m) = ReadsTo bytes (module_of m) × Lints (module_of m)
+JudgesBytes file bytes (judged.Refused f) = FaultOfBytes file bytes f
+JudgesBytes file bytes judged.ReadFault = ⊥
+JudgesBytes file bytes judged.Memory = ⊤
+
+-- of what the name of a file holds
+abbrev pub JudgesEntry : List ℕ → Option (List ℕ) → Judged → Type 0
+JudgesEntry file entry (judged.Accepted m) = IsSomeAnd entry (λ bytes. ReadsTo bytes (module_of m) × Lints (module_of m))
+JudgesEntry file entry (judged.Refused f) = FaultOfEntry file entry f
+JudgesEntry file entry judged.ReadFault = ⊤
+JudgesEntry file entry judged.Memory = ⊤
+
+-- of what the names of a list of files hold
+abbrev pub Judges : List (List ℕ) → FileMap → Judged → Type 0
+Judges files held (judged.Accepted m) = Accepted files held (module_of m)
+Judges files held (judged.Refused f) = FirstFault files held f
+Judges files held judged.ReadFault = ⊤
+Judges files held judged.Memory = ⊤
+
+-- the module has the forms that are built, words of their forms, and lints
+pub record IsReady (m : Module) : Type 0 where
+  pub built : IsBuilt m
+  pub formed : IsFormed m
+  pub lints : Lints m
+
+-- an accepted module is ready
+abbrev pub IsReadyAnswer : Judged → Type 0
+IsReadyAnswer (judged.Accepted m) = IsReady (module_of m)
+IsReadyAnswer (judged.Refused f) = ⊤
+IsReadyAnswer judged.ReadFault = ⊤
+IsReadyAnswer judged.Memory = ⊤

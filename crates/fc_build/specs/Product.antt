@@ -1,35 +1,50 @@
--- The files of a build, in the order in which they are written, and the line for each module.
-use Rattle.std.specs.Prelude.{◌≡◌, ◌⊎◌, ◌≤◌, ℕ, List, [], ◌∷◌, ◌++◌, codes, length, take}
+-- The files of a module, in the order in which they are written, and the line for it on the output.
+use Rattle.std.specs.Prelude.{◌≡◌, ◌⊎◌, ◌≤◌, ℕ, List, [], ◌∷◌, ◌++◌, codes, length, map, take, string_bytes}
 use Rattle.fc_files.specs.Outside.{FileMap, SameBut, put}
 use Rattle.fc_syntax.specs.Tree.{Module}
 use Rattle.fc_model.specs.Canonical.{canonical, interface_text}
 use Rattle.fc_model.specs.Headers.{name_of, written_of}
+use Rattle.fc_words.specs.Asking.{Order, Building, Linting}
+use Rattle.fc_build.specs.declared.product.File.{File}
 
 -- a file to be written
 pub record Output : Type 0 where
   pub name : List ℕ
   pub text : List ℕ
 
-abbrev pub core_name : Module → List ℕ
-core_name m = codes "./" ++ (name_of m ++ codes ".opt.fc")
+abbrev pub output_of : File → Output
+output_of f = record { name = string_bytes f.name; text = f.text.items }
 
-abbrev pub interface_name : Module → List ℕ
-interface_name m = codes "./" ++ (name_of m ++ codes ".fci")
+abbrev pub outputs : List File → List Output
+outputs = map output_of
+
+-- the name of a module's file of this ending, behind the prefix
+abbrev pub file_name : List ℕ → Module → List ℕ → List ℕ
+file_name prefix m ending = prefix ++ (name_of m ++ ending)
+
+abbrev pub core_name : List ℕ → Module → List ℕ
+core_name prefix m = file_name prefix m (codes ".opt.fc")
+
+abbrev pub interface_name : List ℕ → Module → List ℕ
+interface_name prefix m = file_name prefix m (codes ".fci")
 
 -- the canonical text of a module
-abbrev pub core_output : Module → Output
-core_output m = record { name = core_name m; text = canonical m }
+abbrev pub core_output : List ℕ → Module → Output
+core_output prefix m = record { name = core_name prefix m; text = canonical m }
 
 -- its interface
-abbrev pub interface_output : Module → Output
-interface_output m = record { name = interface_name m; text = interface_text m }
+abbrev pub interface_output : List ℕ → Module → Output
+interface_output prefix m = record { name = interface_name prefix m; text = interface_text m }
 
--- both, of the module under the written header
-abbrev pub outputs_of : Module → List Output
-outputs_of m = core_output (written_of m) ∷ interface_output (written_of m) ∷ []
+-- what is written of a module that was read: a build writes both, of the module under the written header; Lint writes nothing
+abbrev pub outputs_of : Order → Module → List Output
+outputs_of (Building tuning prefix) m = core_output prefix (written_of m) ∷ interface_output prefix (written_of m) ∷ []
+outputs_of Linting m = []
 
-abbrev pub built_line : Module → List ℕ
-built_line m = codes "built " ++ (name_of m ++ codes "\n")
+-- what is put for it
+abbrev pub done_line : Order → Module → List ℕ
+done_line (Building tuning prefix) m = codes "built " ++ name_of m ++ 10 ∷ []
+done_line Linting m = codes "ok " ++ name_of m ++ 10 ∷ []
 
 -- the map with each of the files put in, in order
 abbrev pub put_all : List Output → FileMap → FileMap
@@ -47,9 +62,9 @@ StopsAt [] name old new = ⊥
 StopsAt (o ∷ os) name old new =
     ((name ≡ o.name) × SameBut name old new) ⊎ StopsAt os name (put o.name o.text old) new
 
--- some first files stand whole, the next may hold anything, and every other is as before
+-- some first files, but not all, stand whole, the next may hold anything, and every other is as before
 abbrev pub WritesSome : List Output → FileMap → FileMap → Type 0
-WritesSome [] old new = new ≡ old
+WritesSome [] old new = ⊥
 WritesSome (o ∷ os) old new = SameBut o.name old new ⊎ WritesSome os (put o.name o.text old) new
 
 -- the stream took a prefix of the text

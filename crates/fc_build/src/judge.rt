@@ -1,35 +1,90 @@
-//! Reads a file and judges it.
-ghost use Rattle.std.specs.Prelude.{◌≡◌, ◌≤◌, IfSome};
+//! Reads the files of a set and judges them.
+ghost use Rattle.std.specs.Prelude.{◌≡◌, ◌≤◌, ◌∷◌, [], IfOk, IfErr, IfSome, length, map, reverse};
 ghost use Rattle.fc_files.specs.Outside.{Rose};
 ghost use Rattle.fc_syntax.specs.View.{module_of};
+ghost use Rattle.fc_model.specs.Acceptance.{of_file as fault_of_file, of_module as fault_of_module};
 ghost use Rattle.fc_model.specs.Canonical.{IsBuilt};
 ghost use Rattle.fc_model.specs.Linting.{done, module_lint};
 ghost use Rattle.fc_model.specs.Says.{Says};
-ghost use Rattle.fc_build.specs.Judging.{IsReady, Judges};
+ghost use Rattle.fc_build.specs.Judging.{IsReadyAnswer, Judges, JudgesBytes, JudgesEntry, JudgesModule};
 
 use fc_files::{Files, MOST, ReadAnswer};
 use fc_lint_set::lint_module;
-use fc_model::Flawed;
+use fc_model::{Flaw, Flawed};
 use fc_reader::read_module;
 use fc_resolve::resolve;
-use fc_syntax::{Module, Refusal};
+use fc_syntax::{Fault, FaultKind, Memory, Module, Place, Refusal, Seq, Text};
 use std::alloc::Global;
 
-/// What a file is.
+/// What the files of a set are.
 #[derive(Debug, Drop)]
 pub enum Judged {
     /// A module that lints.
     Accepted(Module),
-    /// No file of that name.
-    Missing,
-    /// No module within the limits.
-    BadForm,
-    /// A module that does not lint.
-    DefType(Module),
-    /// The device failed.
+    /// No accepted set, and its first fault.
+    Refused(Fault),
+    /// The read of the only file failed.
     ReadFault,
-    /// Memory was wanting.
+    /// Out of memory.
     Memory,
+}
+
+/// A fault of a file, in no declaration.
+fn of_file(alloc: Global, kind: FaultKind, file: &str, path: Place) -> Result<Fault, Memory>
+    ensures { IfOk result (λ f. f ≡ fault_of_file kind file.now path) }
+{
+    let module = Text::from_str(alloc, file)?;
+    Ok(Fault {
+        kind,
+        module,
+        def: None,
+        path,
+    })
+}
+
+/// The numbers, as a list of the project's own.
+fn listed(alloc: Global, numbers: &[u32]) -> Result<Seq<u32>, Memory>
+    ensures { IfOk result (λ s. s ≡ numbers.now) }
+{
+    let mut all = Seq::new(alloc);
+    for n in numbers {
+        all.push(*n)?;
+    }
+    Ok(all)
+}
+
+/// The numbers in the other order.
+fn reversed(alloc: Global, numbers: &[u32]) -> Result<Seq<u32>, Memory>
+    ensures { IfOk result (λ s. s ≡ reverse numbers.now) }
+{
+    let backwards: Vec<u32> = numbers.iter().rev().copied().collect(alloc)?;
+    listed(alloc, backwards.as_slice())
+}
+
+/// A premise that fails in a module, with the parts on the way to its piece, the outermost first.
+fn of_module(alloc: Global, m: &Module, flaw: Flaw) -> Result<Fault, Memory>
+    ensures { IfOk result (λ f. f ≡ fault_of_module (module_of m.now) flaw.kind flaw.def (reverse flaw.path)) }
+{
+    let Flaw { kind, def, path } = flaw;
+    let path = reversed(alloc, path.as_slice())?;
+    let module = m.name.copy(alloc)?;
+    Ok(Fault {
+        kind,
+        module,
+        def,
+        path: Place::Parts(path),
+    })
+}
+
+/// The answer for a fault, or for want of memory to tell it.
+fn refused(fault: Result<Fault, Memory>) -> Judged
+    ensures told { IfOk fault (λ f. result ≡ Judged.Refused f) }
+    ensures untold { IfErr fault (λ _. result ≡ Judged.Memory) }
+{
+    match fault {
+        Ok(fault) => Judged::Refused(fault),
+        Err(Memory) => Judged::Memory,
+    }
 }
 
 /// Whether every premise of names, declarations and types holds of a module, or the first that fails.
@@ -41,29 +96,66 @@ fn lint(alloc: Global, m: &Module) -> Result<(), Flawed>
     lint_module(alloc, &nameless)
 }
 
-/// Reads the file of a name and judges what it holds.
-pub(crate) fn judge<F: Files>(alloc: Global, files: &mut F, file: &str) -> Judged
+/// Judges a module that was read.
+fn judge_module(alloc: Global, m: Module) -> Judged
+    requires { IsBuilt (module_of m) }
+    ensures { JudgesModule (module_of m) result }
+{
+    match lint(alloc, &m) {
+        Ok(()) => Judged::Accepted(m),
+        Err(Flawed::Flaw(flaw)) => refused(of_module(alloc, &m, flaw)),
+        Err(Flawed::Memory) => Judged::Memory,
+    }
+}
+
+/// Judges the bytes of a file.
+fn judge_bytes(alloc: Global, file: &str, bytes: &[u8]) -> Judged
+    requires { length bytes.now ≤ MOST }
+    ensures answer { JudgesBytes file.now bytes.now result }
+    ensures ready { IsReadyAnswer result }
+{
+    match read_module(alloc, file, bytes) {
+        Ok(m) => judge_module(alloc, m),
+        Err(Refusal::Fault(fault)) => Judged::Refused(fault),
+        Err(Refusal::Memory) => Judged::Memory,
+    }
+}
+
+/// Reads a file and judges what it holds.
+fn judge_file<F: Files>(alloc: Global, files: &mut F, file: &str) -> Judged
     ensures held { F.held files.new ≡ F.held files.old }
     ensures writes { F.write_faults files.new ≡ F.write_faults files.old }
     ensures reads { F.read_faults files.old ≤ F.read_faults files.new }
     ensures cause { result ≡ Judged.ReadFault → Rose (F.read_faults files.old) (F.read_faults files.new) }
-    ensures answer { IfSome (F.held files.old) (λ m. Judges (m file.now) result) }
-    ensures ready { IsReady result }
+    ensures answer { IfSome (F.held files.old) (λ m. JudgesEntry file.now (m file.now) result) }
+    ensures ready { IsReadyAnswer result }
 {
-    let bytes = match files.read(alloc, file, MOST) {
-        ReadAnswer::Ok(bytes) => bytes,
-        ReadAnswer::Absent => return Judged::Missing,
-        ReadAnswer::TooLong => return Judged::BadForm,
-        ReadAnswer::Failed => return Judged::ReadFault,
-        ReadAnswer::Memory => return Judged::Memory,
-    };
-    match read_module(alloc, file, &bytes) {
-        Ok(m) => match lint(alloc, &m) {
-            Ok(()) => Judged::Accepted(m),
-            Err(Flawed::Flaw(_flaw)) => Judged::DefType(m),
-            Err(Flawed::Memory) => Judged::Memory,
-        },
-        Err(Refusal::Fault(_fault)) => Judged::BadForm,
-        Err(Refusal::Memory) => Judged::Memory,
+    match files.read(alloc, file, MOST) {
+        ReadAnswer::Ok(bytes) => judge_bytes(alloc, file, &bytes),
+        ReadAnswer::Absent => refused(of_file(alloc, FaultKind::Missing, file, Place::Nowhere)),
+        ReadAnswer::TooLong => {
+            let limit = Place::Byte(MOST as u32);
+            refused(of_file(alloc, FaultKind::TooLong, file, limit))
+        }
+        ReadAnswer::Failed => Judged::ReadFault,
+        ReadAnswer::Memory => Judged::Memory,
+    }
+}
+
+/// Reads the only file of a set and judges what it holds. A second file is one too many, which is told before any is read.
+pub(crate) fn judge<F: Files>(alloc: Global, files: &mut F, file: &str, others: &[&str]) -> Judged
+    ensures held { F.held files.new ≡ F.held files.old }
+    ensures writes { F.write_faults files.new ≡ F.write_faults files.old }
+    ensures reads { F.read_faults files.old ≤ F.read_faults files.new }
+    ensures cause { result ≡ Judged.ReadFault → Rose (F.read_faults files.old) (F.read_faults files.new) }
+    ensures alone { result ≡ Judged.ReadFault → others.now ≡ [] }
+    ensures answer { IfSome (F.held files.old) (λ m. Judges (file.now ∷ map (λ s. s.now) others.now) m result) }
+    ensures ready { IsReadyAnswer result }
+{
+    match others.first() {
+        None => judge_file(alloc, files, file),
+        Some(second) => {
+            refused(of_file(alloc, FaultKind::TooManyModules, *second, Place::Nowhere))
+        }
     }
 }

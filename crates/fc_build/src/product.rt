@@ -1,15 +1,18 @@
 //! Makes the files of a module, and writes them.
-ghost use Rattle.std.specs.Prelude.{◌≡◌, ◌≤◌, ◌++◌, ◌∷◌, [], IfOk, List, codes, string_bytes};
+ghost use Rattle.std.specs.Prelude.{◌≡◌, ◌≤◌, ◌++◌, ◌∷◌, [], IfOk, string_bytes};
 ghost use Rattle.fc_syntax.specs.View.{module_of};
 ghost use Rattle.fc_model.specs.Canonical.{IsBuilt};
-ghost use Rattle.fc_build.specs.Product.{core_output, interface_output, outputs_of};
-ghost use Rattle.fc_build.specs.Writing.{WritesAll, outputs};
+ghost use Rattle.fc_model.specs.Headers.{written_of};
+ghost use Rattle.fc_words.specs.Asking.{order_of};
+ghost use Rattle.fc_build.specs.Delivering.{IsSameDevice, WritesAll};
+ghost use Rattle.fc_build.specs.Product.{core_output, done_line, interface_output, output_of, outputs, outputs_of};
 
 use fc_files::{Files, WriteAnswer};
 use fc_iface::print_interface;
 use fc_model::written;
 use fc_printer::print_module;
-use fc_syntax::{Memory, Module};
+use fc_syntax::{Memory, Module, Text};
+use fc_words::Command;
 use std::alloc::{AllocError, Global};
 
 /// A file to be written.
@@ -21,6 +24,15 @@ pub struct File {
     pub text: Vec<u8>,
 }
 
+/// What is to be written for an accepted set, and the line that is to be put then.
+#[derive(Debug, Drop)]
+pub struct Product {
+    /// The files, in the order in which they are written.
+    pub list: Vec<File>,
+    /// The line for the output.
+    pub line: Vec<u8>,
+}
+
 /// How the writing of a list of files ended.
 #[derive(Clone, Copy)]
 pub enum Written<'a> {
@@ -28,50 +40,82 @@ pub enum Written<'a> {
     All,
     /// The write of this name failed.
     FailedAt(&'a str),
-    /// Memory was wanting at one of them.
+    /// No memory was left at one of them.
     Memory,
 }
 
-/// The name of a module's file in the folder of the run.
-fn file_name(alloc: Global, name: &str, ending: &str) -> Result<String, AllocError>
-    ensures { IfOk result (λ s. string_bytes s ≡ codes "./" ++ (name.now ++ ending.now)) }
+/// The name of a module's file, behind the prefix.
+fn file_name(alloc: Global, prefix: &str, name: &str, ending: &str) -> Result<String, AllocError>
+    ensures { IfOk result (λ s. string_bytes s ≡ prefix.now ++ (name.now ++ ending.now)) }
 {
-    let mut text = String::from_str(alloc, "./")?;
+    let mut text = String::from_str(alloc, prefix)?;
     text.push_str(name)?;
     text.push_str(ending)?;
     Ok(text)
 }
 
 /// The canonical text of a module, under its name.
-fn core_file(alloc: Global, m: &Module) -> Result<File, Memory>
+fn core_file(alloc: Global, prefix: &str, m: &Module) -> Result<File, Memory>
     requires { IsBuilt (module_of m.now) }
-    ensures { IfOk result (λ f. outputs (f ∷ []) ≡ core_output (module_of m.now) ∷ []) }
+    ensures { IfOk result (λ f. output_of f ≡ core_output prefix.now (module_of m.now)) }
 {
-    let name = file_name(alloc, m.name.as_str(), ".opt.fc")?;
+    let name = file_name(alloc, prefix, m.name.as_str(), ".opt.fc")?;
     let text = print_module(alloc, m)?;
     Ok(File { name, text })
 }
 
 /// The interface of a module, under its name.
-fn interface_file(alloc: Global, m: &Module) -> Result<File, Memory>
+fn interface_file(alloc: Global, prefix: &str, m: &Module) -> Result<File, Memory>
     requires { IsBuilt (module_of m.now) }
-    ensures { IfOk result (λ f. outputs (f ∷ []) ≡ interface_output (module_of m.now) ∷ []) }
+    ensures { IfOk result (λ f. output_of f ≡ interface_output prefix.now (module_of m.now)) }
 {
-    let name = file_name(alloc, m.name.as_str(), ".fci")?;
+    let name = file_name(alloc, prefix, m.name.as_str(), ".fci")?;
     let text = print_interface(alloc, m)?;
     Ok(File { name, text })
 }
 
 /// The files of a module under the written header, in the order in which they are written.
 #[tactic(auto, using(fc_model::proofs::UnderHeader::written_is_built))]
-pub(crate) fn files_of(alloc: Global, m: &Module) -> Result<[File; 2], Memory>
+fn files_of(alloc: Global, prefix: &str, m: &Module) -> Result<Vec<File>, Memory>
     requires { IsBuilt (module_of m.now) }
-    ensures { IfOk result (λ files. outputs files ≡ outputs_of (module_of m.now)) }
+    ensures { IfOk result (λ files. outputs files.items ≡ core_output prefix.now (written_of (module_of m.now)) ∷ interface_output prefix.now (written_of (module_of m.now)) ∷ []) }
 {
     let whole = written(alloc, m)?;
-    let core = core_file(alloc, &whole)?;
-    let interface = interface_file(alloc, &whole)?;
-    Ok([core, interface])
+    let core = core_file(alloc, prefix, &whole)?;
+    let interface = interface_file(alloc, prefix, &whole)?;
+    Ok(vec![in alloc; core, interface]?)
+}
+
+/// A line of a word and the name of a module.
+fn line_of(alloc: Global, word: &str, name: &Text) -> Result<Vec<u8>, Memory>
+    ensures { IfOk result (λ line. line.items ≡ word.now ++ name.now ++ 10 ∷ []) }
+{
+    let mut line = Vec::from_slice(alloc, word.as_bytes())?;
+    line.extend_from_slice(name.as_str().as_bytes())?;
+    line.push(b'\n')?;
+    Ok(line)
+}
+
+/// What is to be written and to be put for a module that lints.
+pub(crate) fn product_of(alloc: Global, command: Command<'_>, m: &Module) -> Result<Product, Memory>
+    requires { IsBuilt (module_of m.now) }
+    ensures files { IfOk result (λ p. outputs p.list.items ≡ outputs_of (order_of command.entry) (module_of m.now)) }
+    ensures line { IfOk result (λ p. p.line.items ≡ done_line (order_of command.entry) (module_of m.now)) }
+{
+    match command {
+        Command::Build(_, prefix) => {
+            let list = files_of(alloc, prefix, m)?;
+            let line = line_of(alloc, "built ", &m.name)?;
+            Ok(Product { list, line })
+        }
+        Command::Lint => {
+            let line = line_of(alloc, "ok ", &m.name)?;
+            Ok(Product {
+                list: Vec::new(alloc),
+                line,
+            })
+        }
+    }
 }
 
 /// Writes the files in order, up to the first write that fails.
@@ -79,6 +123,7 @@ pub(crate) fn write_all<'a, F: Files>(alloc: Global, files: &mut F, list: &'a [F
     ensures reads { F.read_faults files.new ≡ F.read_faults files.old }
     ensures later { F.write_faults files.old ≤ F.write_faults files.new }
     ensures writes { WritesAll result (outputs list.now) (F.held files.old) (F.held files.new) (F.write_faults files.old) (F.write_faults files.new) }
+    ensures nothing { list.now ≡ [] → IsSameDevice (F.held files.old) (F.held files.new) (F.write_faults files.old) (F.write_faults files.new) }
 {
     match list {
         [] => Written::All,

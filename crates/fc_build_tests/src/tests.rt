@@ -69,12 +69,33 @@ fn run_over(
     })
 }
 
+/// A run over the file `M.fc`: the words, the text, the status, and what the two streams take.
+type Row<'a> = (&'a [&'a str], &'a [u8], u8, &'a [u8], &'a [u8]);
+
+/// Runs each row, and compares the status and the two streams.
+fn are_as_told(rt: &impl Abort, alloc: Global, rows: &[Row<'_>]) -> Result<(), Fail> {
+    for (words, text, status, out, err) in rows {
+        let ran = run_over(rt, alloc, *words, *text, &SOUND)?;
+        assert_eq!(rt; ran.err.bytes(), *err);
+        assert_eq!(rt; ran.status, *status);
+        assert_eq!(rt; ran.out.bytes(), *out);
+    }
+    Ok(())
+}
+
 #[test]
 fn each_status_has_its_line(rt: HostRuntime) -> Result<(), Fail> {
-    let alloc = rt.alloc();
-    let build: &[&str] = &["build", "M.fc"];
-    let cases: [(&[&str], &[u8], u8, &[u8], &[u8]); 9] = [
-        (build, HEADER, 0, b"built M\n", b""),
+    let usage: &[u8] = b"usage\n";
+    let rows: [Row<'_>; 12] = [
+        (&["build", "M.fc"], HEADER, 0, b"built M\n", b""),
+        (&["lint", "M.fc"], HEADER, 0, b"ok M\n", b""),
+        (
+            &["build", "--out", "b/", "--ticks=0", "M.fc"],
+            HEADER,
+            0,
+            b"built M\n",
+            b"",
+        ),
         (
             &["build", "C.fc"],
             HEADER,
@@ -82,27 +103,34 @@ fn each_status_has_its_line(rt: HostRuntime) -> Result<(), Fail> {
             b"",
             b"refused 10 Missing C.fc - -\n",
         ),
-        (build, b"(module M (imports", 1, b"", BAD_FORM),
-        (build, b"\x80", 1, b"", BAD_FORM),
-        (build, b"(module M (imports) (exports f))", 1, b"", REFUSED),
         (
-            build,
-            b"(module M (imports) (exports) (hidden K))",
+            &["lint", "C.fc"],
+            HEADER,
             1,
             b"",
-            REFUSED,
+            b"refused 10 Missing C.fc - -\n",
         ),
-        (&["build"], HEADER, 2, b"", b"usage\n"),
-        (&["lint", "M.fc"], HEADER, 2, b"", b"usage\n"),
-        (&["build", "-M.fc"], HEADER, 2, b"", b"usage\n"),
+        (
+            &["build", "C.fc", "M.fc"],
+            HEADER,
+            1,
+            b"",
+            b"refused 14 TooManyModules M.fc - -\n",
+        ),
+        (&["build"], HEADER, 2, b"", usage),
+        (&["build", "-M.fc"], HEADER, 2, b"", usage),
+        (
+            &["build", "--small", "10", "--grow", "5", "M.fc"],
+            HEADER,
+            2,
+            b"",
+            usage,
+        ),
+        (&["lint", "--ticks", "5", "M.fc"], HEADER, 2, b"", usage),
+        (&["why", "M.fc"], HEADER, 2, b"", usage),
+        (&["--help", "build"], HEADER, 2, b"", usage),
     ];
-    for (words, text, status, out, err) in cases {
-        let ran = run_over(&rt, alloc, words, text, &SOUND)?;
-        assert_eq!(rt; ran.status, status);
-        assert_eq!(rt; ran.out.bytes(), out);
-        assert_eq!(rt; ran.err.bytes(), err);
-    }
-    Ok(())
+    are_as_told(&rt, rt.alloc(), rows.as_slice())
 }
 
 /// Whether a name holds these bytes after a run, or nothing where none are given. Fails where that cannot be read.
@@ -130,146 +158,319 @@ fn empty_module_is_written(rt: HostRuntime) -> Result<(), Fail> {
     Ok(())
 }
 
-const REFUSED: &[u8] = b"refused 63 DefType M - -\n";
-
-const BAD_FORM: &[u8] = b"refused 3 BadForm M.fc - -\n";
-
-/// Builds each text, and compares the status and the line on the error stream.
-fn are_judged(rt: &impl Abort, alloc: Global, cases: &[(&[u8], u8, &[u8])]) -> Result<(), Fail> {
-    for case in cases {
-        let ran = run_over(rt, alloc, &["build", "M.fc"], case.0, &SOUND)?;
-        assert_eq!(rt; ran.status, case.1);
-        assert_eq!(rt; ran.err.bytes(), case.2);
+#[test]
+fn a_fault_of_form_stands_at_the_first_token_that_cannot_go_on(
+    rt: HostRuntime,
+) -> Result<(), Fail> {
+    let alloc = rt.alloc();
+    let cases: [(&[u8], u32); 22] = [
+        // a module name has no quote
+        (b"(module M' (imports) (exports))", 8),
+        // there is one module so far
+        (b"(module M (imports N) (exports))", 19),
+        // a definition has a lower name
+        (b"(module M (imports) (exports) (def X T 1#))", 35),
+        // a word of a form is no name
+        (b"(module M (imports) (exports) (def con T 1#))", 35),
+        // a type has an upper name
+        (b"(module M (imports) (exports) (data t ()))", 36),
+        // a field is a type
+        (
+            b"(module M (imports) (exports) (data T () (K () (con K))))",
+            48,
+        ),
+        // a form that is not built yet
+        (
+            b"(module M (imports) (exports) (def x T (letrec ((z T z)) z)))",
+            40,
+        ),
+        // no result
+        (b"(module M (imports) (exports) (def x (fun T) y))", 43),
+        // no argument
+        (b"(module M (imports) (exports) (def x T (app y)))", 45),
+        // no binder
+        (b"(module M (imports) (exports) (def x T (lam () y)))", 45),
+        // no type at a binder
+        (
+            b"(module M (imports) (exports) (def x T (lam ((y)) y)))",
+            47,
+        ),
+        // two right sides
+        (
+            b"(module M (imports) (exports) (def x T (let (y T z z) y)))",
+            51,
+        ),
+        // of a case, no binder
+        (
+            b"(module M (imports) (exports) (def f T (case k T (default k))))",
+            47,
+        ),
+        // no type of the binder
+        (
+            b"(module M (imports) (exports) (def f T (case k (y) T (default k))))",
+            49,
+        ),
+        // no type of the whole
+        (
+            b"(module M (imports) (exports) (def f T (case k (y T) (default k))))",
+            54,
+        ),
+        // of an alternative, no answer
+        (
+            b"(module M (imports) (exports) (def f T (case k (y T) T (default))))",
+            63,
+        ),
+        // two answers
+        (
+            b"(module M (imports) (exports) (def f T (case k (y T) T (default k k))))",
+            66,
+        ),
+        // no bracket for its binders
+        (
+            b"(module M (imports) (exports) (def f T (case k (y T) T (K k))))",
+            58,
+        ),
+        // a lower word
+        (
+            b"(module M (imports) (exports) (def f T (case k (y T) T (z () k))))",
+            56,
+        ),
+        // no word
+        (
+            b"(module M (imports) (exports) (def f T (case k (y T) T (() k))))",
+            56,
+        ),
+        // no bracket
+        (
+            b"(module M (imports) (exports) (def f T (case k (y T) T k)))",
+            55,
+        ),
+        // no end
+        (b"(module M (imports", 18),
+    ];
+    for (text, at) in cases {
+        let ran = run_over(&rt, alloc, &["lint", "M.fc"], text, &SOUND)?;
+        let line = format!(in alloc; "refused 3 BadForm M.fc - @{at}\n")?;
+        assert_eq!(rt; ran.err.bytes(), line.as_bytes());
+        assert_eq!(rt; ran.status, 1);
     }
     Ok(())
 }
 
 #[test]
-fn forms_are_judged(rt: HostRuntime) -> Result<(), Fail> {
+fn each_fault_has_its_number_and_place(rt: HostRuntime) -> Result<(), Fail> {
     let alloc = rt.alloc();
-    let cases: [(&[u8], u8, &[u8]); 26] = [
-        // the greatest literal, and one more
+    let cases: [(&[u8], &[u8]); 25] = [
+        // of bytes, form and limits
         (
-            b"(module M (imports) (exports Int f) (data Int () (I# () Int#)) (def f Int (con I# 9223372036854775807#)))",
-            0,
-            b"",
+            b"\x80(module M (imports) (exports))",
+            b"1 BadByte M.fc - @0",
         ),
         (
-            b"(module M (imports) (exports Int f) (data Int () (I# () Int#)) (def f Int (con I# 9223372036854775808#)))",
-            1,
-            BAD_FORM,
-        ),
-        (
-            b"(module M (imports) (exports) (data T () (K () Int#)) (def f T (con K -9223372036854775808#)))",
-            0,
-            b"",
-        ),
-        (b"(module M' (imports) (exports))", 1, BAD_FORM),
-        (b"(module M (imports N) (exports))", 1, BAD_FORM),
-        (b"(module M (imports) (exports) (def X T 1#))", 1, BAD_FORM),
-        (
-            b"(module M (imports) (exports) (def con T 1#))",
-            1,
-            BAD_FORM,
-        ),
-        (b"(module M (imports) (exports) (data t ()))", 1, BAD_FORM),
-        (
-            b"(module M (imports) (exports) (data T () (K () (con K))))",
-            1,
-            BAD_FORM,
-        ),
-        // a form that is not built yet
-        (
-            b"(module M (imports) (exports) (def x T (letrec ((z T z)) z)))",
-            1,
-            BAD_FORM,
-        ),
-        // no result, no argument, no binder, no type at a binder, two right sides
-        (
-            b"(module M (imports) (exports) (def x (fun T) y))",
-            1,
-            BAD_FORM,
-        ),
-        (
-            b"(module M (imports) (exports) (def x T (app y)))",
-            1,
-            BAD_FORM,
-        ),
-        (
-            b"(module M (imports) (exports) (def x T (lam () y)))",
-            1,
-            BAD_FORM,
-        ),
-        (
-            b"(module M (imports) (exports) (def x T (lam ((y)) y)))",
-            1,
-            BAD_FORM,
-        ),
-        (
-            b"(module M (imports) (exports) (def x T (let (y T z z) y)))",
-            1,
-            BAD_FORM,
-        ),
-        // of a case: no binder, no type of the binder, no type of the whole; of an alternative: no answer, two, no bracket for its
-        // binders, a lower word, no word, no bracket
-        (
-            b"(module M (imports) (exports) (def f T (case k T (default k))))",
-            1,
-            BAD_FORM,
-        ),
-        (
-            b"(module M (imports) (exports) (def f T (case k (y) T (default k))))",
-            1,
-            BAD_FORM,
-        ),
-        (
-            b"(module M (imports) (exports) (def f T (case k (y T) (default k))))",
-            1,
-            BAD_FORM,
-        ),
-        (
-            b"(module M (imports) (exports) (def f T (case k (y T) T (default))))",
-            1,
-            BAD_FORM,
-        ),
-        (
-            b"(module M (imports) (exports) (def f T (case k (y T) T (default k k))))",
-            1,
-            BAD_FORM,
-        ),
-        (
-            b"(module M (imports) (exports) (def f T (case k (y T) T (K k))))",
-            1,
-            BAD_FORM,
-        ),
-        (
-            b"(module M (imports) (exports) (def f T (case k (y T) T (z () k))))",
-            1,
-            BAD_FORM,
-        ),
-        (
-            b"(module M (imports) (exports) (def f T (case k (y T) T (() k))))",
-            1,
-            BAD_FORM,
-        ),
-        (
-            b"(module M (imports) (exports) (def f T (case k (y T) T k)))",
-            1,
-            BAD_FORM,
-        ),
-        // sixteen fields, and one more
-        (
-            b"(module M (imports) (exports) (data T () (K () T T T T T T T T T T T T T T T T)))",
-            0,
-            b"",
+            b"(module M (imports) (exports) 'a)",
+            b"2 BadToken M.fc - @30",
         ),
         (
             b"(module M (imports) (exports) (data T () (K () T T T T T T T T T T T T T T T T T)))",
-            1,
-            BAD_FORM,
+            b"6 TooMany M.fc - @30",
+        ),
+        (
+            b"(module M (imports) (exports Int f) (data Int () (I# () Int#)) (def f Int (con I# 9223372036854775808#)))",
+            b"7 LiteralRange M.fc - @82",
+        ),
+        // of names
+        (
+            b"(module M (imports) (exports) (data Int () (I# () Int#)) (def f Int x))",
+            b"20 Unbound M f 1",
+        ),
+        (
+            b"(module M (imports) (exports) (data Int () (I# () Zz)))",
+            b"20 Unbound M Int 0.0",
+        ),
+        (
+            b"(module M (imports) (exports) (data T ()) (def f T f) (def f T f))",
+            b"21 Duplicate M f -",
+        ),
+        (
+            b"(module M (imports) (exports) (data T () (K ()) (K ())))",
+            b"21 Duplicate M T 1",
+        ),
+        (
+            b"(module M (imports) (exports f))",
+            b"23 ExportUnknown M - -",
+        ),
+        (
+            b"(module M (imports) (exports) (hidden K))",
+            b"23 ExportUnknown M - -",
+        ),
+        // of terms
+        (
+            b"(module M (imports) (exports) (data Int () (I# () Int#)) (def f Int (con I# f)))",
+            b"50 ArgType M f 1",
+        ),
+        (
+            b"(module M (imports) (exports) (data Int () (I# () Int#)) (def f Int (app f f)))",
+            b"51 NotFunction M f 1",
+        ),
+        (
+            b"(module M (imports) (exports) (data Int () (I# () Int#)) (def f Int (let (n Int# (case f (m Int) Int# (I# ((k Int#)) k))) (con I# n))))",
+            b"53 UnliftedNotAtom M f 1.0",
+        ),
+        (
+            b"(module M (imports) (exports) (data Int () (I# () Int#)) (def f Int (case 0# (x Int#) Int (default x))))",
+            b"55 AltType M f 1.3",
+        ),
+        (
+            b"(module M (imports) (exports) (data Int () (I# () Int#)) (def f Int (case 0# (x Int#) Int (1# f) (0# f))))",
+            b"56 AltOrder M f 1.4",
+        ),
+        (
+            b"(module M (imports) (exports) (data Int () (I# () Int#)) (data U () (V ())) (def f Int (case f (x Int) Int (V () f))))",
+            b"57 AltConstructor M f 1.3",
+        ),
+        (
+            b"(module M (imports) (exports) (data Int () (I# () Int#)) (def f Int (con I#)))",
+            b"58 ConArity M f 1",
+        ),
+        (
+            b"(module M (imports) (exports) (data Int () (I# () Int#)) (def f Int (case f (x Int#) Int (default f))))",
+            b"59 ScrutineeType M f 1",
+        ),
+        (
+            b"(module M (imports) (exports) (data Int () (I# () Int#)) (def f Int 0#))",
+            b"63 DefType M f -",
+        ),
+        (
+            b"(module M (imports) (exports) (data Int () (I# () Int#)) (def f Int (let (x Int 0#) x)))",
+            b"64 LetType M f 1.0",
+        ),
+        (
+            b"(module M (imports) (exports) (data Int () (I# () Int#)) (def f Int (case f (x Int) Int (0# x))))",
+            b"66 LitAlt M f 1.3",
+        ),
+        (
+            b"(module M (imports) (exports) (def f Int# 0#))",
+            b"67 UnliftedTop M f -",
+        ),
+        // the first of several: bytes before form, form before names, names before exports, exports before types
+        (
+            b"(module M (imports) (imports) \x80)",
+            b"1 BadByte M.fc - @30",
+        ),
+        (
+            b"(module M (imports) (exports zz) (def f T f))",
+            b"20 Unbound M f 0",
+        ),
+        (
+            b"(module M (imports) (exports zz) (def f Int# 0#))",
+            b"23 ExportUnknown M - -",
         ),
     ];
-    are_judged(&rt, alloc, cases.as_slice())
+    for (text, fault) in cases {
+        let ran = run_over(&rt, alloc, &["lint", "M.fc"], text, &SOUND)?;
+        let mut line = Vec::from_slice(alloc, b"refused ")?;
+        line.extend_from_slice(fault)?;
+        line.push(b'\n')?;
+        assert_eq!(rt; ran.err.bytes(), line.as_slice());
+        assert_eq!(rt; ran.status, 1);
+        assert_eq!(rt; ran.out.bytes(), b"".as_slice());
+    }
+    Ok(())
+}
+
+#[test]
+fn the_greatest_literals_and_counts_are_accepted(rt: HostRuntime) -> Result<(), Fail> {
+    let lint: &[&str] = &["lint", "M.fc"];
+    let ok: &[u8] = b"ok M\n";
+    let rows: [Row<'_>; 3] = [
+        (
+            lint,
+            b"(module M (imports) (exports Int f) (data Int () (I# () Int#)) (def f Int (con I# 9223372036854775807#)))",
+            0,
+            ok,
+            b"",
+        ),
+        (
+            lint,
+            b"(module M (imports) (exports) (data T () (K () Int#)) (def f T (con K -9223372036854775808#)))",
+            0,
+            ok,
+            b"",
+        ),
+        // sixteen fields
+        (
+            lint,
+            b"(module M (imports) (exports) (data T () (K () T T T T T T T T T T T T T T T T)))",
+            0,
+            ok,
+            b"",
+        ),
+    ];
+    are_as_told(&rt, rt.alloc(), rows.as_slice())
+}
+
+#[test]
+fn six_hundred_arguments_of_a_function_type_are_too_deep(rt: HostRuntime) -> Result<(), Fail> {
+    let alloc = rt.alloc();
+    let mut text = Vec::from_slice(alloc, b"(module M (imports) (exports) (def f (fun")?;
+    for _ in 0..600 {
+        text.extend_from_slice(b" Int#")?;
+    }
+    text.extend_from_slice(b") 0#))")?;
+    let row: Row<'_> = (
+        &["build", "M.fc"],
+        &text,
+        1,
+        b"",
+        b"refused 4 TooDeep M.fc - @30\n",
+    );
+    are_as_told(&rt, alloc, &[row])
+}
+
+#[test]
+fn a_byte_more_than_a_file_may_have_is_too_long(rt: HostRuntime) -> Result<(), Fail> {
+    let alloc = rt.alloc();
+    let mut text = vec![in alloc; b' '; MOST as usize]?;
+    let form: Row<'_> = (
+        &["build", "M.fc"],
+        &text,
+        1,
+        b"",
+        b"refused 3 BadForm M.fc - @4194304\n",
+    );
+    are_as_told(&rt, alloc, &[form])?;
+    text.push(b' ')?;
+    let long: Row<'_> = (
+        &["build", "M.fc"],
+        &text,
+        1,
+        b"",
+        b"refused 5 TooLong M.fc - @4194304\n",
+    );
+    are_as_told(&rt, alloc, &[long])
+}
+
+#[test]
+fn lint_writes_no_file(rt: HostRuntime) -> Result<(), Fail> {
+    let alloc = rt.alloc();
+    let mut ran = run_over(&rt, alloc, &["lint", "M.fc"], HEADER, &SOUND)?;
+    assert_eq!(rt; ran.status, 0);
+    assert!(rt; holds(alloc, &mut ran, "./M.opt.fc", None)?);
+    assert!(rt; holds(alloc, &mut ran, "./M.fci", None)?);
+    Ok(())
+}
+
+#[test]
+fn a_prefix_stands_before_the_names_of_files(rt: HostRuntime) -> Result<(), Fail> {
+    let alloc = rt.alloc();
+    let words: &[&str] = &["build", "--out", "made/x-", "M.fc"];
+    let mut ran = run_over(&rt, alloc, words, HEADER, &SOUND)?;
+    let core: &[u8] = b"(module M (imports) (exports))\n";
+    assert!(rt; holds(alloc, &mut ran, "made/x-M.opt.fc", Some(core))?);
+    let interface: &[u8] = b"(interface 1 M (imports) (exports))\n";
+    assert!(rt; holds(alloc, &mut ran, "made/x-M.fci", Some(interface))?);
+    assert!(rt; holds(alloc, &mut ran, "./M.opt.fc", None)?);
+    Ok(())
 }
 
 #[test]

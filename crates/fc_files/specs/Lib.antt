@@ -4,3 +4,5 @@ pub mod Counts
 pub mod Calls
 pub mod Streams
 pub mod Host
+pub mod Answers
+pub mod Transfers

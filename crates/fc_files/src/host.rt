@@ -1,20 +1,24 @@
 // The real files and streams.
-ghost use Rattle.std.specs.Prelude.{◌≡◌, ◌≤◌, ◌+◌, None, Some, IfSome, OnOk};
+ghost use Rattle.std.specs.Prelude.{◌≡◌, ◌≤◌, None};
 ghost use Rattle.std.specs.Io.KnownBytes.{Appends};
-ghost use Rattle.fc_files.specs.Outside.{IsWithin, Reads, Rose};
+ghost use Rattle.fc_files.specs.Outside.{IsWithin, Rose};
 ghost use Rattle.fc_files.specs.Counts.{count_after_put, count_after_read, count_after_write};
 ghost use Rattle.fc_files.specs.Host.{writer_of};
+ghost use Rattle.fc_files.specs.Transfers.{AppendsPart, IsFromFile, IsInFile};
 
+use crate::transfers::{put_into, read_opened, write_opened};
 use crate::{Files, MOST, PutAnswer, ReadAnswer, Sink, WriteAnswer};
 use std::alloc::Global;
-use std::io::{ErrorKind, Read, Write};
-use std::{fs, io};
+use std::fs;
+use std::io::Write;
 
 /// The files of the system, each named by its path.
 ///
 /// It tells nothing of what they hold. A read takes at most one byte more than was asked for. A
-/// path at which there is nothing is `Absent`, and every other error is `Failed` and counted, but
-/// want of memory for the bytes. A write makes the file anew, and creates no folder.
+/// path at which there is nothing is `Absent`; an error after the file was opened never is. Where
+/// the system answers a read or a write with out of memory, that is `Memory` and no fault of the
+/// device. Every other error is `Failed` and counted. A write makes the file anew, creates no
+/// folder, and writes its bytes once and in order, up to the first error.
 #[derive(Drop)]
 pub struct HostFiles<R> {
     rt: R,
@@ -24,65 +28,13 @@ pub struct HostFiles<R> {
 
 /// A stream of the system, as standard output.
 ///
-/// It tells nothing of what it has taken. Each piece goes through any buffer of the writer before
-/// its put answers, and every error is `Failed` and counted.
+/// It tells nothing of what it has taken. Each piece is written once and in order, up to the first
+/// error, and goes through any buffer of the writer before its put answers. Every error is `Failed`
+/// and counted, out of memory too, since a put has no other answer.
 #[derive(Drop)]
 pub struct HostSink<W> {
     to: W,
     faults: u64,
-}
-
-// The bytes of an open file up to its end. At most one byte more than `most` is taken from it.
-fn read_all<F: Read + Drop>(alloc: Global, file: F, most: u64) -> ReadAnswer
-    requires { most ≤ MOST }
-    ensures within { IsWithin result most }
-    ensures bytes { IfSome (F.remaining file) (λ left. Reads (Some left) most result) }
-{
-    let mut bytes = Vec::new(alloc);
-    match file.take(most + 1).read_to_end(&mut bytes) {
-        Ok(_) => {
-            if bytes.len() as u64 > most {
-                return ReadAnswer::TooLong;
-            }
-            ReadAnswer::Ok(bytes)
-        }
-        Err(error) => {
-            if error.kind() == ErrorKind::OutOfMemory {
-                return ReadAnswer::Memory;
-            }
-            ReadAnswer::Failed
-        }
-    }
-}
-
-// The bytes of the file at this path.
-fn read_file<R: std::rt::Files>(rt: &R, alloc: Global, name: &str, most: u64) -> ReadAnswer
-    requires { most ≤ MOST }
-    ensures { IsWithin result most }
-{
-    match fs::open(rt, name) {
-        Ok(file) => read_all(alloc, file, most),
-        Err(error) => {
-            if error.kind() == ErrorKind::NotFound {
-                return ReadAnswer::Absent;
-            }
-            ReadAnswer::Failed
-        }
-    }
-}
-
-// Writes all bytes, through any buffer on the way, so that a fault shows now and not later.
-fn write_through<W: Write>(to: &mut W, bytes: &[u8]) -> io::Result<()>
-    ensures { OnOk result (Appends (W.contents to.old) (W.contents to.new) bytes.now) }
-{
-    to.write_all(bytes)?;
-    to.flush()
-}
-
-// Makes the file anew with these bytes.
-fn write_file<R: std::rt::Files>(rt: &R, name: &str, bytes: &[u8]) -> io::Result<()> {
-    let mut file = fs::create(rt, name)?;
-    write_through(&mut file, bytes)
 }
 
 impl<R: std::rt::Files> HostFiles<R> {
@@ -96,6 +48,20 @@ impl<R: std::rt::Files> HostFiles<R> {
             read_faults: 0,
             write_faults: 0,
         }
+    }
+
+    /// How many reads have failed, up to 2^64 - 1.
+    pub fn read_faults(&self) -> u64
+        ensures { result ≡ ⟦<Self as Files>⟧.read_faults self.now }
+    {
+        self.read_faults
+    }
+
+    /// How many writes have failed, up to 2^64 - 1.
+    pub fn write_faults(&self) -> u64
+        ensures { result ≡ ⟦<Self as Files>⟧.write_faults self.now }
+    {
+        self.write_faults
     }
 }
 
@@ -116,19 +82,16 @@ impl<R: std::rt::Files> Files for HostFiles<R> {
         ensures cause { result ≡ ReadAnswer.Failed
             → Rose (⟦<Self as Files>⟧.read_faults self.old) (⟦<Self as Files>⟧.read_faults self.new) }
 
+        // Bytes are those of a file that was opened, where it tells what it has.
+        ensures from_file { IsFromFile R.File.remaining most result }
         ensures count { ⟦<Self as Files>⟧.read_faults self.new
             ≡ count_after_read result (⟦<Self as Files>⟧.read_faults self.old) }
     {
-        match read_file(&self.rt, alloc, name, most) {
-            ReadAnswer::Ok(bytes) => ReadAnswer::Ok(bytes),
-            ReadAnswer::Absent => ReadAnswer::Absent,
-            ReadAnswer::TooLong => ReadAnswer::TooLong,
-            ReadAnswer::Memory => ReadAnswer::Memory,
-            ReadAnswer::Failed => {
-                self.read_faults = self.read_faults.saturating_add(1);
-                ReadAnswer::Failed
-            }
+        let answer = read_opened(alloc, fs::open(&self.rt, name), most);
+        if matches!(answer, ReadAnswer::Failed) {
+            self.read_faults = self.read_faults.saturating_add(1);
         }
+        answer
     }
 
     fn write(&mut self, _alloc: Global, name: &str, bytes: &[u8]) -> WriteAnswer
@@ -139,16 +102,16 @@ impl<R: std::rt::Files> Files for HostFiles<R> {
         ensures cause { result ≡ WriteAnswer.Failed
             → Rose (⟦<Self as Files>⟧.write_faults self.old) (⟦<Self as Files>⟧.write_faults self.new) }
 
+        // All bytes went into a file that was opened, where it tells what it holds.
+        ensures in_file { result ≡ WriteAnswer.Ok → IsInFile R.File.contents bytes.now }
         ensures count { ⟦<Self as Files>⟧.write_faults self.new
             ≡ count_after_write result (⟦<Self as Files>⟧.write_faults self.old) }
     {
-        match write_file(&self.rt, name, bytes) {
-            Ok(()) => WriteAnswer::Ok,
-            Err(_) => {
-                self.write_faults = self.write_faults.saturating_add(1);
-                WriteAnswer::Failed
-            }
+        let answer = write_opened(&mut fs::create(&self.rt, name), bytes);
+        if answer == WriteAnswer::Failed {
+            self.write_faults = self.write_faults.saturating_add(1);
         }
+        answer
     }
 }
 
@@ -159,6 +122,13 @@ impl<W: Write> HostSink<W> {
         ensures to { writer_of result ≡ to }
     {
         HostSink { to, faults: 0 }
+    }
+
+    /// How many puts have failed, up to 2^64 - 1.
+    pub fn faults(&self) -> u64
+        ensures { result ≡ ⟦<Self as Sink>⟧.faults self.now }
+    {
+        self.faults
     }
 }
 
@@ -172,18 +142,19 @@ impl<W: Write> Sink for HostSink<W> {
         ensures cause { result ≡ PutAnswer.Failed
             → Rose (⟦<Self as Sink>⟧.faults self.old) (⟦<Self as Sink>⟧.faults self.new) }
 
-        // What the writer holds grows by the piece, where the writer tells it.
+        // What the writer holds grows by the piece, or where the put failed by a part from its
+        // front, where the writer tells it.
         ensures written { result ≡ PutAnswer.Ok
             → Appends (W.contents (writer_of self.old)) (W.contents (writer_of self.new)) bytes.now }
+        ensures part { AppendsPart (W.contents (writer_of self.old))
+            (W.contents (writer_of self.new)) bytes.now }
         ensures count { ⟦<Self as Sink>⟧.faults self.new
             ≡ count_after_put result (⟦<Self as Sink>⟧.faults self.old) }
     {
-        match write_through(&mut self.to, bytes) {
-            Ok(()) => PutAnswer::Ok,
-            Err(_) => {
-                self.faults = self.faults.saturating_add(1);
-                PutAnswer::Failed
-            }
+        let answer = put_into(&mut self.to, bytes);
+        if answer == PutAnswer::Failed {
+            self.faults = self.faults.saturating_add(1);
         }
+        answer
     }
 }

@@ -7,15 +7,17 @@
 //! real files and streams: what a real file holds is not claimed.
 //!
 //! A call that cannot be done answers `Failed`, and then its count of faults rose in that call, or
-//! stands at its last value, 2^64 - 1. Counts never fall. Want of memory may be answered by every
+//! stands at its last value, 2^64 - 1. Counts never fall. Out of memory may be answered by every
 //! call that takes an allocator, and is counted nowhere.
 #![tactic(auto)]
 
+mod answers;
 mod entries;
 mod host;
 mod mem_files;
 mod numbered;
 mod sinks;
+mod transfers;
 
 ghost use Rattle.std.specs.Prelude.{◌≡◌, ◌≤◌, List, ℕ, Option, IfSome};
 ghost use Rattle.fc_files.specs.Outside.{FileMap, IsWithin, Reads, Rose, Takes, Told, Writes};

@@ -1,11 +1,9 @@
-//! Each implementation once, through its trait.
+//! The files and streams in memory, each once, through its trait.
 use fc_files::{
-    CountSink, Files, HostFiles, HostSink, MOST, MemFiles, MemSink, PutAnswer, ReadAnswer, Sink,
-    SureFiles, WriteAnswer, has_distinct_names,
+    CountSink, Files, MOST, MemFiles, MemSink, PutAnswer, ReadAnswer, Sink, SureFiles, WriteAnswer,
+    has_distinct_names,
 };
 use std::alloc::{AllocError, Global};
-use std::fs;
-use std::io::BufWriter;
 use std::process::Abort;
 use std::test::Fail;
 
@@ -76,7 +74,7 @@ fn names_hold_what_was_written(rt: HostRuntime) -> Result<(), Fail> {
 }
 
 /// Gives the pieces to a stream, in turn, each with the answer that is wanted.
-fn give<S: Sink>(rt: &impl Abort, sink: &mut S, pieces: &[(&[u8], PutAnswer)]) {
+pub fn give<S: Sink>(rt: &impl Abort, sink: &mut S, pieces: &[(&[u8], PutAnswer)]) {
     for (piece, want) in pieces {
         assert_eq!(rt; sink.put(*piece), *want);
     }
@@ -107,33 +105,4 @@ fn bytes_are_counted(rt: HostRuntime) {
         &[(b"ab", PutAnswer::Ok), (b"cde", PutAnswer::Ok)],
     );
     assert_eq!(rt; sink.count(), 5);
-}
-
-/// Goes through the answers of files below a folder that may be written.
-fn tour<F: Files>(files: &mut F, alloc: Global, rt: &impl Abort) {
-    assert!(rt; matches!(files.read(alloc, "absent", 4), ReadAnswer::Absent));
-    assert!(rt; gave(&files.read(alloc, ".", 4), None));
-    assert!(rt; gave(&store(files, alloc, "kept", b"kept").1, Some(b"kept")));
-    assert!(rt; matches!(files.read(alloc, "kept", 3), ReadAnswer::TooLong));
-    assert!(rt; files.write(alloc, "kept/below", b"") == WriteAnswer::Failed);
-}
-
-#[test]
-fn real_files_answer(rt: HostRuntime) -> Result<(), Fail> {
-    let mut files = HostFiles::new(&rt);
-    tour(&mut files, rt.alloc(), &rt);
-    fs::remove_file(&rt, "kept")?;
-    Ok(())
-}
-
-#[test]
-fn a_buffer_hides_no_fault(rt: HostRuntime) -> Result<(), Fail> {
-    let mut room = [0; 5];
-    let mut sink = HostSink::new(BufWriter::new(rt.alloc(), room.as_mut_slice())?);
-    give(
-        &rt,
-        &mut sink,
-        &[(b"kept", PutAnswer::Ok), (b"kept", PutAnswer::Failed)],
-    );
-    Ok(())
 }

@@ -1,5 +1,5 @@
--- The number of each fault.
-use Rattle.std.specs.Prelude.{ℕ}
+-- The number and the word of each fault.
+use Rattle.std.specs.Prelude.{ℕ, List, codes}
 use Rattle.fc_syntax.specs.declared.fault.FaultKind.{FaultKind}
 use Rattle.fc_syntax.specs.declared.fault.FaultKind.TheVariants as kind
 
@@ -51,3 +51,51 @@ fault_number kind.LetType = 64
 fault_number kind.PrimArity = 65
 fault_number kind.LitAlt = 66
 fault_number kind.UnliftedTop = 67
+
+-- the word of a fault is the name of its variant
+abbrev pub fault_word : FaultKind → List ℕ
+fault_word kind.BadByte = codes "BadByte"
+fault_word kind.BadToken = codes "BadToken"
+fault_word kind.BadForm = codes "BadForm"
+fault_word kind.TooDeep = codes "TooDeep"
+fault_word kind.TooLong = codes "TooLong"
+fault_word kind.TooMany = codes "TooMany"
+fault_word kind.LiteralRange = codes "LiteralRange"
+fault_word kind.Missing = codes "Missing"
+fault_word kind.DuplicateModule = codes "DuplicateModule"
+fault_word kind.ImportUnknown = codes "ImportUnknown"
+fault_word kind.ImportCycle = codes "ImportCycle"
+fault_word kind.TooManyModules = codes "TooManyModules"
+fault_word kind.Unbound = codes "Unbound"
+fault_word kind.Duplicate = codes "Duplicate"
+fault_word kind.NotExported = codes "NotExported"
+fault_word kind.ExportUnknown = codes "ExportUnknown"
+fault_word kind.KindMismatch = codes "KindMismatch"
+fault_word kind.NotAType = codes "NotAType"
+fault_word kind.FamilyArity = codes "FamilyArity"
+fault_word kind.UnliftedVariable = codes "UnliftedVariable"
+fault_word kind.RoleTooWeak = codes "RoleTooWeak"
+fault_word kind.EndsDiffer = codes "EndsDiffer"
+fault_word kind.RoleWrong = codes "RoleWrong"
+fault_word kind.NotInjective = codes "NotInjective"
+fault_word kind.NthRange = codes "NthRange"
+fault_word kind.AxiomArity = codes "AxiomArity"
+fault_word kind.KindsDiffer = codes "KindsDiffer"
+fault_word kind.ArgType = codes "ArgType"
+fault_word kind.NotFunction = codes "NotFunction"
+fault_word kind.NotForall = codes "NotForall"
+fault_word kind.UnliftedNotAtom = codes "UnliftedNotAtom"
+fault_word kind.CastFrom = codes "CastFrom"
+fault_word kind.AltType = codes "AltType"
+fault_word kind.AltOrder = codes "AltOrder"
+fault_word kind.AltConstructor = codes "AltConstructor"
+fault_word kind.ConArity = codes "ConArity"
+fault_word kind.ScrutineeType = codes "ScrutineeType"
+fault_word kind.JumpNotTail = codes "JumpNotTail"
+fault_word kind.JumpArity = codes "JumpArity"
+fault_word kind.EscapingType = codes "EscapingType"
+fault_word kind.DefType = codes "DefType"
+fault_word kind.LetType = codes "LetType"
+fault_word kind.PrimArity = codes "PrimArity"
+fault_word kind.LitAlt = codes "LitAlt"
+fault_word kind.UnliftedTop = codes "UnliftedTop"

@@ -1,7 +1,7 @@
 //! Want of memory, and faults with their places.
 ghost use Rattle.std.specs.Prelude.{◌≡◌};
 ghost use Rattle.fc_syntax.specs.declared.fault.Refusal.TheVariants.{Memory as refused_memory};
-ghost use Rattle.fc_syntax.specs.Faults.{fault_number};
+ghost use Rattle.fc_syntax.specs.Faults.{fault_number, fault_word};
 
 use crate::seq::Seq;
 use crate::text::Text;
@@ -182,6 +182,59 @@ impl FaultKind {
             FaultKind::PrimArity => 65,
             FaultKind::LitAlt => 66,
             FaultKind::UnliftedTop => 67,
+        }
+    }
+
+    /// The word of the fault, as it stands in the line of a refusal: the name of its variant. Takes no memory.
+    pub fn word(&self) -> &'static str
+        ensures { result.now ≡ fault_word self.now }
+    {
+        match self {
+            FaultKind::BadByte => "BadByte",
+            FaultKind::BadToken => "BadToken",
+            FaultKind::BadForm => "BadForm",
+            FaultKind::TooDeep => "TooDeep",
+            FaultKind::TooLong => "TooLong",
+            FaultKind::TooMany => "TooMany",
+            FaultKind::LiteralRange => "LiteralRange",
+            FaultKind::Missing => "Missing",
+            FaultKind::DuplicateModule => "DuplicateModule",
+            FaultKind::ImportUnknown => "ImportUnknown",
+            FaultKind::ImportCycle => "ImportCycle",
+            FaultKind::TooManyModules => "TooManyModules",
+            FaultKind::Unbound => "Unbound",
+            FaultKind::Duplicate => "Duplicate",
+            FaultKind::NotExported => "NotExported",
+            FaultKind::ExportUnknown => "ExportUnknown",
+            FaultKind::KindMismatch => "KindMismatch",
+            FaultKind::NotAType => "NotAType",
+            FaultKind::FamilyArity => "FamilyArity",
+            FaultKind::UnliftedVariable => "UnliftedVariable",
+            FaultKind::RoleTooWeak => "RoleTooWeak",
+            FaultKind::EndsDiffer => "EndsDiffer",
+            FaultKind::RoleWrong => "RoleWrong",
+            FaultKind::NotInjective => "NotInjective",
+            FaultKind::NthRange => "NthRange",
+            FaultKind::AxiomArity => "AxiomArity",
+            FaultKind::KindsDiffer => "KindsDiffer",
+            FaultKind::ArgType => "ArgType",
+            FaultKind::NotFunction => "NotFunction",
+            FaultKind::NotForall => "NotForall",
+            FaultKind::UnliftedNotAtom => "UnliftedNotAtom",
+            FaultKind::CastFrom => "CastFrom",
+            FaultKind::AltType => "AltType",
+            FaultKind::AltOrder => "AltOrder",
+            FaultKind::AltConstructor => "AltConstructor",
+            FaultKind::ConArity => "ConArity",
+            FaultKind::ScrutineeType => "ScrutineeType",
+            FaultKind::JumpNotTail => "JumpNotTail",
+            FaultKind::JumpArity => "JumpArity",
+            FaultKind::EscapingType => "EscapingType",
+            FaultKind::DefType => "DefType",
+            FaultKind::LetType => "LetType",
+            FaultKind::PrimArity => "PrimArity",
+            FaultKind::LitAlt => "LitAlt",
+            FaultKind::UnliftedTop => "UnliftedTop",
         }
     }
 }

@@ -1,5 +1,5 @@
 //! Each call on files and each put on a stream that fails, one at a time and together, and streams that take too little.
-use super::{BAD_FORM, Devices, HEADER, SOUND, holds, run_over};
+use super::{Devices, HEADER, SOUND, holds, run_over};
 use std::alloc::Global;
 use std::process::Abort;
 use std::test::Fail;
@@ -7,6 +7,9 @@ use std::test::Fail;
 const CORE: &[u8] = b"(module M (imports) (exports))\n";
 
 const INTERFACE: &[u8] = b"(interface 1 M (imports) (exports))\n";
+
+/// The line for a file that is one bracket.
+const REFUSED: &[u8] = b"refused 3 BadForm M.fc - @1\n";
 
 /// A run: its devices, the text of the file, the status, the two streams, and how many files were written.
 type Row<'a> = (Devices<'a>, &'a [u8], u8, &'a [u8], &'a [u8], usize);
@@ -68,17 +71,17 @@ fn files_that_fail_are_told(rt: HostRuntime) -> Result<(), Fail> {
 #[test]
 fn an_output_that_fails_is_told(rt: HostRuntime) -> Result<(), Fail> {
     let alloc = rt.alloc();
-    let rows: [Row<'_>; 8] = [
+    let rows: [Row<'_>; 7] = [
         (out(&[1], 100), HEADER, 4, b"", b"write fault -\n", 2),
-        (out(&[2], 100), HEADER, 4, b"built ", b"write fault -\n", 2),
-        (out(&[3], 100), HEADER, 4, b"built M", b"write fault -\n", 2),
+        // there is one put
+        (out(&[2], 100), HEADER, 0, b"built M\n", b"", 2),
         // it takes what fits
         (out(&[], 0), HEADER, 4, b"", b"write fault -\n", 2),
         (out(&[], 5), HEADER, 4, b"built", b"write fault -\n", 2),
         (out(&[], 7), HEADER, 4, b"built M", b"write fault -\n", 2),
         (out(&[], 8), HEADER, 0, b"built M\n", b"", 2),
         // nothing is put where the file is refused
-        (out(&[1], 0), b"(", 1, b"", BAD_FORM, 0),
+        (out(&[1], 0), b"(", 1, b"", REFUSED, 0),
     ];
     for row in &rows {
         is_as_told(&rt, alloc, row)?;
@@ -98,14 +101,8 @@ fn an_error_stream_that_fails_changes_no_status(rt: HostRuntime) -> Result<(), F
         (err(&[3], &[2], 100), HEADER, 4, b"", b"write fault ", 1),
         (err(&[3], &[], 14), HEADER, 4, b"", b"write fault ./", 1),
         (err(&[], &[1], 100), b"(", 1, b"", b"", 0),
-        (
-            err(&[], &[3], 100),
-            b"(",
-            1,
-            b"",
-            b"refused 3 BadForm M.fc",
-            0,
-        ),
+        // there is one put
+        (err(&[], &[2], 100), b"(", 1, b"", REFUSED, 0),
         (err(&[], &[], 10), b"(", 1, b"", b"refused 3 ", 0),
         // nothing is put there where all is well
         (err(&[], &[1], 0), HEADER, 0, b"built M\n", b"", 2),

@@ -1,47 +1,37 @@
-use Rattle.std.proofs.Common.{rules}
-use Rattle.fc_syntax.specs.View.{module_of}
-use Rattle.fc_model.specs.Acceptance.{bad_form, def_type}
-use Rattle.fc_build.specs.Words.{texts}
-use Rattle.fc_build.specs.Lines.{Gets}
-use Rattle.fc_build.specs.Product.{built_line}
-use Rattle.fc_build.proofs.RunLemmas.{done, memory_at, no_fault, not_accepted, put_failed, refused, stopped_at}
+use Rattle.std.proofs.Common.{◌≡◌, ◌∙◌, None, sym, rules}
+use Rattle.fc_words.specs.Asking.{asked, texts}
+use Rattle.fc_words.proofs.PlainWords.{plain_is_asked}
+use Rattle.fc_build.proofs.RunLemmas.{delivered_done, delivered_lint, delivered_memory, delivered_write_fault, product_has_no_fault, stop_complete}
 use Rattle.fc_build.proofs.top.run.Goals as goal
 
-pub returns-in-BadForm-clause-complete : goal.returns-in-BadForm-clause-complete
-returns-in-BadForm-clause-complete g c f ask _ _ _ = not_accepted (texts c.args.words.now) c.in-Some.file.now bad_form _ _ c.in-Some.ensures.some c.in-BadForm.ensures.answer f ask
+pub returns-in-Err-clause-plain : goal.returns-in-Err-clause-plain
+returns-in-Err-clause-plain g c plain is =
+    let none : asked (texts c.args.words.now) ≡ None = search rules in
+    plain_is_asked (texts c.args.words.now) plain none
 
-pub returns-in-DefType-clause-refused : goal.returns-in-DefType-clause-refused
-returns-in-DefType-clause-refused g c _ = refused (texts c.args.words.now) c.in-Some.file.now (def_type (module_of c.in-DefType.input)) _ _ _ _ _ c.in-Some.ensures.some c.in-DefType.ensures.answer (search rules)
+pub returns-in-Err-clause-complete : goal.returns-in-Err-clause-complete
+returns-in-Err-clause-complete g c a asks reads writes puts = stop_complete (texts c.args.words.now) _ _ _ c.in-Err.stop c.tell_stop.result c.tell_stop.ensures.status c.in-Err.ensures.answer a asks reads
 
-pub returns-in-DefType-clause-complete : goal.returns-in-DefType-clause-complete
-returns-in-DefType-clause-complete g c f ask _ _ _ = not_accepted (texts c.args.words.now) c.in-Some.file.now (def_type (module_of c.in-DefType.input)) _ _ c.in-Some.ensures.some c.in-DefType.ensures.answer f ask
-
-pub returns-in-FailedAt-clause-write_fault : goal.returns-in-FailedAt-clause-write_fault
-returns-in-FailedAt-clause-write_fault g c _ =
-    stopped_at (texts c.args.words.now) c.in-Some.file.now (module_of c.in-Accepted.input) c.in-FailedAt.name.now _ _ _ _ _ _ _ _ _ _ _ _ _
-    c.in-Some.ensures.some c.in-Accepted.ensures.answer c.in-Accepted.ensures.held c.in-Accepted.ensures.writes c.in-Ok.ensures c.in-FailedAt.ensures.writes c.tell-in-FailedAt.ensures.line
-
-pub returns-in-FailedAt-clause-complete_refused : goal.returns-in-FailedAt-clause-complete_refused
-returns-in-FailedAt-clause-complete_refused g c f ask _ = no_fault (texts c.args.words.now) c.in-Some.file.now (module_of c.in-Accepted.input) _ _ c.in-Some.ensures.some c.in-Accepted.ensures.answer f ask
-
-pub returns-in-Memory-write_all-clause-memory : goal.returns-in-Memory-write_all-clause-memory
-returns-in-Memory-write_all-clause-memory g c _ =
-    memory_at (texts c.args.words.now) c.in-Some.file.now (module_of c.in-Accepted.input) _ _ _ _ _ _ _ _ _
-    c.in-Some.ensures.some c.in-Accepted.ensures.answer c.in-Accepted.ensures.held c.in-Ok.ensures c.in-Memory-write_all.ensures.writes c.tell-in-Memory-write_all.ensures.line
-
-pub returns-then-tell-clause-done : goal.returns-then-tell-clause-done
-returns-then-tell-clause-done g c _ =
-    done (texts c.args.words.now) c.in-Some.file.now (module_of c.in-Accepted.input) _ _ _ _ _ _
-    c.in-Some.ensures.some c.in-Accepted.ensures.answer c.in-Accepted.ensures.ready c.in-Accepted.ensures.held c.in-Ok.ensures c.in-All.ensures.writes (search rules)
-
-pub returns-then-tell-clause-complete_refused : goal.returns-then-tell-clause-complete_refused
-returns-then-tell-clause-complete_refused g c f ask _ = no_fault (texts c.args.words.now) c.in-Some.file.now (module_of c.in-Accepted.input) _ _ c.in-Some.ensures.some c.in-Accepted.ensures.answer f ask
+pub returns-clause-done : goal.returns-clause-done
+returns-clause-done g c is =
+    delivered_done (texts c.args.words.now) _ _ _ c.in-Ok.product c.in-Ok.ensures.answer c.in-Ok.ensures.held _ _ _ c.in-Ok.ensures.writes _ _ _ _
+    c.deliver-delivery.result c.deliver-delivery.ensures.delivers c.deliver-delivery.ensures.nothing (sym c.tell_delivery.ensures.status ∙ is)
 
 pub returns-clause-write_fault : goal.returns-clause-write_fault
-returns-clause-write_fault g c _ =
-    let line : Gets (built_line (module_of c.in-Accepted.input)) (g.O.Sink.faults c.args.out.now) (g.O.Sink.faults c.tell-2.new.to) (g.O.Sink.taken c.args.out.now) (g.O.Sink.taken c.tell-2.new.to) = search rules in
-    put_failed (texts c.args.words.now) c.in-Some.file.now (module_of c.in-Accepted.input) _ _ _ _ _ _ _ _ _ _ _ _ _ _
-    c.in-Some.ensures.some c.in-Accepted.ensures.answer c.in-Accepted.ensures.held c.in-Ok.ensures c.in-All.ensures.writes (search rules) line (search rules)
+returns-clause-write_fault g c is =
+    delivered_write_fault (texts c.args.words.now) _ _ _ c.in-Ok.product c.in-Ok.ensures.answer c.in-Ok.ensures.held _ _ _ c.in-Ok.ensures.writes _ _ _ _ _ _ _ _
+    c.deliver-delivery.result c.deliver-delivery.ensures.delivers c.tell_delivery.ensures.line (sym c.tell_delivery.ensures.status ∙ is)
+
+pub returns-clause-memory : goal.returns-clause-memory
+returns-clause-memory g c is =
+    delivered_memory (texts c.args.words.now) _ _ _ c.in-Ok.product c.in-Ok.ensures.answer c.in-Ok.ensures.held _ _ _ c.in-Ok.ensures.writes _ _ _ _ _ _ _ _
+    c.deliver-delivery.result c.deliver-delivery.ensures.delivers c.tell_delivery.ensures.line (sym c.tell_delivery.ensures.status ∙ is)
+
+pub returns-clause-lint_writes_nothing : goal.returns-clause-lint_writes_nothing
+returns-clause-lint_writes_nothing g c a asks lint =
+    delivered_lint (texts c.args.words.now) _ _ _ c.in-Ok.product c.in-Ok.ensures.answer c.in-Ok.ensures.held _ _ _ c.in-Ok.ensures.writes
+    (g.O.Sink.taken c.args.out.now) (g.O.Sink.taken c.deliver-delivery.new.out) (g.O.Sink.faults c.args.out.now) (g.O.Sink.faults c.deliver-delivery.new.out)
+    c.deliver-delivery.ensures.nothing a asks lint
 
 pub returns-clause-complete_refused : goal.returns-clause-complete_refused
-returns-clause-complete_refused g c f ask _ = no_fault (texts c.args.words.now) c.in-Some.file.now (module_of c.in-Accepted.input) _ _ c.in-Some.ensures.some c.in-Accepted.ensures.answer f ask
+returns-clause-complete_refused g c a asks reads = product_has_no_fault (texts c.args.words.now) (g.F.Files.held c.args.files.now) c.in-Ok.product _ c.in-Ok.ensures.answer a asks

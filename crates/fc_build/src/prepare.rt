@@ -1,0 +1,62 @@
+//! From the words and the files to what is to be written.
+ghost use Rattle.std.specs.Prelude.{◌≡◌, ◌≤◌};
+ghost use Rattle.fc_words.specs.Asking.{texts};
+ghost use Rattle.fc_build.specs.Preparing.{Prepares, StopsAtFault};
+
+use crate::judge::{Judged, judge};
+use crate::product::{Product, product_of};
+use crate::refusal::refusal_line;
+use fc_files::Files;
+use fc_syntax::Fault;
+use fc_words::{Unasked, request_of};
+use std::alloc::Global;
+
+/// Why nothing is to be written.
+#[derive(Debug, Drop)]
+pub enum Stop<'a> {
+    /// The set is not accepted, and this line tells its first fault.
+    Refused(Vec<u8>),
+    /// The words ask for nothing.
+    Usage,
+    /// The read of this file failed.
+    ReadFault(&'a str),
+    /// Out of memory.
+    Memory,
+}
+
+/// The stop at a fault, or for want of memory to tell it.
+fn stop_at<'a>(alloc: Global, fault: &Fault) -> Stop<'a>
+    ensures { StopsAtFault fault.now result }
+{
+    match refusal_line(alloc, fault) {
+        Ok(line) => Stop::Refused(line),
+        Err(_) => Stop::Memory,
+    }
+}
+
+/// What is to be written and to be put, by the words and what the files hold; or why nothing is. Writes nothing.
+pub(crate) fn prepare<'a, F: Files>(
+    alloc: Global,
+    words: &'a [String],
+    files: &mut F,
+) -> Result<Product, Stop<'a>>
+    ensures held { F.held files.new ≡ F.held files.old }
+    ensures writes { F.write_faults files.new ≡ F.write_faults files.old }
+    ensures reads { F.read_faults files.old ≤ F.read_faults files.new }
+    ensures answer { Prepares (texts words.entry.now) (F.held files.old) (F.read_faults files.old) (F.read_faults files.new) result }
+{
+    let request = match request_of(alloc, words) {
+        Ok(request) => request,
+        Err(Unasked::Usage) => return Err(Stop::Usage),
+        Err(Unasked::Memory) => return Err(Stop::Memory),
+    };
+    match judge(alloc, files, request.file, request.others.as_slice()) {
+        Judged::Accepted(unit) => match product_of(alloc, request.command, &unit) {
+            Ok(product) => Ok(product),
+            Err(_) => Err(Stop::Memory),
+        },
+        Judged::Refused(fault) => Err(stop_at(alloc, &fault)),
+        Judged::ReadFault => Err(Stop::ReadFault(request.file)),
+        Judged::Memory => Err(Stop::Memory),
+    }
+}

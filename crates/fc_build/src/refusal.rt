@@ -1,0 +1,94 @@
+//! The line of a refusal.
+ghost use Rattle.std.specs.Prelude.{◌≡◌, ◌++◌, decimal, IfOk, OnOk};
+ghost use Rattle.std.specs.Option.{option_map_or};
+ghost use Rattle.fc_build.specs.Lines.{definition_text, dotted_text, parts_text, place_text, refusal_line as line_of};
+
+use fc_syntax::{Fault, Memory, Place, Text};
+use itoa::Buffer;
+use std::alloc::Global;
+
+/// A number in decimal digits.
+fn put_number(n: u32, to: &mut Vec<u8>) -> Result<(), Memory>
+    ensures { OnOk result (to.new.items ≡ to.old.items ++ decimal n) }
+{
+    let mut digits = Buffer::new();
+    to.extend_from_slice(digits.format(n).as_bytes())?;
+    Ok(())
+}
+
+/// Numbers, each behind a dot.
+fn put_dotted(numbers: &[u32], to: &mut Vec<u8>) -> Result<(), Memory>
+    ensures { OnOk result (to.new.items ≡ to.old.items ++ dotted_text numbers.now) }
+{
+    for n in numbers {
+        to.push(b'.')?;
+        put_number(*n, to)?;
+    }
+    Ok(())
+}
+
+/// Part numbers joined by dots, and a hyphen where there are none.
+fn put_parts(numbers: &[u32], to: &mut Vec<u8>) -> Result<(), Memory>
+    ensures { OnOk result (to.new.items ≡ to.old.items ++ parts_text numbers.now) }
+{
+    match numbers {
+        [] => {
+            to.push(b'-')?;
+            Ok(())
+        }
+        [first, others @ ..] => {
+            put_number(*first, to)?;
+            put_dotted(others, to)
+        }
+    }
+}
+
+fn put_place(place: &Place, to: &mut Vec<u8>) -> Result<(), Memory>
+    ensures { OnOk result (to.new.items ≡ to.old.items ++ place_text place.now) }
+{
+    match place {
+        Place::Nowhere => {
+            to.push(b'-')?;
+            Ok(())
+        }
+        Place::Byte(at) => {
+            to.push(b'@')?;
+            put_number(*at, to)
+        }
+        Place::Parts(path) => put_parts(path.as_slice(), to),
+    }
+}
+
+/// The word of the declaration, and a hyphen where there is none.
+fn put_definition(def: &Option<Text>, to: &mut Vec<u8>) -> Result<(), Memory>
+    ensures { OnOk result (to.new.items ≡ to.old.items ++ definition_text def.now) }
+{
+    match def {
+        Some(word) => {
+            to.extend_from_slice(word.as_str().as_bytes())?;
+            Ok(())
+        }
+        None => {
+            to.push(b'-')?;
+            Ok(())
+        }
+    }
+}
+
+/// The line of a refusal: number and word of the fault, module or file, declaration, place. Fails only where no memory is left.
+pub(crate) fn refusal_line(alloc: Global, fault: &Fault) -> Result<Vec<u8>, Memory>
+    ensures { IfOk result (λ line. line.items ≡ line_of fault.now) }
+{
+    let mut line = Vec::from_slice(alloc, b"refused ")?;
+    put_number(u32::from(fault.kind.number()), &mut line)?;
+    line.push(b' ')?;
+    line.extend_from_slice(fault.kind.word().as_bytes())?;
+    line.push(b' ')?;
+    line.extend_from_slice(fault.module.as_str().as_bytes())?;
+    line.push(b' ')?;
+    put_definition(&fault.def, &mut line)?;
+    line.push(b' ')?;
+    put_place(&fault.path, &mut line)?;
+    line.push(b'\n')?;
+    Ok(line)
+}

@@ -1,0 +1,13 @@
+pub mod Getters
+pub mod Refusals
+pub mod Hyphens
+pub mod Levels
+pub mod RowLists
+pub mod Files
+pub mod Options
+pub mod Decimals
+pub mod Defaults
+pub mod Settings
+pub mod PlainWords
+pub mod WalkFacts
+pub mod Ranges

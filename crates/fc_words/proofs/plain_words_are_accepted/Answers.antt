@@ -1,0 +1,5 @@
+use Rattle.fc_words.proofs.PlainWords.{plain_build, plain_lint}
+use Rattle.fc_words.proofs.plain_words_are_accepted.Goals as goal
+
+pub returns : goal.returns
+returns c = record { build = plain_build; lint = plain_lint }

@@ -1,0 +1,4 @@
+pub mod Commands
+pub mod Asking
+pub mod Numbers
+pub mod Plain
