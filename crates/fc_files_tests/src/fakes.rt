@@ -14,6 +14,7 @@ pub struct OneFails {
 }
 
 impl OneFails {
+    /// The call of this number fails with an error of this kind; none does at 0. No call was made so far.
     pub fn new(number: u32, kind: ErrorKind) -> OneFails {
         OneFails {
             number,
