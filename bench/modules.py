@@ -1,7 +1,8 @@
 #!/usr/bin/env python3
 """Builds modules of growing size with the program `coreopt`, and prints for each the seconds, the bytes a second and the peak
-memory. There are four kinds of modules: constants that give a constructor two names of other definitions; functions whose bodies
-are lets and applications, a hundred deep; small functions that call others; and functions by case. Run it from anywhere, on a
+memory. There are five kinds of modules: constants that give a constructor two names of other definitions; functions whose bodies
+are lets and applications, a hundred deep; small functions that call others; functions by case; and one alternative of many binders, the
+outermost of which is used many times, which is refused for the number of its binders when all of it was judged. Run it from anywhere, on a
 machine where the program is built (`./coreopt build examples/Shapes.fc`)."""
 import os
 import subprocess
@@ -49,11 +50,20 @@ def cases(count):
         yield f" (def d{10_000 + i} (fun T T) (lam ((x T)) (case x (y T) T {alternatives})))"
 
 
+def wide(count):
+    """A function by case, whose only alternative has `count` binders and uses the first of them, the outermost, twice as often."""
+    binders = " ".join(f"(a{i} T)" for i in range(count))
+    uses = " ".join(["a0"] * (2 * count))
+    yield f" (def d10000 (fun T T) (lam ((x T)) (case x (y T) T (P ({binders}) (con P {uses})))))"
+
+
+# the name of a kind, its definitions, their numbers, and the status that is wanted
 KINDS = [
-    ("names", names, [11_000, 22_000, 60_000]),
-    ("deep", deep, [100, 300, 900]),
-    ("small functions", small, [4_000, 8_000, 16_000]),
-    ("cases", cases, [3_000, 6_000, 12_000]),
+    ("names", names, [11_000, 22_000, 60_000], 0),
+    ("deep", deep, [100, 300, 900], 0),
+    ("small functions", small, [4_000, 8_000, 16_000], 0),
+    ("cases", cases, [3_000, 6_000, 12_000], 0),
+    ("wide", wide, [15_000, 30_000, 60_000], 1),
 ]
 
 
@@ -67,7 +77,7 @@ def peak_of(folder):
     code = (
         "import resource, subprocess, sys, time;"
         "start = time.monotonic();"
-        "status = subprocess.run([sys.argv[1], 'build', 'B.fc'], stdout=subprocess.DEVNULL).returncode;"
+        "status = subprocess.run([sys.argv[1], 'build', 'B.fc'], stdout=subprocess.DEVNULL, stderr=subprocess.DEVNULL).returncode;"
         "print(status, time.monotonic() - start, resource.getrusage(resource.RUSAGE_CHILDREN).ru_maxrss)"
     )
     said = subprocess.run([sys.executable, "-c", code, PROGRAM], cwd=folder, capture_output=True, text=True, check=True).stdout.split()
@@ -77,16 +87,16 @@ def peak_of(folder):
 def main():
     if not os.access(PROGRAM, os.X_OK):
         sys.exit("the program is not built")
-    print("kind  bytes  definitions  seconds  bytes/second  peak MB")
-    for name, kind, counts in KINDS:
+    print("kind  bytes  definitions or binders  seconds  bytes/second  peak MB")
+    for name, kind, counts, wanted in KINDS:
         for count in counts:
             with tempfile.TemporaryDirectory() as folder:
                 text = module(kind, count)
                 with open(os.path.join(folder, "B.fc"), "w", encoding="ascii") as file:
                     file.write(text)
                 status, seconds, kilobytes = peak_of(folder)
-                if status != 0:
-                    sys.exit(f"{name}, {count} definitions: status {status}")
+                if status != wanted:
+                    sys.exit(f"{name}, {count}: status {status}")
                 print(f"{name}  {len(text)}  {count}  {seconds:.2f}  {len(text) / seconds:.0f}  {kilobytes / 1024:.0f}")
 
 

@@ -16,6 +16,7 @@ use Rattle.fc_model.specs.Resolution.{no_word, no_words, plus_all, resolved_decl
 use Rattle.fc_model.specs.Terms.{Term, Lit, Var, Global, Fail, App, Lam, Let, Rec, Case, Con, Prim, Terms, Nil, Cons, Alts, NoAlt, Alt}
 use Rattle.fc_model.specs.Texts.{Spells}
 use Rattle.fc_model.proofs.Parts.{and_then_inv}
+use Rattle.fc_model.proofs.ResolvedModulesAre.{resolved_module_is}
 use Rattle.fc_model.proofs.Sameness.{bytes_eq_refl}
 use Rattle.fc_model.proofs.UnderHeader.{at_hidden}
 use Rattle.fc_words.specs.Asking.{Building}
@@ -97,7 +98,7 @@ keeps_meaning tuning prefix (ModuleOf m imports exports hidden ds) lint spells o
       spells = spells;
       before = NModuleOf m imports exports hidden q.0;
       after = NModuleOf m imports exports more q.0;
-      read_resolves = ap (λ r. and_then r (λ cs. Ok (NModuleOf m imports exports hidden cs))) q.1;
-      written_resolves = ap (λ r. and_then r (λ cs. Ok (NModuleOf m imports exports more cs))) q.1;
+      read_resolves = resolved_module_is read (NModuleOf m imports exports hidden q.0) (ap (λ r. and_then r (λ cs. Ok (NModuleOf m imports exports hidden cs))) q.1);
+      written_resolves = resolved_module_is (written_of read) (NModuleOf m imports exports more q.0) (ap (λ r. and_then r (λ cs. Ok (NModuleOf m imports exports more cs))) q.1);
       same = λ t main. (main_same m imports exports hidden more q.0 t main, shows_same m imports exports hidden more q.0 t);
     }

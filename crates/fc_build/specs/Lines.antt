@@ -52,10 +52,10 @@ memory_line = codes "out of memory\n"
 -- WHAT A STREAM GETS
 
 -- the text was taken, or a prefix of it where a put failed
-pub data Says (text : List ℕ) (faults faults' : ℕ) (old new : List ℕ) : Type 0 where
-  whole : new ≡ old ++ text → Says text faults faults' old new
-  cut : (n : ℕ) → n ≤ length text → new ≡ old ++ take n text → Rose faults faults' → Says text faults faults' old new
+pub data Puts (text : List ℕ) (faults faults' : ℕ) (old new : List ℕ) : Type 0 where
+  whole : new ≡ old ++ text → Puts text faults faults' old new
+  cut : (n : ℕ) → n ≤ length text → new ≡ old ++ take n text → Rose faults faults' → Puts text faults faults' old new
 
 -- a stream got the text
 abbrev pub Gets : List ℕ → ℕ → ℕ → Option (List ℕ) → Option (List ℕ) → Type 0
-Gets text faults faults' old new = Told old new (Says text faults faults')
+Gets text faults faults' old new = Told old new (Puts text faults faults')

@@ -4,7 +4,7 @@ use Rattle.fc_syntax.specs.Tree.{Module}
 use Rattle.fc_model.specs.Nameless.{NModule}
 use Rattle.fc_model.specs.Observing.{Observation, Sees}
 use Rattle.fc_model.specs.Programs.{IsMainExpression, program_of}
-use Rattle.fc_model.specs.Resolution.{Resolves}
+use Rattle.fc_model.specs.ResolutionRules.{Resolves}
 use Rattle.fc_model.specs.Terms.{Term}
 use Rattle.fc_model.specs.Texts.{Spells}
 

@@ -51,7 +51,7 @@ pub(crate) fn prepare<'a, F: Files>(
         Err(Unasked::Memory) => return Err(Stop::Memory),
     };
     match judge(alloc, files, request.file, request.others.as_slice()) {
-        Judged::Accepted(unit) => match product_of(alloc, request.command, &unit) {
+        Judged::Accepted(unit) => match product_of(alloc, request.command, unit) {
             Ok(product) => Ok(product),
             Err(_) => Err(Stop::Memory),
         },

@@ -9,8 +9,7 @@ ghost use Rattle.fc_build.specs.Product.{core_output, done_line, interface_outpu
 
 use fc_files::{Files, WriteAnswer};
 use fc_iface::print_interface;
-use fc_model::written;
-use fc_printer::print_module;
+use fc_printer::{print_module, written};
 use fc_syntax::{Memory, Module, Text};
 use fc_words::Command;
 use std::alloc::{AllocError, Global};
@@ -76,9 +75,9 @@ fn interface_file(alloc: Global, prefix: &str, m: &Module) -> Result<File, Memor
 
 /// The files of a module under the written header, in the order in which they are written.
 #[tactic(auto, using(fc_model::proofs::UnderHeader::written_is_built))]
-fn files_of(alloc: Global, prefix: &str, m: &Module) -> Result<Vec<File>, Memory>
-    requires { IsBuilt (module_of m.now) }
-    ensures { IfOk result (λ files. outputs files.items ≡ core_output prefix.now (written_of (module_of m.now)) ∷ interface_output prefix.now (written_of (module_of m.now)) ∷ []) }
+fn files_of(alloc: Global, prefix: &str, m: Module) -> Result<Vec<File>, Memory>
+    requires { IsBuilt (module_of m) }
+    ensures { IfOk result (λ files. outputs files.items ≡ core_output prefix.now (written_of (module_of m)) ∷ interface_output prefix.now (written_of (module_of m)) ∷ []) }
 {
     let whole = written(alloc, m)?;
     let core = core_file(alloc, prefix, &whole)?;
@@ -97,15 +96,15 @@ fn line_of(alloc: Global, word: &str, name: &Text) -> Result<Vec<u8>, Memory>
 }
 
 /// What is to be written and to be put for a module that lints.
-pub(crate) fn product_of(alloc: Global, command: Command<'_>, m: &Module) -> Result<Product, Memory>
-    requires { IsBuilt (module_of m.now) }
-    ensures files { IfOk result (λ p. outputs p.list.items ≡ outputs_of (order_of command.entry) (module_of m.now)) }
-    ensures line { IfOk result (λ p. p.line.items ≡ done_line (order_of command.entry) (module_of m.now)) }
+pub(crate) fn product_of(alloc: Global, command: Command<'_>, m: Module) -> Result<Product, Memory>
+    requires { IsBuilt (module_of m) }
+    ensures files { IfOk result (λ p. outputs p.list.items ≡ outputs_of (order_of command.entry) (module_of m)) }
+    ensures line { IfOk result (λ p. p.line.items ≡ done_line (order_of command.entry) (module_of m)) }
 {
     match command {
         Command::Build(_, prefix) => {
-            let list = files_of(alloc, prefix, m)?;
             let line = line_of(alloc, "built ", &m.name)?;
+            let list = files_of(alloc, prefix, m)?;
             Ok(Product { list, line })
         }
         Command::Lint => {

@@ -1,13 +1,13 @@
 -- The binders of an alternative, one after the other.
 use Rattle.std.proofs.Common.{◌≡◌, refl, ap, ◌∙◌, ◌+◌, ◌&&◌, ℕ, Bool, true, false, Result, Ok, Err, List, [], ◌∷◌, length, arith}
 use Rattle.std.proofs.lemmas.Grind.{common_steps}
+use Rattle.fc_syntax.specs.declared.expr.Binder as B
+use Rattle.fc_syntax.specs.declared.ty.Ty as T
 use Rattle.fc_model.specs.Faulting.{F, and_then, under}
 use Rattle.fc_model.specs.Kinding.{kind_or_fault}
 use Rattle.fc_model.specs.Nameless.{NTy, NBinder, NBValue, NBType, NBCo, NModule}
 use Rattle.fc_model.specs.NamelessView.{nbinder_of, nbinders_of, nty_of, ntys_of}
 use Rattle.fc_model.specs.Typing.{binders_fit, binders_judged, no_context}
-use Rattle.fc_model.specs.declared.nameless.NBinder as B
-use Rattle.fc_model.specs.declared.nameless.NTy as T
 use Rattle.fc_lint_expr.specs.AltViews.{binder_judged, binder_takes}
 
 -- the kinds of types do not depend on the local variables of values
@@ -52,7 +52,7 @@ and_false true = refl
 and_false false = refl
 
 -- and where they are as many
-pub fits_as_many : (ts : List T.NTy) (bs : List B.NBinder) → (length ts ≡ length bs → ⊥) → binders_fit (ntys_of ts) (nbinders_of bs) ≡ false
+pub fits_as_many : (ts : List (T.Ty ℕ)) (bs : List (B.Binder ℕ)) → (length ts ≡ length bs → ⊥) → binders_fit (ntys_of ts) (nbinders_of bs) ≡ false
 fits_as_many [] [] h = absurd (h refl)
 fits_as_many [] (b ∷ bs) h = refl
 fits_as_many (t ∷ ts) [] h = refl

@@ -1,4 +1,3 @@
 pub mod AlternativeBinders
-pub mod Binds
 pub mod Givens
-pub mod LocalBinders
+pub mod LocalTypes

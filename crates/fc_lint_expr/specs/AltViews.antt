@@ -6,7 +6,7 @@ use Rattle.fc_model.specs.Faulting.{F, At, and_then, need, under}
 use Rattle.fc_model.specs.Kinding.{kind_or_fault, same_type}
 use Rattle.fc_model.specs.Nameless.{NTy, NBinder, NBValue, NBType, NBCo, NModule}
 use Rattle.fc_model.specs.Typing as words
-use Rattle.fc_model.specs.Typing.{Constructor, binders_fit, con_fields, con_goes, con_number, is_con_of}
+use Rattle.fc_model.specs.Typing.{Constructor, binders_fit, con_fields, constructor_in_order, con_number, is_con_of}
 use Rattle.fc_lint_expr.specs.declared.alternatives.Before.{Before}
 use Rattle.fc_lint_expr.specs.declared.alternatives.Before.TheVariants.{Start, AfterDefault, AfterLit, AfterCon}
 
@@ -31,4 +31,4 @@ binder_takes t (NBCo r u v) = false
 -- the alternative of a constructor of this name
 abbrev pub constructor_judged : NTy → words.Before → Name → Option Constructor → List NBinder → Result words.Before F
 constructor_judged s b n k bs =
-    need (is_con_of s n k) AltConstructor (need (con_goes b (con_number k)) AltOrder (need (binders_fit (con_fields k) bs) ConArity (Ok (words.AfterCon (con_number k)))))
+    need (is_con_of s n k) AltConstructor (need (constructor_in_order b (con_number k)) AltOrder (need (binders_fit (con_fields k) bs) ConArity (Ok (words.AfterCon (con_number k)))))

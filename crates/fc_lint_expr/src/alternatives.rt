@@ -10,17 +10,17 @@ ghost use Rattle.fc_model.specs.Nameless.{NTCon};
 ghost use Rattle.fc_model.specs.NamelessView.{nbinder_of, nbinders_of, nty_of, ntys_of};
 ghost use Rattle.fc_model.specs.Says.{Says};
 ghost use Rattle.fc_model.specs.Typing as words;
-ghost use Rattle.fc_model.specs.Typing.{AfterDefault, AfterLit, binders_fit, binders_judged, con_goes, data_name, is_int, lit_goes, no_context};
+ghost use Rattle.fc_model.specs.Typing.{AfterDefault, AfterLit, binders_fit, binders_judged, constructor_in_order, data_name, is_int, literal_in_order, no_context};
 ghost use Rattle.fc_types.specs.ModuleViews.{modules_of};
 ghost use Rattle.fc_types.specs.TableViews.{constructor_of};
 ghost use Rattle.fc_lint_expr.specs.AltViews as views;
 ghost use Rattle.fc_lint_expr.specs.AltViews.{before_of, binder_judged, constructor_judged};
 
 use crate::arguments::is_int_hash;
-use fc_model::{Flawed, NBinder, NTy, deeper, flaw_here, next_part, not_built};
-use fc_syntax::{FaultKind, Head, Kind, Name, Text};
+use fc_model::{Flawed, deeper, flaw_here, next_part};
+use fc_syntax::{FaultKind, Head, Kind, NBinder, NTy, Name, Text};
 use fc_types::{
-    Declarations, DeclaredCon, copy_type, is_value_kind, kind_of_part, same_type, same_word,
+    Declarations, DeclaredCon, Kinds, is_value_kind, kind_of_part, same_type, same_word,
 };
 use std::alloc::Global;
 
@@ -39,7 +39,7 @@ pub enum Before {
 
 /// What a case asks of its alternatives.
 #[derive(Clone, Copy)]
-pub struct Wanted<'a> {
+pub struct Expected<'a> {
     /// The type of the scrutinee.
     pub scrutinee: &'a NTy,
     /// The type of what the case answers.
@@ -55,7 +55,7 @@ pub fn binder_kind(
 ) -> Result<Kind, Flawed>
     ensures { Says kind_of result (under part (under 0 (kind_or_fault (modules_of declared.now) [] (nty_of t.now)))) }
 {
-    match kind_of_part(alloc, t, declared, 0) {
+    match kind_of_part(alloc, t, declared, &Kinds::End, 0) {
         Ok(k) => Ok(k),
         Err(flawed) => Err(deeper(flawed, part)),
     }
@@ -76,8 +76,8 @@ fn binder_has_kind(
             binder_kind(alloc, t, declared, part)?;
             next_part(part)
         }
-        NBinder::OfType(_, _) => Err(not_built()),
-        NBinder::OfCo(_, _, _, _) => Err(not_built()),
+        NBinder::OfType(_, _) => Err(flaw_here(alloc, FaultKind::BadForm)),
+        NBinder::OfCo(_, _, _, _) => Err(flaw_here(alloc, FaultKind::BadForm)),
     }
 }
 
@@ -98,8 +98,8 @@ pub fn binders_have_kinds(
 }
 
 /// The default, which stands first.
-fn default_goes(alloc: Global, before: Before) -> Result<Before, Flawed>
-    ensures { Says before_of result (need (words.default_goes (before_of before)) AltOrder (Ok AfterDefault)) }
+fn default_in_order(alloc: Global, before: Before) -> Result<Before, Flawed>
+    ensures { Says before_of result (need (words.default_in_order (before_of before)) AltOrder (Ok AfterDefault)) }
 {
     match before {
         Before::Start => Ok(Before::AfterDefault),
@@ -111,7 +111,7 @@ fn default_goes(alloc: Global, before: Before) -> Result<Before, Flawed>
 
 /// Whether a literal stands behind the default and the lower literals alone.
 fn literal_rises(before: Before, literal: i64) -> bool
-    ensures { result ≡ lit_goes (before_of before) literal }
+    ensures { result ≡ literal_in_order (before_of before) literal }
 {
     match before {
         Before::Start => true,
@@ -128,7 +128,7 @@ fn literal_goes(
     before: Before,
     literal: i64,
 ) -> Result<Before, Flawed>
-    ensures { Says before_of result (need (is_int (nty_of scrutinee.now)) LitAlt (need (lit_goes (before_of before) literal) AltOrder (Ok (AfterLit literal)))) }
+    ensures { Says before_of result (need (is_int (nty_of scrutinee.now)) LitAlt (need (literal_in_order (before_of before) literal) AltOrder (Ok (AfterLit literal)))) }
 {
     if !is_int_hash(scrutinee) {
         return Err(flaw_here(alloc, FaultKind::LitAlt));
@@ -140,7 +140,7 @@ fn literal_goes(
 }
 
 /// Whether a type is the data type of this word in the module of its constructor.
-#[tactic(auto, using(fc_model::proofs::NamelessView::nview_rules))]
+#[tactic(auto, using(fc_syntax::proofs::View::view_rules))]
 fn is_data_type(t: &NTy, constructor: &Name, data_word: &Text) -> bool
     ensures { result ≡ kinds.same_type (nty_of t.now) (NTCon (data_name constructor.now data_word.now)) }
 {
@@ -159,7 +159,7 @@ fn is_data_type(t: &NTy, constructor: &Name, data_word: &Text) -> bool
 
 /// Whether a constructor stands behind the default and the constructors alone that are declared before it.
 fn constructor_follows(before: Before, number: usize) -> bool
-    ensures { result ≡ con_goes (before_of before) number }
+    ensures { result ≡ constructor_in_order (before_of before) number }
 {
     match before {
         Before::Start => true,
@@ -235,7 +235,7 @@ pub fn head_goes(
     ensures { Says before_of result (words.head_goes (modules_of declared.now) (nty_of scrutinee.now) (before_of before) head.now (nbinders_of binders.now)) }
 {
     match head {
-        Head::Default => default_goes(alloc, before),
+        Head::Default => default_in_order(alloc, before),
         Head::Lit(literal) => literal_goes(alloc, scrutinee, before, *literal),
         Head::Con(name) => {
             let con = declared.constructor_named(name);
@@ -268,8 +268,8 @@ pub fn case_kinds(
 ) -> Result<Kind, Flawed>
     ensures { Says kind_of result (and_then (under 1 (kind_or_fault (modules_of declared.now) [] (nty_of of.now))) (λ _. under 2 (kind_or_fault (modules_of declared.now) [] (nty_of answer.now)))) }
 {
-    kind_of_part(alloc, of, declared, 1)?;
-    kind_of_part(alloc, answer, declared, 2)
+    kind_of_part(alloc, of, declared, &Kinds::End, 1)?;
+    kind_of_part(alloc, answer, declared, &Kinds::End, 2)
 }
 
 /// The type of a case whose scrutinee is of this type, and whose result is of a type of this kind: `ScrutineeType` where the binder
@@ -289,5 +289,5 @@ pub fn case_type(
     if !is_value_kind(k) {
         return Err(flaw_here(alloc, FaultKind::NotAType));
     }
-    Ok(copy_type(alloc, answer)?)
+    Ok(answer.copy(alloc)?)
 }

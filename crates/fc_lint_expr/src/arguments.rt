@@ -5,18 +5,18 @@ ghost use Rattle.fc_model.specs.Nameless.{NTCon};
 ghost use Rattle.fc_model.specs.NamelessView.{nexpr_of, nty_of, ntys_of};
 ghost use Rattle.fc_model.specs.Says.{Says};
 ghost use Rattle.fc_model.specs.Typing as words;
-ghost use Rattle.fc_model.specs.Typing.{constructed, data_name, is_int, same_length, types_fit};
+ghost use Rattle.fc_model.specs.Typing.{constructed, data_name, is_int, is_saturated, argument_types_match};
 ghost use Rattle.fc_types.specs.TableViews.{constructor_of};
 ghost use Rattle.fc_lint_expr.specs.GivenViews.{givens_of};
 
-use fc_model::{Flawed, NExpr, NTy, flaw_here};
-use fc_syntax::{FaultKind, Memory, Name};
+use fc_model::{Flawed, flaw_here};
+use fc_syntax::{FaultKind, Memory, NExpr, NTy, Name, Ref};
 use fc_types::{DeclaredCon, same_type};
 use std::alloc::Global;
 
 /// A term that is given to a constructor.
 #[derive(Drop)]
-pub struct Given {
+pub struct TypedArg {
     /// Its type.
     pub ty: NTy,
     /// Whether it is a literal or a variable.
@@ -24,13 +24,13 @@ pub struct Given {
 }
 
 /// Whether an expression is a literal or a variable.
-#[tactic(auto, using(fc_model::proofs::NamelessView::nview_rules))]
+#[tactic(auto, using(fc_syntax::proofs::View::view_rules))]
 pub fn is_atom(e: &NExpr) -> bool
     ensures { result ≡ words.is_atom (nexpr_of e.now) }
 {
     match e {
-        NExpr::Local(_) => true,
-        NExpr::Var(_) => true,
+        NExpr::Var(Ref::Local(_)) => true,
+        NExpr::Var(Ref::Top(_)) => true,
         NExpr::Lit(_) => true,
         NExpr::App(_, _) => false,
         NExpr::Lam(_, _) => false,
@@ -46,7 +46,7 @@ pub fn is_atom(e: &NExpr) -> bool
 }
 
 /// Whether a type is `Int#`.
-#[tactic(auto, using(fc_model::proofs::NamelessView::nview_rules))]
+#[tactic(auto, using(fc_syntax::proofs::View::view_rules))]
 pub fn is_int_hash(t: &NTy) -> bool
     ensures { result ≡ is_int (nty_of t.now) }
 {
@@ -70,17 +70,17 @@ pub fn atom_fits(t: &NTy, atom: bool) -> bool
 
 /// Whether there are as many terms as fields.
 #[tactic(auto, using(crate::proofs::Givens::length_rules))]
-fn fits_arity(fields: &[NTy], given: &[Given]) -> bool
-    ensures same { result ≡ same_length (ntys_of fields.now) (givens_of given.now) }
+fn fits_arity(fields: &[NTy], given: &[TypedArg]) -> bool
+    ensures same { result ≡ is_saturated (ntys_of fields.now) (givens_of given.now) }
     ensures length { result ≡ true → length fields.now ≡ length given.now }
 {
     fields.len() == given.len()
 }
 
 /// Whether each field has the type of the term that stands there.
-fn all_types_fit(fields: &[NTy], given: &[Given]) -> bool
+fn all_types_fit(fields: &[NTy], given: &[TypedArg]) -> bool
     requires { length fields.now ≡ length given.now }
-    ensures { result ≡ types_fit (ntys_of fields.now) (givens_of given.now) }
+    ensures { result ≡ argument_types_match (ntys_of fields.now) (givens_of given.now) }
 {
     for (i, field) in fields.iter().enumerate() {
         if !same_type(field, &given[i].ty) {
@@ -91,9 +91,9 @@ fn all_types_fit(fields: &[NTy], given: &[Given]) -> bool
 }
 
 /// Whether an atom stands at each unlifted field.
-fn all_atoms_fit(fields: &[NTy], given: &[Given]) -> bool
+fn all_atoms_fit(fields: &[NTy], given: &[TypedArg]) -> bool
     requires { length fields.now ≡ length given.now }
-    ensures { result ≡ words.atoms_fit (ntys_of fields.now) (givens_of given.now) }
+    ensures { result ≡ words.unlifted_arguments_are_atoms (ntys_of fields.now) (givens_of given.now) }
 {
     for (i, field) in fields.iter().enumerate() {
         if !atom_fits(field, given[i].atom) {
@@ -104,7 +104,7 @@ fn all_atoms_fit(fields: &[NTy], given: &[Given]) -> bool
 }
 
 /// The type of a data type's constructor, which stands in the module of the constructor.
-#[tactic(auto, using(fc_model::proofs::NamelessView::nview_rules))]
+#[tactic(auto, using(fc_syntax::proofs::View::view_rules))]
 fn data_type(alloc: Global, name: &Name, con: &DeclaredCon) -> Result<NTy, Memory>
     ensures { IfOk result (λ t. nty_of t ≡ NTCon (data_name name.now con.now.data_word.now)) }
 {
@@ -119,7 +119,7 @@ pub fn constructed_type(
     alloc: Global,
     name: &Name,
     con: Option<DeclaredCon>,
-    given: &[Given],
+    given: &[TypedArg],
 ) -> Result<NTy, Flawed>
     ensures { Says nty_of result (constructed name.now (option_map constructor_of con.entry) (givens_of given.now)) }
 {

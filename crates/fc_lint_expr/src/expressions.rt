@@ -1,27 +1,25 @@
 //! The type of an expression.
-ghost use Rattle.std.specs.Prelude.{false};
+ghost use Rattle.std.specs.Prelude.{if◌then◌else◌};
 ghost use Rattle.fc_model.specs.Faulting.{under};
 ghost use Rattle.fc_model.specs.Nameless.{NLam};
-ghost use Rattle.fc_model.specs.NamelessView.{nalt_of, nalts_of, narg_of, nbind_of, nbinder_of, nexpr_of, nty_of};
+ghost use Rattle.fc_model.specs.NamelessView.{nalt_of, nalts_of, narg_of, nbind_of, nbinder_of, nbinders_of, nbinds_of, nexpr_of, nty_of};
 ghost use Rattle.fc_model.specs.Says.{Says};
-ghost use Rattle.fc_model.specs.Typing.{Start, alt_judged, alts_judged, argument_applied, bind_judged, no_context, type_or_fault, value_type, with_value};
+ghost use Rattle.fc_model.specs.Typing.{Start, alt_judged, alts_judged, argument_applied, bind_judged, binds_judged, no_context, type_or_fault, value_type, with_binders, with_binds, with_value};
 ghost use Rattle.fc_types.specs.ModuleViews.{modules_of};
 ghost use Rattle.fc_lint_expr.specs.AltViews.{before_of};
 ghost use Rattle.fc_lint_expr.specs.GivenViews.{arg_given, args_from, given_of, givens_of};
 ghost use Rattle.fc_lint_expr.specs.LocalViews.{context_of};
 
 use crate::alternatives::{
-    Before, Wanted, alternative_takes, binder_kind, binders_have_kinds, case_kinds, case_type,
+    Before, Expected, alternative_takes, binder_kind, binders_have_kinds, case_kinds, case_type,
     head_goes,
 };
-use crate::arguments::{Given, constructed_type, is_atom};
-use crate::locals::{Locals, local_type};
+use crate::arguments::{TypedArg, constructed_type, is_atom};
+use crate::locals::{Locals, local_type, value_types};
 use crate::premises::{applied_type, bind_takes, lambda_type};
-use fc_model::{
-    Flawed, NAlt, NArg, NBind, NBinder, NExpr, NTy, deeper, flaw_here, next_part, not_built,
-};
-use fc_syntax::{FaultKind, Name, Seq};
-use fc_types::{Declarations, copy_type, kind_of_part};
+use fc_model::{Flawed, deeper, flaw_here, next_part};
+use fc_syntax::{FaultKind, NAlt, NArg, NBind, NBinder, NExpr, NTy, Name, Ref, Seq};
+use fc_types::{Declarations, Kinds, kind_of_part};
 use std::alloc::Global;
 
 /// The type of a definition of this name.
@@ -30,7 +28,7 @@ fn definition_type(alloc: Global, name: &Name, declared: &Declarations) -> Resul
 {
     match declared.definition_named(name) {
         None => Err(flaw_here(alloc, FaultKind::Unbound)),
-        Some(ty) => Ok(copy_type(alloc, ty)?),
+        Some(ty) => Ok(ty.copy(alloc)?),
     }
 }
 
@@ -59,7 +57,7 @@ fn given_terms(
     args: &[NArg],
     declared: &Declarations,
     locals: &Locals,
-) -> Result<Seq<Given>, Flawed>
+) -> Result<Seq<TypedArg>, Flawed>
     ensures { Says givens_of result (args_from (modules_of declared.now) (context_of locals.now) 0 args.now) }
 {
     let mut given = Seq::new(alloc);
@@ -81,19 +79,19 @@ fn given_term(
     declared: &Declarations,
     locals: &Locals,
     part: u32,
-) -> Result<Given, Flawed>
+) -> Result<TypedArg, Flawed>
     ensures { Says given_of result (arg_given (modules_of declared.now) (context_of locals.now) part arg.now) }
 {
     match arg {
         NArg::Term(e) => {
             let ty = type_of_part(alloc, e, declared, locals, part)?;
-            Ok(Given {
+            Ok(TypedArg {
                 ty,
                 atom: is_atom(e),
             })
         }
-        NArg::OfType(_) => Err(not_built()),
-        NArg::OfCo(_) => Err(not_built()),
+        NArg::OfType(_) => Err(flaw_here(alloc, FaultKind::BadForm)),
+        NArg::OfCo(_) => Err(flaw_here(alloc, FaultKind::BadForm)),
     }
 }
 
@@ -113,8 +111,8 @@ fn type_of_applied(
             let t = type_of_part(alloc, e, declared, locals, 1)?;
             applied_type(alloc, head, &t, is_atom(e))
         }
-        NArg::OfType(_) => Err(not_built()),
-        NArg::OfCo(_) => Err(not_built()),
+        NArg::OfType(_) => Err(flaw_here(alloc, FaultKind::BadForm)),
+        NArg::OfCo(_) => Err(flaw_here(alloc, FaultKind::BadForm)),
     }
 }
 
@@ -150,40 +148,115 @@ fn type_of_lambda<'x>(
             let u = type_of_body(alloc, body, &*t, declared, &*locals)?;
             lambda_type(alloc, t, &k, u)
         }
-        NBinder::OfType(_, _) => Err(not_built()),
-        NBinder::OfCo(_, _, _, _) => Err(not_built()),
+        NBinder::OfType(_, _) => Err(flaw_here(alloc, FaultKind::BadForm)),
+        NBinder::OfCo(_, _, _, _) => Err(flaw_here(alloc, FaultKind::BadForm)),
     }
 }
 
-/// Whether a bind of a let that is not recursive has its type.
+/// Whether a bind of a let, of a recursive one or not, has its type.
 #[cycle(lint)]
 fn bind_fits(
     alloc: Global,
     bind: &NBind,
+    recursive: bool,
     declared: &Declarations,
     locals: &Locals,
 ) -> Result<(), Flawed>
-    ensures { Says (λ _. nty_of bind.now.ty) result (bind_judged (modules_of declared.now) (context_of locals.now) false (nbind_of bind.now)) }
+    ensures { Says (λ _. nty_of bind.now.ty) result (bind_judged (modules_of declared.now) (context_of locals.now) recursive (nbind_of bind.now)) }
 {
-    let k = kind_of_part(alloc, &bind.ty, declared, 0)?;
+    let k = kind_of_part(alloc, &bind.ty, declared, &Kinds::End, 0)?;
     let right = type_of_part(alloc, &bind.rhs, declared, locals, 1)?;
-    bind_takes(alloc, &bind.ty, &k, &right, is_atom(&bind.rhs))
+    let atom = !recursive && is_atom(&bind.rhs);
+    bind_takes(alloc, &bind.ty, &k, &right, atom)
 }
 
-/// The same of the bind that is part 0 of its let.
+/// The same of the bind that is the part of this number of its let.
 #[cycle(lint)]
-fn first_bind_fits(
+fn bind_part_fits(
     alloc: Global,
     bind: &NBind,
+    recursive: bool,
     declared: &Declarations,
     locals: &Locals,
+    part: u32,
 ) -> Result<(), Flawed>
-    ensures { Says (λ _. nty_of bind.now.ty) result (under 0 (bind_judged (modules_of declared.now) (context_of locals.now) false (nbind_of bind.now))) }
+    ensures { Says (λ _. nty_of bind.now.ty) result (under part (bind_judged (modules_of declared.now) (context_of locals.now) recursive (nbind_of bind.now))) }
 {
-    match bind_fits(alloc, bind, declared, locals) {
+    match bind_fits(alloc, bind, recursive, declared, locals) {
         Ok(()) => Ok(()),
-        Err(flawed) => Err(deeper(flawed, 0)),
+        Err(flawed) => Err(deeper(flawed, part)),
     }
+}
+
+/// Whether the binds of a let have their types in the scope of their right sides; the number of the part behind them.
+#[cycle(lint)]
+fn each_bind_fits(
+    alloc: Global,
+    binds: &[NBind],
+    recursive: bool,
+    declared: &Declarations,
+    locals: &Locals,
+) -> Result<u32, Flawed>
+    ensures { Says (λ i. i) result (binds_judged (modules_of declared.now) (context_of locals.now) recursive 0 (nbinds_of binds.now)) }
+{
+    let mut part = 0u32;
+    for bind in binds {
+        bind_part_fits(alloc, bind, recursive, declared, locals, part)?;
+        part = next_part(part)?;
+    }
+    Ok(part)
+}
+
+/// The same in the scope of the let, whose right sides see the binds where it is recursive.
+#[cycle(lint)]
+fn binds_fit<'x>(
+    alloc: Global,
+    binds: &'x [NBind],
+    recursive: bool,
+    declared: &Declarations,
+    locals: &'x Locals<'x>,
+) -> Result<u32, Flawed>
+    ensures { Says (λ i. i) result (binds_judged (modules_of declared.now) (if recursive then with_binds (nbinds_of binds.now) (context_of locals.now) else context_of locals.now) recursive 0 (nbinds_of binds.now)) }
+{
+    if recursive {
+        let inner = Locals::Binds(binds, &*locals);
+        each_bind_fits(alloc, binds, true, declared, &inner)
+    } else {
+        each_bind_fits(alloc, binds, false, declared, &*locals)
+    }
+}
+
+/// The type of the body of a let with these binds, which is the part of this number.
+#[cycle(lint)]
+fn type_behind_binds<'x>(
+    alloc: Global,
+    body: &NExpr,
+    binds: &'x [NBind],
+    declared: &Declarations,
+    locals: &'x Locals<'x>,
+    part: u32,
+) -> Result<NTy, Flawed>
+    ensures { Says nty_of result (under part (type_or_fault (modules_of declared.now) (with_binds (nbinds_of binds.now) (context_of locals.now)) (nexpr_of body.now))) }
+{
+    let inner = Locals::Binds(binds, &*locals);
+    type_of_part(alloc, body, declared, &inner, part)
+}
+
+/// The type of the body of an alternative with these binders, which is the part of this number.
+#[cycle(lint)]
+fn type_behind_binders<'x>(
+    alloc: Global,
+    body: &NExpr,
+    binders: &'x [NBinder],
+    declared: &Declarations,
+    locals: &'x Locals<'x>,
+    part: u32,
+) -> Result<NTy, Flawed>
+    ensures { Says nty_of result (under part (type_or_fault (modules_of declared.now) (with_binders (nbinders_of binders.now) (context_of locals.now)) (nexpr_of body.now))) }
+{
+    let types = value_types(alloc, binders)?;
+    let inner = Locals::Binders(types.as_slice(), &*locals);
+    type_of_part(alloc, body, declared, &inner, part)
 }
 
 /// Whether an alternative fits its case; what stands before the next one.
@@ -194,15 +267,14 @@ fn alternative_fits<'x>(
     alternative: &'x NAlt,
     declared: &Declarations,
     locals: &'x Locals<'x>,
-    wanted: Wanted,
+    wanted: Expected,
     before: Before,
 ) -> Result<Before, Flawed>
     ensures { Says before_of result (alt_judged (modules_of declared.now) (context_of locals.now) (nty_of wanted.entry.scrutinee.now) (nty_of wanted.entry.answer.now) (before_of before) (nalt_of alternative.now)) }
 {
     let binders = alternative.binders.as_slice();
     let part = binders_have_kinds(alloc, binders, declared)?;
-    let inner = Locals::Binders(binders, &*locals);
-    let t = type_of_part(alloc, &alternative.body, declared, &inner, part)?;
+    let t = type_behind_binders(alloc, &alternative.body, binders, declared, &*locals, part)?;
     let next = head_goes(
         alloc,
         &alternative.head,
@@ -221,7 +293,7 @@ fn alternative_part_fits<'x>(
     alternative: &'x NAlt,
     declared: &Declarations,
     locals: &'x Locals<'x>,
-    wanted: Wanted,
+    wanted: Expected,
     before: Before,
     number: u32,
 ) -> Result<Before, Flawed>
@@ -241,7 +313,7 @@ fn alternatives_fit<'x>(
     of: &'x NTy,
     declared: &Declarations,
     locals: &'x Locals<'x>,
-    wanted: Wanted,
+    wanted: Expected,
 ) -> Result<Before, Flawed>
     ensures { Says before_of result (alts_judged (modules_of declared.now) (with_value (nty_of of.now) (context_of locals.now)) (nty_of wanted.entry.scrutinee.now) (nty_of wanted.entry.answer.now) 3 Start (nalts_of alternatives.now)) }
 {
@@ -257,7 +329,7 @@ fn alternatives_fit<'x>(
 
 /// The type of an expression in a scope.
 #[cycle(lint)]
-#[tactic(auto, using(fc_model::proofs::NamelessView::nview_rules, crate::proofs::Givens::from_whole))]
+#[tactic(auto, using(fc_syntax::proofs::View::view_rules, crate::proofs::Givens::from_whole))]
 fn type_of<'x>(
     alloc: Global,
     e: &'x NExpr,
@@ -267,25 +339,23 @@ fn type_of<'x>(
     ensures { Says nty_of result (type_or_fault (modules_of declared.now) (context_of locals.now) (nexpr_of e.now)) }
 {
     match e {
-        NExpr::Local(distance) => local_type(alloc, locals, *distance),
-        NExpr::Var(name) => definition_type(alloc, name, declared),
+        NExpr::Var(Ref::Local(distance)) => local_type(alloc, locals, *distance),
+        NExpr::Var(Ref::Top(name)) => definition_type(alloc, name, declared),
         NExpr::Lit(_) => Ok(NTy::IntHash),
         NExpr::App(head, arg) => {
             let head = type_of_part(alloc, head, declared, locals, 0)?;
             type_of_applied(alloc, arg, declared, locals, &head)
         }
         NExpr::Lam(binder, body) => type_of_lambda(alloc, body, &*binder, declared, &*locals),
-        NExpr::Let(recursive, binds, body) => match binds.as_slice() {
-            [bind] if !*recursive => {
-                first_bind_fits(alloc, bind, declared, locals)?;
-                type_of_body(alloc, body, &bind.ty, declared, &*locals)
-            }
-            _ => Err(not_built()),
-        },
+        NExpr::Let(recursive, binds, body) => {
+            let binds = binds.as_slice();
+            let part = binds_fit(alloc, binds, *recursive, declared, &*locals)?;
+            type_behind_binds(alloc, body, binds, declared, &*locals, part)
+        }
         NExpr::Case(scrutinee, _, of, answer, alternatives) => {
             let found = type_of_part(alloc, scrutinee, declared, locals, 0)?;
             let kind = case_kinds(alloc, of, answer, declared)?;
-            let wanted = Wanted {
+            let wanted = Expected {
                 scrutinee: &found,
                 answer,
             };
@@ -299,26 +369,27 @@ fn type_of<'x>(
             )?;
             case_type(alloc, of, &found, answer, &kind)
         }
-        NExpr::Cast(_, _) => Err(not_built()),
+        NExpr::Cast(_, _) => Err(flaw_here(alloc, FaultKind::BadForm)),
         NExpr::Con(name, args) => {
             let given = given_terms(alloc, args.as_slice(), declared, locals)?;
             let con = declared.constructor_named(name);
             constructed_type(alloc, name, con, given.as_slice())
         }
-        NExpr::Prim(_, _) => Err(not_built()),
-        NExpr::Fail(_) => Err(not_built()),
-        NExpr::Join(_, _, _, _) => Err(not_built()),
-        NExpr::Jump(_, _) => Err(not_built()),
+        NExpr::Prim(_, _) => Err(flaw_here(alloc, FaultKind::BadForm)),
+        NExpr::Fail(_) => Err(flaw_here(alloc, FaultKind::BadForm)),
+        NExpr::Join(_, _, _, _) => Err(flaw_here(alloc, FaultKind::BadForm)),
+        NExpr::Jump(_, _) => Err(flaw_here(alloc, FaultKind::BadForm)),
     }
 }
 
 /// The type of a closed expression among the declarations of its module, or the first premise that fails: the parts from left
-/// to right, before the premises of the piece itself. The faults are `Unbound`; for an application `NotFunction`, `ArgType` and
-/// `UnliftedNotAtom`; for a lambda `NotAType`; for a bind `NotAType`, `LetType` and `UnliftedNotAtom`; for a constructor `ConArity`,
-/// `ArgType` and `UnliftedNotAtom`; for a case `ScrutineeType` and `NotAType`; for the default of a case `AltOrder`, for a literal's
-/// alternative `LitAlt` and `AltOrder`, for a constructor's `AltConstructor`, `AltOrder` and `ConArity`, and for each of them then
-/// `AltType`; in these orders; each with the part numbers to the piece. A form that is not built yet is answered with want of
-/// memory.
+/// to right, before the premises of the piece itself. The faults are those of kinds in each type; `Unbound`; for an application
+/// `NotFunction`, `ArgType` and `UnliftedNotAtom`; for a lambda `NotAType`; for a bind `NotAType`, `LetType` and `UnliftedNotAtom`;
+/// for a constructor `Unbound`, `ConArity`, `ArgType` and `UnliftedNotAtom`; for a case `ScrutineeType` and `NotAType`; for the
+/// default of a case `AltOrder`, for a literal's alternative `LitAlt` and `AltOrder`, for a constructor's `AltConstructor`,
+/// `AltOrder` and `ConArity`, and for each of them then `AltType`; in these orders; each with the part numbers to the piece. A form
+/// that no rule is for is `BadForm`: binders and arguments that are types or coercions, casts, primitives, errors, join points and
+/// jumps.
 pub fn lint(alloc: Global, e: &NExpr, declared: &Declarations) -> Result<NTy, Flawed>
     ensures { Says nty_of result (type_or_fault (modules_of declared.now) no_context (nexpr_of e.now)) }
 {

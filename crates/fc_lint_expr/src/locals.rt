@@ -1,15 +1,21 @@
 //! The types of the local variables in scope.
-ghost use Rattle.std.specs.Prelude.{◌≡◌, List};
-ghost use Rattle.fc_model.specs.Nameless as types;
-ghost use Rattle.fc_model.specs.NamelessView.{nty_of};
+ghost use Rattle.std.specs.Prelude.{◌≡◌, List, [], ◌∷◌, ◌++◌, IfOk, OnOk};
+ghost use Rattle.fc_model.specs.Nameless as trees;
+ghost use Rattle.fc_model.specs.NamelessView.{nbinder_of, nbinders_of, nbinds_of, nty_of};
 ghost use Rattle.fc_model.specs.Says.{Says};
-ghost use Rattle.fc_model.specs.Typing.{local_value};
-ghost use Rattle.fc_lint_expr.specs.LocalViews.{behind, found_among, values_of};
+ghost use Rattle.fc_model.specs.Typing.{bind_types, binder_types, local_value};
+ghost use Rattle.fc_lint_expr.specs.LocalViews.{behind, found_among, types_of, values_of};
 
-use fc_model::{Flawed, NBinder, NTy, flaw_here};
-use fc_syntax::FaultKind;
-use fc_types::copy_type;
+use fc_model::{Flawed, flaw_here};
+use fc_syntax::{FaultKind, Memory, NBind, NBinder, NTy, Seq};
 use std::alloc::Global;
+
+/// The type of a local variable, in a table.
+#[derive(Clone, Copy)]
+pub struct LocalType<'a> {
+    /// The type.
+    pub ty: &'a NTy,
+}
 
 /// The local variables in scope. They stand on the stack of the walk, so a binder's variable ends with its scope.
 #[derive(Clone, Copy)]
@@ -18,31 +24,60 @@ pub enum Locals<'a> {
     End,
     /// The innermost one, by its type, and those around it.
     Value(&'a NTy, &'a Locals<'a>),
-    /// Those of an alternative's binders, the last binder the innermost, and those around them.
-    Binders(&'a [NBinder], &'a Locals<'a>),
+    /// Those of an alternative's binders, by their types, the last one the innermost, and those around them.
+    Binders(&'a [LocalType<'a>], &'a Locals<'a>),
+    /// Those of a let's binds, the last one the innermost, and those around them.
+    Binds(&'a [NBind], &'a Locals<'a>),
 }
 
-/// The type of the binder at a distance among binders, the last of which is the innermost, or the distance that is left outside
-/// of them.
-fn type_among(binders: &[NBinder], distance: u32) -> Result<&NTy, u32>
-    ensures { (outer : List types.NTy) → local_value (behind binders.now outer) distance ≡ found_among result outer }
+/// Puts the type of a binder of values behind the others.
+fn add_value_type<'a>(types: &mut Seq<LocalType<'a>>, binder: &'a NBinder) -> Result<(), Memory>
+    ensures { OnOk result (types_of types.new ≡ types_of types.old ++ binder_types (nbinder_of binder.now ∷ [])) }
 {
-    let mut count = binders.len();
-    let mut left = distance;
-    while count > 0 {
-        count -= 1;
-        match &binders[count] {
-            NBinder::Value(_, t) => {
-                if left == 0 {
-                    return Ok(t);
-                }
-                left -= 1;
-            }
-            NBinder::OfType(_, _) => {}
-            NBinder::OfCo(_, _, _, _) => {}
-        }
+    match binder {
+        NBinder::Value(_, t) => types.push(LocalType { ty: t }),
+        NBinder::OfType(_, _) => Ok(()),
+        NBinder::OfCo(_, _, _, _) => Ok(()),
     }
-    Err(left)
+}
+
+/// The types of the binders of values among binders, in their order. Fails only where memory is wanting.
+pub fn value_types<'a>(alloc: Global, binders: &'a [NBinder]) -> Result<Seq<LocalType<'a>>, Memory>
+    ensures { IfOk result (λ ts. types_of ts ≡ binder_types (nbinders_of binders.now)) }
+{
+    let mut types = Seq::new(alloc);
+    for binder in binders {
+        add_value_type(&mut types, binder)?;
+    }
+    Ok(types)
+}
+
+/// The type at a distance among types, the last of which is the innermost, or the distance that is left outside of them.
+#[tactic(auto, using(crate::proofs::LocalTypes::type_rules))]
+fn type_among<'a>(types: &[LocalType<'a>], distance: u32) -> Result<&'a NTy, u32>
+    ensures { (outer : List trees.NTy) → local_value (behind (types_of types.now) outer) distance ≡ found_among result outer }
+{
+    let count = types.len();
+    let place = distance as usize;
+    if place < count {
+        Ok(types[count - 1 - place].ty)
+    } else {
+        Err((place - count) as u32)
+    }
+}
+
+/// The type of the bind at a distance among binds, the last of which is the innermost, or the distance that is left outside of them.
+#[tactic(auto, using(crate::proofs::LocalTypes::bind_rules))]
+fn bind_among(binds: &[NBind], distance: u32) -> Result<&NTy, u32>
+    ensures { (outer : List trees.NTy) → local_value (behind (bind_types (nbinds_of binds.now)) outer) distance ≡ found_among result outer }
+{
+    let count = binds.len();
+    let place = distance as usize;
+    if place < count {
+        Ok(&binds[count - 1 - place].ty)
+    } else {
+        Err((place - count) as u32)
+    }
 }
 
 /// The type of the local variable at a distance.
@@ -53,13 +88,17 @@ pub fn local_type(alloc: Global, locals: &Locals, distance: u32) -> Result<NTy, 
         Locals::End => Err(flaw_here(alloc, FaultKind::Unbound)),
         Locals::Value(t, rest) => {
             if distance == 0 {
-                Ok(copy_type(alloc, t)?)
+                Ok(t.copy(alloc)?)
             } else {
                 local_type(alloc, rest, distance - 1)
             }
         }
-        Locals::Binders(binders, rest) => match type_among(binders, distance) {
-            Ok(t) => Ok(copy_type(alloc, t)?),
+        Locals::Binders(types, rest) => match type_among(types, distance) {
+            Ok(t) => Ok(t.copy(alloc)?),
+            Err(left) => local_type(alloc, rest, left),
+        },
+        Locals::Binds(binds, rest) => match bind_among(binds, distance) {
+            Ok(t) => Ok(t.copy(alloc)?),
             Err(left) => local_type(alloc, rest, left),
         },
     }

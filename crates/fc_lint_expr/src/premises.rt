@@ -11,14 +11,14 @@ ghost use Rattle.fc_model.specs.Typing as words;
 ghost use Rattle.fc_model.specs.Typing.{applied};
 
 use crate::arguments::atom_fits;
-use fc_model::{Flawed, NTy, flaw_here};
-use fc_syntax::{FaultKind, Kind, Memory};
-use fc_types::{copy_type, is_value_kind, same_type};
+use fc_model::{Flawed, flaw_here};
+use fc_syntax::{FaultKind, Kind, Memory, NTy};
+use fc_types::{is_value_kind, same_type};
 use std::alloc::Global;
 
 /// The type of a head of this type that is applied to a term of the other: `NotFunction`, `ArgType` and `UnliftedNotAtom`, in this
 /// order.
-#[tactic(auto, using(fc_model::proofs::NamelessView::nview_rules))]
+#[tactic(auto, using(fc_syntax::proofs::View::view_rules))]
 pub fn applied_type(alloc: Global, head: &NTy, argument: &NTy, atom: bool) -> Result<NTy, Flawed>
     ensures { Says nty_of result (applied (nty_of head.now) (nty_of argument.now) atom) }
 {
@@ -30,7 +30,7 @@ pub fn applied_type(alloc: Global, head: &NTy, argument: &NTy, atom: bool) -> Re
             if !atom_fits(from, atom) {
                 return Err(flaw_here(alloc, FaultKind::UnliftedNotAtom));
             }
-            Ok(copy_type(alloc, to)?)
+            Ok(to.copy(alloc)?)
         }
         NTy::Var(_) => Err(flaw_here(alloc, FaultKind::NotFunction)),
         NTy::Con(_) => Err(flaw_here(alloc, FaultKind::NotFunction)),
@@ -42,12 +42,12 @@ pub fn applied_type(alloc: Global, head: &NTy, argument: &NTy, atom: bool) -> Re
 }
 
 /// Functions from one type to the other.
-#[tactic(auto, using(fc_model::proofs::NamelessView::nview_rules))]
+#[tactic(auto, using(fc_syntax::proofs::View::view_rules))]
 fn function_type(alloc: Global, from: &NTy, to: NTy) -> Result<NTy, Memory>
     ensures { IfOk result (λ t. nty_of t ≡ NTFun (nty_of from.now) (nty_of to)) }
 {
     let to = Box::new(alloc, to)?;
-    let from = Box::new(alloc, copy_type(alloc, from)?)?;
+    let from = Box::new(alloc, from.copy(alloc)?)?;
     Ok(NTy::Fun(from, to))
 }
 

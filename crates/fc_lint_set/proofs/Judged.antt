@@ -5,22 +5,24 @@ use Rattle.std.proofs.lemmas.Grind.{common_steps}
 use Rattle.std.proofs.lemmas.List.{length-map}
 use Rattle.fc_syntax.specs.declared.fault.FaultKind.{FaultKind}
 use Rattle.fc_syntax.specs.declared.fault.FaultKind.TheVariants.{NotAType}
-use Rattle.fc_syntax.specs.Tree.{Kind}
-use Rattle.fc_syntax.specs.Tree.{Word}
+use Rattle.fc_syntax.specs.Tree.{Kind, Word}
+use Rattle.fc_syntax.specs.View.{binder_of, binders_of, param_of, params_of}
+use Rattle.fc_syntax.specs.declared.module.ConDecl.{ConDecl}
+use Rattle.fc_syntax.specs.declared.module.Decl.{Decl}
+use Rattle.fc_syntax.specs.declared.module.Decl.TheVariants.{DataType}
+use Rattle.fc_syntax.specs.declared.module.Module as M
+use Rattle.fc_syntax.specs.declared.module.Param.{Param}
+use Rattle.fc_syntax.specs.declared.ty.Ref.{Ref}
+use Rattle.fc_syntax.specs.declared.ty.Ty.{Ty}
 use Rattle.fc_model.specs.Faulting.{F, and_then, need, under}
 use Rattle.fc_model.specs.Kinding.{is_value_kind, kind_or_fault}
 use Rattle.fc_model.specs.Linting.{done, Done, cons_judged, exports_judged, fields_judged, lint_or_fault, type_decl_judged}
 use Rattle.fc_model.specs.Nameless.{NModule}
-use Rattle.fc_model.specs.NamelessView.{nbinder_of, ncons_of, ndecl_of, ndecls_of, nmodule_of, nparam_of, nty_of, ntys_of}
+use Rattle.fc_model.specs.NamelessView.{ncons_of, ndecl_of, ndecls_of, nmodule_of, nty_of, ntys_of}
 use Rattle.fc_model.specs.Says.{Deepens, IsFlaw, Refuses, Says}
+use Rattle.fc_model.specs.Worded.{bare_binder, bare_param}
 use Rattle.fc_model.specs.declared.flaw.Flawed.{Flawed}
 use Rattle.fc_model.specs.declared.flaw.Flawed.TheVariants.{Memory, Flaw as OfFlaw}
-use Rattle.fc_model.specs.declared.nameless.NDecl.{NDecl}
-use Rattle.fc_model.specs.declared.nameless.NModule as M
-use Rattle.fc_model.specs.declared.nameless.NDecl.TheVariants.{DataType}
-use Rattle.fc_model.specs.declared.nameless.NParam.{NParam}
-use Rattle.fc_model.specs.declared.nameless.NConDecl.{NConDecl}
-use Rattle.fc_model.specs.declared.nameless.NTy.{NTy}
 use Rattle.fc_model.proofs.Lists.{drop_item}
 use Rattle.fc_lint_set.specs.Judging.{and_rest, con_value, cons_from, declarations_judged, field_value, fields_from}
 
@@ -44,12 +46,12 @@ kind_err : (k : Result Kind F) (f : F) (r : Result Bool F) → and_then {Y = Boo
 kind_err (Ok j) f r h = grind (arith, common_steps)
 kind_err (Err e) f r h = grind (arith, common_steps)
 
-pub fields_ok : (ms : List NModule) (i : ℕ) (t : NTy) (ts : List NTy) (all b : Bool) → field_value ms i t ≡ Ok b
+pub fields_ok : (ms : List NModule) (i : ℕ) (t : Ty ℕ) (ts : List (Ty ℕ)) (all b : Bool) → field_value ms i t ≡ Ok b
     → and_rest all (fields_from ms i (t ∷ ts)) ≡ and_rest (all && b) (fields_from ms (i + 1) ts)
 unfolding field_value fields_from
 fields_ok ms i t ts all b h = kind_ok all (under i (kind_or_fault ms [] (nty_of t))) b (fields_judged ms [] (i + 1) (ntys_of ts)) h
 
-pub fields_err : (ms : List NModule) (i : ℕ) (t : NTy) (ts : List NTy) (f : F) → field_value ms i t ≡ Err f → fields_from ms i (t ∷ ts) ≡ Err f
+pub fields_err : (ms : List NModule) (i : ℕ) (t : Ty ℕ) (ts : List (Ty ℕ)) (f : F) → field_value ms i t ≡ Err f → fields_from ms i (t ∷ ts) ≡ Err f
 unfolding field_value fields_from
 fields_err ms i t ts f h = kind_err (under i (kind_or_fault ms [] (nty_of t))) f (fields_judged ms [] (i + 1) (ntys_of ts)) h
 
@@ -57,16 +59,16 @@ pub fields_none : (ms : List NModule) (i : ℕ) → fields_from ms i [] ≡ Ok t
 unfolding fields_from
 fields_none ms i = refl
 
-pub fields_whole : (ms : List NModule) (i : ℕ) (ts : List NTy) → fields_from ms i ts ≡ fields_judged ms [] i (ntys_of ts)
+pub fields_whole : (ms : List NModule) (i : ℕ) (ts : List (Ty ℕ)) → fields_from ms i ts ≡ fields_judged ms [] i (ntys_of ts)
 unfolding fields_from
 fields_whole ms i ts = refl
 
-pub cons_ok : (ms : List NModule) (i : ℕ) (c : NConDecl) (cs : List NConDecl) (all b : Bool) → con_value ms i c ≡ Ok b
+pub cons_ok : (ms : List NModule) (i : ℕ) (c : ConDecl ℕ) (cs : List (ConDecl ℕ)) (all b : Bool) → con_value ms i c ≡ Ok b
     → and_rest all (cons_from ms i (c ∷ cs)) ≡ and_rest (all && b) (cons_from ms (i + 1) cs)
 unfolding con_value cons_from
 cons_ok ms i c cs all b h = rw h (part_ok all b (cons_judged ms (i + 1) (ncons_of cs)))
 
-pub cons_err : (ms : List NModule) (i : ℕ) (c : NConDecl) (cs : List NConDecl) (f : F) → con_value ms i c ≡ Err f → cons_from ms i (c ∷ cs) ≡ Err f
+pub cons_err : (ms : List NModule) (i : ℕ) (c : ConDecl ℕ) (cs : List (ConDecl ℕ)) (f : F) → con_value ms i c ≡ Err f → cons_from ms i (c ∷ cs) ≡ Err f
 unfolding con_value cons_from
 cons_err ms i c cs f h = rw h refl
 
@@ -74,7 +76,7 @@ pub cons_none : (ms : List NModule) (i : ℕ) → cons_from ms i [] ≡ Ok true
 unfolding cons_from
 cons_none ms i = refl
 
-pub cons_whole : (ms : List NModule) (i : ℕ) (cs : List NConDecl) → cons_from ms i cs ≡ cons_judged ms i (ncons_of cs)
+pub cons_whole : (ms : List NModule) (i : ℕ) (cs : List (ConDecl ℕ)) → cons_from ms i cs ≡ cons_judged ms i (ncons_of cs)
 unfolding cons_from
 cons_whole ms i cs = refl
 
@@ -102,25 +104,25 @@ both_else true b new h is = grind arith
 both_else false b new h is = is
 
 -- one turn of the loop over the fields
-pub fields_step : (ms : List NModule) (whole : Result Bool F) (all b new : Bool) (i j k : ℕ) (ts : List NTy) (t : NTy)
+pub fields_step : (ms : List NModule) (whole : Result Bool F) (all b new : Bool) (i j k : ℕ) (ts : List (Ty ℕ)) (t : Ty ℕ)
     → whole ≡ and_rest all (fields_from ms i (drop k ts)) → k < length ts → t ≡ get_or ts k t → field_value ms i t ≡ Ok b → new ≡ (all && b) → j ≡ i + 1
     → whole ≡ and_rest new (fields_from ms j (drop (k + 1) ts))
 fields_step ms whole all b new i j k ts t so_far low is value more next =
     rw (more, next) (so_far ∙ ap (λ r. and_rest all (fields_from ms i r)) (drop_item ts k t low is) ∙ fields_ok ms i t (drop (k + 1) ts) all b value)
 
 -- one turn of the loop over the constructors
-pub cons_step : (ms : List NModule) (whole : Result Bool F) (all b new : Bool) (i j k : ℕ) (cs : List NConDecl) (c : NConDecl)
+pub cons_step : (ms : List NModule) (whole : Result Bool F) (all b new : Bool) (i j k : ℕ) (cs : List (ConDecl ℕ)) (c : ConDecl ℕ)
     → whole ≡ and_rest all (cons_from ms i (drop k cs)) → k < length cs → c ≡ get_or cs k c → con_value ms i c ≡ Ok b → new ≡ (all && b) → j ≡ i + 1
     → whole ≡ and_rest new (cons_from ms j (drop (k + 1) cs))
 cons_step ms whole all b new i j k cs c so_far low is value more next =
     rw (more, next) (so_far ∙ ap (λ r. and_rest all (cons_from ms i r)) (drop_item cs k c low is) ∙ cons_ok ms i c (drop (k + 1) cs) all b value)
 
 -- the fields of a constructor are parts after its binders
-con_fields : (ms : List NModule) (part i : ℕ) (c : NConDecl) → i ≡ length c.binders → con_value ms part c ≡ under part (fields_from ms i c.fields)
+con_fields : (ms : List NModule) (part i : ℕ) (c : ConDecl ℕ) → i ≡ length c.binders → con_value ms part c ≡ under part (fields_from ms i c.fields)
 unfolding con_value fields_from
-con_fields ms part i c at = rw (at, length-map c.binders nbinder_of) refl
+con_fields ms part i c at = rw (at, length-map (binders_of c.binders) bare_binder, length-map c.binders binder_of) refl
 
-pub con_ok : (ms : List NModule) (part i : ℕ) (c : NConDecl) (b : Bool) → i ≡ length c.binders → fields_from ms i c.fields ≡ Ok b → con_value ms part c ≡ Ok b
+pub con_ok : (ms : List NModule) (part i : ℕ) (c : ConDecl ℕ) (b : Bool) → i ≡ length c.binders → fields_from ms i c.fields ≡ Ok b → con_value ms part c ≡ Ok b
 con_ok ms part i c b at h = con_fields ms part i c at ∙ ap (under part) h
 
 deeper_err : (i : ℕ) (f g : Flawed) (r : Result Bool F) → Refuses f r → Deepens i f g → Refuses g (under i r)
@@ -128,16 +130,16 @@ deeper_err i Memory g r h d = rw d tt
 deeper_err i (OfFlaw f) Memory r h d = tt
 deeper_err i (OfFlaw f) (OfFlaw g) r h d = rw h (ap Err (sym d))
 
-pub con_err : (ms : List NModule) (part i : ℕ) (c : NConDecl) (f g : Flawed) → i ≡ length c.binders → Refuses f (fields_from ms i c.fields) → Deepens part f g → Refuses g (con_value ms part c)
+pub con_err : (ms : List NModule) (part i : ℕ) (c : ConDecl ℕ) (f g : Flawed) → i ≡ length c.binders → Refuses f (fields_from ms i c.fields) → Deepens part f g → Refuses g (con_value ms part c)
 con_err ms part i c f g at h d = rw (con_fields ms part i c at) (deeper_err part f g (fields_from ms i c.fields) h d)
 
 -- the constructors of a data type are parts after its parameters
-data_cons : (ms : List NModule) (i : ℕ) (d : NDecl) (w : Word) (ps : List NParam) (cs : List NConDecl) → d ≡ DataType w ps cs → i ≡ length ps
+data_cons : (ms : List NModule) (i : ℕ) (d : Decl ℕ Ref) (w : Word) (ps : List Param) (cs : List (ConDecl ℕ)) → d ≡ DataType w ps cs → i ≡ length ps
     → type_decl_judged ms (ndecl_of d) ≡ and_then (cons_from ms i cs) (λ b. need b NotAType (Ok done))
 unfolding cons_from
-data_cons ms i d w ps cs is at = rw (is, at, length-map ps nparam_of) refl
+data_cons ms i d w ps cs is at = rw (is, at, length-map (params_of ps) bare_param, length-map ps param_of) refl
 
-pub data_ok : (ms : List NModule) (i : ℕ) (d : NDecl) (w : Word) (ps : List NParam) (cs : List NConDecl) (b : Bool) → d ≡ DataType w ps cs → i ≡ length ps
+pub data_ok : (ms : List NModule) (i : ℕ) (d : Decl ℕ Ref) (w : Word) (ps : List Param) (cs : List (ConDecl ℕ)) (b : Bool) → d ≡ DataType w ps cs → i ≡ length ps
     → cons_from ms i cs ≡ Ok b → b ≡ true → type_decl_judged ms (ndecl_of d) ≡ Ok done
 data_ok ms i d w ps cs b is at h holds = data_cons ms i d w ps cs is at ∙ rw (h, holds) refl
 
@@ -145,7 +147,7 @@ flaw_err : (kind : FaultKind) (g : Flawed) (r : Result Done F) → IsFlaw kind g
 flaw_err kind Memory r h is = absurd h
 flaw_err kind (OfFlaw g) r h is = is ∙ ap Err (sym h)
 
-pub data_not : (ms : List NModule) (i : ℕ) (d : NDecl) (w : Word) (ps : List NParam) (cs : List NConDecl) (b : Bool) (g : Flawed) → d ≡ DataType w ps cs → i ≡ length ps
+pub data_not : (ms : List NModule) (i : ℕ) (d : Decl ℕ Ref) (w : Word) (ps : List Param) (cs : List (ConDecl ℕ)) (b : Bool) (g : Flawed) → d ≡ DataType w ps cs → i ≡ length ps
     → cons_from ms i cs ≡ Ok b → b ≡ false → IsFlaw NotAType g → Refuses g (type_decl_judged ms (ndecl_of d))
 data_not ms i d w ps cs b g is at h fails flaw = flaw_err NotAType g _ flaw (data_cons ms i d w ps cs is at ∙ rw (h, fails) refl)
 
@@ -157,20 +159,20 @@ err_says : {X : Type 0} (given : Result X Flawed) (f : Flawed) (r : Result Done 
 err_says (Ok x) f r is h = absurd is
 err_says (Err e) f r is h = subst (λ (x : Flawed). Refuses x r) (sym is) h
 
-pub data_err : {X : Type 0} (ms : List NModule) (i : ℕ) (d : NDecl) (w : Word) (ps : List NParam) (cs : List NConDecl) (given : Result X Flawed) (f : Flawed)
+pub data_err : {X : Type 0} (ms : List NModule) (i : ℕ) (d : Decl ℕ Ref) (w : Word) (ps : List Param) (cs : List (ConDecl ℕ)) (given : Result X Flawed) (f : Flawed)
     → d ≡ DataType w ps cs → i ≡ length ps → Refuses f (cons_from ms i cs) → IsErrAnd given (λ e. e ≡ f) → Says {Y = Done} (λ _. done) given (type_decl_judged ms (ndecl_of d))
 data_err ms i d w ps cs given f is at h passed = err_says given f _ passed (rw (data_cons ms i d w ps cs is at) (passed_on f (cons_from ms i cs) _ h))
 
-after_exports : (ms : List NModule) (m : M.NModule) → exports_judged (nmodule_of m) ≡ Ok done → ms ≡ nmodule_of m ∷ []
+after_exports : (ms : List NModule) (m : M.Module ℕ Ref) → exports_judged (nmodule_of m) ≡ Ok done → ms ≡ nmodule_of m ∷ []
     → lint_or_fault (nmodule_of m) ≡ declarations_judged ms (ndecls_of m.decls)
 unfolding declarations_judged
 after_exports ms m exports is = rw (exports, is) refl
 
 -- where the exported and hidden words are declared, a module answers as its declarations
-pub whole_says : {X : Type 0} (ms : List NModule) (m : M.NModule) (ds : List NDecl) (given : Result X Flawed) → exports_judged (nmodule_of m) ≡ Ok done → ms ≡ nmodule_of m ∷ []
+pub whole_says : {X : Type 0} (ms : List NModule) (m : M.Module ℕ Ref) (ds : List (Decl ℕ Ref)) (given : Result X Flawed) → exports_judged (nmodule_of m) ≡ Ok done → ms ≡ nmodule_of m ∷ []
     → ds ≡ m.decls → Says {Y = Done} (λ _. done) given (declarations_judged ms (ndecls_of ds)) → Says {Y = Done} (λ _. done) given (lint_or_fault (nmodule_of m))
 whole_says ms m ds given exports is all says =
-    subst (Says {Y = Done} (λ _. done) given) (sym (after_exports ms m exports is)) (subst (λ (x : List NDecl). Says {Y = Done} (λ _. done) given (declarations_judged ms (ndecls_of x))) all says)
+    subst (Says {Y = Done} (λ _. done) given) (sym (after_exports ms m exports is)) (subst (λ (x : List (Decl ℕ Ref)). Says {Y = Done} (λ _. done) given (declarations_judged ms (ndecls_of x))) all says)
 
 pub ruleset field_rules = (fields_ok, fields_err, fields_none, rest_none, rest_first, rest_err)
 

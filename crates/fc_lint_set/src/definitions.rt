@@ -1,5 +1,7 @@
 //! The types and the right sides of definitions.
-ghost use Rattle.fc_model.specs.Faulting.{within};
+ghost use Rattle.std.specs.Prelude.{[]};
+ghost use Rattle.fc_model.specs.Faulting.{and_then, under, within};
+ghost use Rattle.fc_model.specs.Kinding.{kind_or_fault};
 ghost use Rattle.fc_model.specs.Linting as words;
 ghost use Rattle.fc_model.specs.Linting.{def_type_judged, def_types_judged, done, ndecl_word, right_judged, right_side_judged, rights_judged};
 ghost use Rattle.fc_model.specs.NamelessView.{ndecl_of, ndecls_of, nexpr_of, nty_of};
@@ -9,9 +11,9 @@ ghost use Rattle.fc_types.specs.ModuleViews.{modules_of};
 
 use crate::parts::word_of;
 use fc_lint_expr::lint;
-use fc_model::{Flawed, NDecl, NExpr, NTy, deeper, flaw_here, in_declaration, not_built};
-use fc_syntax::{FaultKind, Kind};
-use fc_types::{Declarations, kind_of_part, same_type};
+use fc_model::{Flawed, deeper, flaw_here, in_declaration};
+use fc_syntax::{FaultKind, Kind, NDecl, NExpr, NTy};
+use fc_types::{Declarations, Kinds, kind_of_part, same_type};
 use std::alloc::Global;
 
 /// The kind of the type of a definition: `UnliftedTop` at `#`, and `NotAType` at a kind with an arrow.
@@ -26,20 +28,25 @@ fn definition_kind(alloc: Global, k: &Kind) -> Result<(), Flawed>
     }
 }
 
-/// The type of a definition.
+/// The type that a definition or a wrap is written with, which is its part 0.
+fn lint_type_of(alloc: Global, t: &NTy, declared: &Declarations) -> Result<(), Flawed>
+    ensures { Says (λ _. done) result (and_then (under 0 (kind_or_fault (modules_of declared.now) [] (nty_of t.now))) (λ k. words.definition_kind k)) }
+{
+    let k = kind_of_part(alloc, t, declared, &Kinds::End, 0)?;
+    definition_kind(alloc, &k)
+}
+
+/// The type of a declaration that has one.
 fn lint_definition_type(alloc: Global, decl: &NDecl, declared: &Declarations) -> Result<(), Flawed>
     ensures { Says (λ _. done) result (def_type_judged (modules_of declared.now) (ndecl_of decl.now)) }
 {
     match decl {
-        NDecl::Def(_, t, _) => {
-            let k = kind_of_part(alloc, t, declared, 0)?;
-            definition_kind(alloc, &k)
-        }
+        NDecl::Def(_, t, _) => lint_type_of(alloc, t, declared),
         NDecl::DataType(_, _, _) => Ok(()),
         NDecl::NewType(_, _, _, _) => Ok(()),
         NDecl::Family(_, _, _) => Ok(()),
         NDecl::Axiom(_, _, _, _) => Ok(()),
-        NDecl::Wrap(_, _, _) => Err(not_built()),
+        NDecl::Wrap(_, t, _) => lint_type_of(alloc, t, declared),
     }
 }
 
@@ -96,7 +103,7 @@ fn lint_right(alloc: Global, decl: &NDecl, declared: &Declarations) -> Result<()
         NDecl::NewType(_, _, _, _) => Ok(()),
         NDecl::Family(_, _, _) => Ok(()),
         NDecl::Axiom(_, _, _, _) => Ok(()),
-        NDecl::Wrap(_, _, _) => Err(not_built()),
+        NDecl::Wrap(_, t, e) => lint_right_side(alloc, t, e, declared),
     }
 }
 

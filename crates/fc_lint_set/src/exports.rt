@@ -7,8 +7,8 @@ ghost use Rattle.fc_model.specs.Resolution.{no_word, plus_all};
 ghost use Rattle.fc_model.specs.Says.{Says};
 ghost use Rattle.fc_model.specs.WordSets.{set_of};
 
-use fc_model::{Flawed, NConDecl, NDecl, NModule, WordSet, flaw_here};
-use fc_syntax::{FaultKind, Memory, Text};
+use fc_model::{Flawed, WordSet, flaw_here};
+use fc_syntax::{FaultKind, Memory, NConDecl, NDecl, NModule, Text};
 use std::alloc::Global;
 
 /// Puts the words of constructors in.

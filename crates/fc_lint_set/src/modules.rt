@@ -8,7 +8,8 @@ ghost use Rattle.fc_lint_set.specs.Judging.{declarations_judged};
 use crate::definitions::{lint_definition_types, lint_right_sides};
 use crate::exports::lint_exports;
 use crate::type_declarations::lint_types;
-use fc_model::{Flawed, NDecl, NModule};
+use fc_model::Flawed;
+use fc_syntax::{NDecl, NModule};
 use fc_types::Declarations;
 use std::alloc::Global;
 
@@ -24,8 +25,8 @@ fn lint_declarations(alloc: Global, decls: &[NDecl], declared: &Declarations) ->
 
 /// Whether every premise holds of a module that names no other: of its exported and hidden words, of its type declarations, of
 /// the types of its definitions and of their right sides, in this order and each in declaration order. The answer is the first
-/// premise that fails, with its declaration and the part numbers there; an export without a declaration stands in none. A module with a form
-/// that is not built yet may be answered with want of memory.
+/// premise that fails, with its declaration and the part numbers there; an export without a declaration stands in none. A form that
+/// no rule is for is `BadForm`.
 pub fn lint_module(alloc: Global, m: &NModule) -> Result<(), Flawed>
     ensures { Says (λ _. done) result (lint_or_fault (nmodule_of m.now)) }
 {

@@ -4,8 +4,8 @@ ghost use Rattle.fc_model.specs.Linting.{ndecl_word};
 ghost use Rattle.fc_model.specs.NamelessView.{ndecl_of};
 ghost use Rattle.fc_model.specs.declared.flaw.Flawed.TheVariants.{Memory as memory};
 
-use fc_model::{Flawed, NDecl};
-use fc_syntax::Text;
+use fc_model::Flawed;
+use fc_syntax::{NDecl, Text};
 
 /// The number of the part after the first `parts` ones, where it can be told.
 pub fn part_after(parts: usize) -> Result<u32, Flawed>

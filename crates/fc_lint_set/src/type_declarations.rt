@@ -7,11 +7,9 @@ ghost use Rattle.fc_types.specs.ModuleViews.{modules_of};
 ghost use Rattle.fc_lint_set.specs.Judging.{con_value, cons_from, field_value, fields_from};
 
 use crate::parts::{part_after, word_of};
-use fc_model::{
-    Flawed, NConDecl, NDecl, NTy, deeper, flaw_here, in_declaration, next_part, not_built,
-};
-use fc_syntax::FaultKind;
-use fc_types::{Declarations, is_value_kind, kind_of_part};
+use fc_model::{Flawed, deeper, flaw_here, in_declaration, next_part};
+use fc_syntax::{FaultKind, NConDecl, NDecl, NTy};
+use fc_types::{Declarations, Kinds, is_value_kind, kind_of_part};
 use std::alloc::Global;
 
 /// Whether the field that is the part of this number is of a kind of values.
@@ -24,7 +22,7 @@ fn field_is_value(
 ) -> Result<bool, Flawed>
     ensures { Says (λ b. b) result (field_value (modules_of declared.now) part field.now) }
 {
-    let k = kind_of_part(alloc, field, declared, part)?;
+    let k = kind_of_part(alloc, field, declared, &Kinds::End, part)?;
     Ok(is_value_kind(&k))
 }
 
@@ -100,9 +98,9 @@ fn lint_type(alloc: Global, decl: &NDecl, declared: &Declarations) -> Result<(),
                 Err(flaw_here(alloc, FaultKind::NotAType))
             }
         }
-        NDecl::NewType(_, _, _, _) => Err(not_built()),
-        NDecl::Family(_, _, _) => Err(not_built()),
-        NDecl::Axiom(_, _, _, _) => Err(not_built()),
+        NDecl::NewType(_, _, _, _) => Err(flaw_here(alloc, FaultKind::BadForm)),
+        NDecl::Family(_, _, _) => Err(flaw_here(alloc, FaultKind::BadForm)),
+        NDecl::Axiom(_, _, _, _) => Err(flaw_here(alloc, FaultKind::BadForm)),
         NDecl::Def(_, _, _) => Ok(()),
         NDecl::Wrap(_, _, _) => Ok(()),
     }
@@ -118,8 +116,8 @@ fn lint_type_within(alloc: Global, decl: &NDecl, declared: &Declarations) -> Res
     }
 }
 
-/// The type declarations of a module, in their order: `Unbound` in a field, and `NotAType` where a field is not of the kinds of
-/// values.
+/// The type declarations of a module, in their order: the faults of kinds in a field, `NotAType` where a field is not of the kinds
+/// of values, and `BadForm` for newtypes, families and axioms.
 pub fn lint_types(alloc: Global, decls: &[NDecl], declared: &Declarations) -> Result<(), Flawed>
     ensures { Says (λ _. done) result (type_decls_judged (modules_of declared.now) (ndecls_of decls.now)) }
 {

@@ -10,7 +10,7 @@ use Rattle.fc_model.specs.Linting.{Done, done, def_type_judged, def_types_judged
 use Rattle.fc_model.specs.Nameless.{NTy, NTVar, NTCon, NTInt, NTApp, NTFun, NTForall, NTCoForall, NExpr, NCon, NArgs}
 use Rattle.fc_model.specs.Nameless.{NDecl, NData, NNew, NFamily, NAxiom, NDef, NWrap, NModule, NModuleOf}
 use Rattle.fc_model.specs.Terms.{Lifted}
-use Rattle.fc_model.specs.Typing.{Constructor, Given, Context, args_given, atom_fits, atoms_fit, constructor, def_type, is_atom, same_length, types_fit}
+use Rattle.fc_model.specs.Typing.{Constructor, TypedArg, Context, args_given, atom_fits, unlifted_arguments_are_atoms, constructor, def_type, is_atom, is_saturated, argument_types_match}
 use Rattle.fc_model.specs.Typing.{HasType, typed_local, typed_declared, typed_literal, typed_application, typed_lambda, typed_let, typed_case, typed_con, ArgsAreGiven, no_args, one_arg}
 use Rattle.fc_model.proofs.Parts.{and_then_inv, err_ok, ok_ok}
 use Rattle.fc_model.proofs.Resolved.{within_inv}
@@ -84,14 +84,14 @@ module _ (m : NModule) (lint : lint_or_fault m ≡ Ok done) where
   pub sort_is : (c : Context) (s : Scope) → Agrees c s → (e : NExpr) (t : NTy) → HasType (m ∷ []) c e t → atom_fits t (is_atom e) ≡ true → sort_of s e ≡ sort_of_type t
   sort_is c s agree e t typed f = sort_by_cases s agree typed f
 
-  sorts_are : {c : Context} {args : NArgs} {gs : List Given} (s : Scope) → Agrees c s → ArgsAreGiven (m ∷ []) c args gs → (ts : List NTy) → same_length ts gs ≡ true
-      → types_fit ts gs ≡ true → atoms_fit ts gs ≡ true → arg_sorts s args ≡ map sort_of_type ts
+  sorts_are : {c : Context} {args : NArgs} {gs : List TypedArg} (s : Scope) → Agrees c s → ArgsAreGiven (m ∷ []) c args gs → (ts : List NTy) → is_saturated ts gs ≡ true
+      → argument_types_match ts gs ≡ true → unlifted_arguments_are_atoms ts gs ≡ true → arg_sorts s args ≡ map sort_of_type ts
   sorts_are s agree no_args [] l f h = refl
   sorts_are s agree no_args (t ∷ ts) l f h = false_true l
   sorts_are s agree (one_arg a rest) [] l f h = false_true l
   sorts_are s agree (one_arg {a = e} {rest = es} {t = u} {gs = gs} a rest) (t ∷ ts) l f h =
-      let g = and_parts (same_type t u) (types_fit ts gs) f in
-      let k = and_parts (atom_fits t (is_atom e)) (atoms_fit ts gs) h in
+      let g = and_parts (same_type t u) (argument_types_match ts gs) f in
+      let k = and_parts (atom_fits t (is_atom e)) (unlifted_arguments_are_atoms ts gs) h in
       let same = same_type_eq t u g.0 in
       let fits = subst (λ x. atom_fits x (is_atom e) ≡ true) same k.0 in
       ap₂ ◌∷◌ (sort_by_cases s agree a fits ∙ ap sort_of_type (sym same)) (sorts_are s agree rest ts l g.1 k.1)

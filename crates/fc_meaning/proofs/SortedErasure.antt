@@ -14,13 +14,15 @@ use Rattle.fc_model.specs.Kinding.{decls_at}
 use Rattle.fc_model.specs.Linting.{Done, Lints, done, def_types_judged, exports_judged, lint_or_fault, right_side_judged, rights_judged, type_decls_judged}
 use Rattle.fc_model.specs.Nameless.{NTy, NBinder, NExpr, NArgs, NAlts, NDecl, NData, NNew, NFamily, NAxiom, NDef, NWrap, NModule, NModuleOf}
 use Rattle.fc_model.specs.Programs.{program_of, right_side}
-use Rattle.fc_model.specs.Resolution.{Resolves, no_words, resolved_decls, top_of}
+use Rattle.fc_model.specs.Resolution.{no_words, resolved_decls, top_of}
+use Rattle.fc_model.specs.ResolutionRules.{Resolves}
 use Rattle.fc_model.specs.Terms.{Sort, Lifted, Unlifted, Term, Var, IsSorted, AreSorted, AltsAreSorted, IsAtom, HasSorts, enters, head_sorts, sort_at, upr}
-use Rattle.fc_model.specs.Typing.{Context, Given, Before, binder_types, local_value, no_context, type_or_fault, with_binders, with_value}
+use Rattle.fc_model.specs.Typing.{Context, TypedArg, Before, binder_types, local_value, no_context, type_or_fault, with_binders, with_value}
 use Rattle.fc_model.specs.Typing.{BindersAreKinded, no_binders, value_binder, AltsFit, no_alts, default_alt, literal_alt, con_alt}
 use Rattle.fc_model.specs.Typing.{HasType, typed_local, typed_declared, typed_literal, typed_application, typed_lambda, typed_let, typed_case, typed_con, ArgsAreGiven, no_args, one_arg, no_binds, one_bind}
 use Rattle.fc_model.proofs.Parts.{and_then_inv, err_ok, ok_ok, part}
 use Rattle.fc_model.proofs.Resolved.{within_inv}
+use Rattle.fc_model.proofs.ResolvedModulesAre.{module_is_resolved}
 use Rattle.fc_model.proofs.TypedIs.{given_type_is}
 use Rattle.fc_meaning.specs.Laws.{Agrees}
 use Rattle.fc_meaning.proofs.ArgSorts.{sort_is}
@@ -96,7 +98,7 @@ module _ (m : NModule) (lint : lint_or_fault m ≡ Ok done) where
         (expr_sorted s g fits e b.0, alts_sorted (below_value (sort_of_type xt) s) (sort_of_type xt ∷ g) (fits_below c s g xt fits) alts b.1)
     expr_sorted s g fits (typed_con k gs is args l t a) b = args_sorted s g fits args b
 
-    args_sorted : {c : Context} {args : NArgs} {gs : List Given} (s : Scope) (g : List Sort) → Fits c s g → ArgsAreGiven (m ∷ []) c args gs → AreBuiltArgs args
+    args_sorted : {c : Context} {args : NArgs} {gs : List TypedArg} (s : Scope) (g : List Sort) → Fits c s g → ArgsAreGiven (m ∷ []) c args gs → AreBuiltArgs args
         → AreSorted g (erased_args s args) × HasSorts g (arg_sorts s args) (erased_args s args)
     args_sorted s g fits no_args b = (tt, tt)
     args_sorted s g fits (one_arg a rest) b =
@@ -185,7 +187,8 @@ module_sorted own imports exports hidden ds (Some v) w t s h = go (bytes_eq own 
     go false x = absurd (none_some x)
 
 pub formed_is_sorted : (m : Module) (n : NModule) → IsBuilt m → IsFormed m → Resolves m n → Lints m → (x : Name) (t : Term) → program_of (n ∷ []) x ≡ Some t → IsSorted [] t
-formed_is_sorted (ModuleOf own imports exports hidden ds) n b f r lints x t h =
+formed_is_sorted (ModuleOf own imports exports hidden ds) n b f by_rules lints x t h =
+    let r = module_is_resolved by_rules in
     let a = and_parts (is_module_part own && is_word own) ((list_all is_word exports && list_all is_word hidden) && list_all is_decl_formed ds) f in
     let formed = and_parts (list_all is_word exports && list_all is_word hidden) (list_all is_decl_formed ds) a.1 in
     let built = and_parts (is_empty_list imports) (list_all is_decl_built ds) b in

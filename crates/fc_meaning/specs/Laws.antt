@@ -8,7 +8,7 @@ use Rattle.fc_model.specs.Linting.{Lints, done, lint_or_fault}
 use Rattle.fc_model.specs.Nameless.{NArgs, NCon, NExpr, NModule, NTy}
 use Rattle.fc_model.specs.Observing.{Observation, Sees}
 use Rattle.fc_model.specs.Programs.{Mentions, program_of}
-use Rattle.fc_model.specs.Resolution.{Resolves}
+use Rattle.fc_model.specs.ResolutionRules.{Resolves}
 use Rattle.fc_model.specs.Stepping.{Program, Bare, Missing, LitKey, ConKey, LamKey, IsHead, Reaches, choose, default_of, next, wrap}
 use Rattle.fc_model.specs.Terms.{Sort, Lifted, Term, Lit, Var, Lam, Rec, Case, Con, Terms, Alts, IsSorted, push, pushes, sub}
 use Rattle.fc_model.specs.Typing.{Constructor, Context, HasType, atom_fits, constructor, is_atom, local_value}

@@ -1,8 +1,10 @@
 pub mod KindedIs
 pub mod Lists
-pub mod NamelessView
 pub mod Parts
 pub mod Resolved
+pub mod ResolvedExpressionsAre
+pub mod ResolvedModulesAre
+pub mod ResolvedTypesAre
 pub mod SameDeclarations
 pub mod Sameness
 pub mod TypedIs

@@ -12,7 +12,7 @@ use Rattle.fc_model.specs.Nameless.{NExpr, NLocal, NVar, NLit, NApp, NLam, NLet,
 use Rattle.fc_model.specs.Nameless.{NArg, NATerm, NAType, NACo, NBind, NBound, NAlt, NBranch, NArgs, NoNArgs, MoreNArgs, NBinds, NoNBinds, MoreNBinds, NAlts, NoNAlts, MoreNAlts}
 use Rattle.fc_model.specs.Typing.{Context, Constructor, Before, Start, AfterCon, con_decl, def_type}
 use Rattle.fc_model.specs.Typing.{type_or_fault, argument_applied, args_given, bind_judged, binds_judged, alt_judged, alts_judged, binders_judged}
-use Rattle.fc_model.specs.Typing.{binders_fit, con_fields, con_goes, con_number, constructed, constructor, head_goes, is_con_of, value_type, with_binders, with_binds, with_value}
+use Rattle.fc_model.specs.Typing.{binders_fit, con_fields, constructor_in_order, con_number, constructed, constructor, head_goes, is_con_of, value_type, with_binders, with_binds, with_value}
 
 -- what follows an answer may be replaced by what is the same for each answer
 pub and_then_same : {X Y : Type 0} (r : Result X F) (f g : X → Result Y F) → ((x : X) → f x ≡ g x) → and_then r f ≡ and_then r g
@@ -47,7 +47,7 @@ module _ (ms ns : List NModule) (same : (o : Option Word) → decls_at ms o ≡ 
   constructor_same n = ap (λ ds. con_decl ds n.text) (same n.module)
 
   abbrev head_of_con : Option Constructor → NTy → Before → Name → List NBinder → Result Before F
-  head_of_con o s b n bs = need (is_con_of s n o) AltConstructor (need (con_goes b (con_number o)) AltOrder (need (binders_fit (con_fields o) bs) ConArity (Ok (AfterCon (con_number o)))))
+  head_of_con o s b n bs = need (is_con_of s n o) AltConstructor (need (constructor_in_order b (con_number o)) AltOrder (need (binders_fit (con_fields o) bs) ConArity (Ok (AfterCon (con_number o)))))
 
   head_same : (s : NTy) (b : Before) (h : Head) (bs : List NBinder) → head_goes ms s b h bs ≡ head_goes ns s b h bs
   head_same s b head.Default bs = refl

@@ -8,10 +8,10 @@ use Rattle.fc_model.specs.Kinding.{is_value_kind, kind_or_fault, same_type}
 use Rattle.fc_model.specs.Nameless.{NTy, NTCon, NTFun, NBinder, NBValue, NBType, NBCo, NModule}
 use Rattle.fc_model.specs.Nameless.{NExpr, NLocal, NVar, NLit, NApp, NLam, NLet, NCase, NCast, NCon, NPrim, NFail, NJoin, NJump}
 use Rattle.fc_model.specs.Nameless.{NATerm, NAType, NACo, NBound, NBranch, NArgs, NoNArgs, MoreNArgs, NBinds, NoNBinds, MoreNBinds, NAlts, NoNAlts, MoreNAlts}
-use Rattle.fc_model.specs.Typing.{Context, Constructor, Given, Before, Start, AfterCon}
+use Rattle.fc_model.specs.Typing.{Context, Constructor, TypedArg, Before, Start, AfterCon}
 use Rattle.fc_model.specs.Typing.{type_or_fault, args_given, bind_judged, binds_judged, alt_judged, alts_judged, binders_judged}
-use Rattle.fc_model.specs.Typing.{applied, atom_fits, atoms_fit, binders_fit, con_fields, con_goes, con_number, constructed, constructor, data_name, default_goes, head_goes, is_atom, is_con_of, is_int}
-use Rattle.fc_model.specs.Typing.{lit_goes, same_length, then_given, types_fit, with_binders, with_binds, with_value}
+use Rattle.fc_model.specs.Typing.{applied, atom_fits, unlifted_arguments_are_atoms, binders_fit, con_fields, constructor_in_order, con_number, constructed, constructor, data_name, default_in_order, head_goes, is_atom, is_con_of, is_int}
+use Rattle.fc_model.specs.Typing.{literal_in_order, is_saturated, then_given, argument_types_match, with_binders, with_binds, with_value}
 use Rattle.fc_model.specs.Typing.{BindersAreKinded, no_binders, value_binder}
 use Rattle.fc_model.specs.Typing.{HasType, typed_local, typed_declared, typed_literal, typed_application, typed_lambda, typed_let, typed_case, typed_con}
 use Rattle.fc_model.specs.Typing.{ArgsAreGiven, no_args, one_arg, BindsHaveTypes, no_binds, one_bind, AltsFit, no_alts, default_alt, literal_alt, con_alt}
@@ -31,22 +31,22 @@ applied_inv (NTFun s r) u atom t h =
 applied_inv f u atom t h = err_ok h
 
 -- what is constructed is of a constructor that the terms fit
-pub constructed_inv : (n : Name) (o : Option Constructor) (gs : List Given) (t : NTy) → constructed n o gs ≡ Ok t
-    → (k : Constructor) × (o ≡ Some k) × (same_length k.fields gs ≡ true) × (types_fit k.fields gs ≡ true) × (atoms_fit k.fields gs ≡ true)
+pub constructed_inv : (n : Name) (o : Option Constructor) (gs : List TypedArg) (t : NTy) → constructed n o gs ≡ Ok t
+    → (k : Constructor) × (o ≡ Some k) × (is_saturated k.fields gs ≡ true) × (argument_types_match k.fields gs ≡ true) × (unlifted_arguments_are_atoms k.fields gs ≡ true)
     × (NTCon (data_name n k.data_word) ≡ t)
 constructed_inv n None gs t h = err_ok h
 constructed_inv n (Some k) gs t h =
-    let p = need_inv (same_length k.fields gs) _ _ t h in
-    let q = need_inv (types_fit k.fields gs) _ _ t p.1 in
-    let u = need_inv (atoms_fit k.fields gs) _ _ t q.1 in
+    let p = need_inv (is_saturated k.fields gs) _ _ t h in
+    let q = need_inv (argument_types_match k.fields gs) _ _ t p.1 in
+    let u = need_inv (unlifted_arguments_are_atoms k.fields gs) _ _ t q.1 in
     (k, refl, p.0, q.0, u.0, ok_ok u.1)
 
 -- a term with this type, and whether it is an atom
-abbrev pub given_of : NTy → Bool → Given
+abbrev pub given_of : NTy → Bool → TypedArg
 given_of t atom = record { type = t; atom = atom }
 
-pub then_given_inv : (t : NTy) (atom : Bool) (r : Result (List Given) F) (gs : List Given) → then_given t atom r ≡ Ok gs
-    → (rest : List Given) × (r ≡ Ok rest) × (given_of t atom ∷ rest ≡ gs)
+pub then_given_inv : (t : NTy) (atom : Bool) (r : Result (List TypedArg) F) (gs : List TypedArg) → then_given t atom r ≡ Ok gs
+    → (rest : List TypedArg) × (r ≡ Ok rest) × (given_of t atom ∷ rest ≡ gs)
 then_given_inv t atom (Ok rest) gs h = (rest, refl, ok_ok h)
 then_given_inv t atom (Err f) gs h = err_ok h
 
@@ -81,17 +81,17 @@ module _ (ms : List NModule) where
 
   -- a head with a constructor that goes: the constructor, and what it fits
   pub con_head_inv : (s : NTy) (n : Name) (b : Before) (bs : List NBinder) (next : Before) → head_goes ms s b (head.Con n) bs ≡ Ok next
-      → (k : Constructor) × (constructor ms n ≡ Some k) × (s ≡ NTCon (data_name n k.data_word)) × (con_goes b k.number ≡ true) × (binders_fit k.fields bs ≡ true)
+      → (k : Constructor) × (constructor ms n ≡ Some k) × (s ≡ NTCon (data_name n k.data_word)) × (constructor_in_order b k.number ≡ true) × (binders_fit k.fields bs ≡ true)
       × (AfterCon k.number ≡ next)
   con_head_inv s n b bs next h =
       let p = need_inv (is_con_of s n (constructor ms n)) _ _ next h in
       let q = is_con_of_inv s n (constructor ms n) p.0 in
-      let u = need_inv (con_goes b (con_number (constructor ms n))) _ _ next p.1 in
+      let u = need_inv (constructor_in_order b (con_number (constructor ms n))) _ _ next p.1 in
       let v = need_inv (binders_fit (con_fields (constructor ms n)) bs) _ _ next u.1 in (
         q.0,
         q.1,
         q.2,
-        subst (λ x. con_goes b (con_number x) ≡ true) q.1 u.0,
+        subst (λ x. constructor_in_order b (con_number x) ≡ true) q.1 u.0,
         subst (λ x. binders_fit (con_fields x) bs ≡ true) q.1 v.0,
         ap (λ x. AfterCon (con_number x)) (sym q.1) ∙ ok_ok v.1,
       )
@@ -111,7 +111,7 @@ module _ (ms : List NModule) where
         let p = alts_are_judged 3 alts in rw (type_is_given e, kind_is_given ms t, kind_is_given ms r, p.1, same_type_refl s, v) refl
     type_is_given (typed_con k gs is args l t a) = rw (args_are_given 0 args, is, l, t, a) refl
 
-    pub args_are_given : {c : Context} {args : NArgs} {gs : List Given} (i : ℕ) → ArgsAreGiven ms c args gs → args_given ms c i args ≡ Ok gs
+    pub args_are_given : {c : Context} {args : NArgs} {gs : List TypedArg} (i : ℕ) → ArgsAreGiven ms c args gs → args_given ms c i args ≡ Ok gs
     args_are_given i no_args = refl
     args_are_given i (one_arg a rest) = rw (type_is_given a, args_are_given (i + 1) rest) refl
 
@@ -181,7 +181,7 @@ module _ (ms : List NModule) where
     given_type_is c (NJoin r u js e) t h = err_ok h
     given_type_is c (NJump i args) t h = err_ok h
 
-    pub given_args_are : (c : Context) (i : ℕ) (args : NArgs) (gs : List Given) → args_given ms c i args ≡ Ok gs → ArgsAreGiven ms c args gs
+    pub given_args_are : (c : Context) (i : ℕ) (args : NArgs) (gs : List TypedArg) → args_given ms c i args ≡ Ok gs → ArgsAreGiven ms c args gs
     given_args_are c i NoNArgs gs h = subst (λ x. ArgsAreGiven ms c NoNArgs x) (ok_ok h) no_args
     given_args_are c i (MoreNArgs (NATerm a) rest) gs h =
         let p = part i (type_or_fault ms c a) _ gs h in
@@ -207,14 +207,14 @@ module _ (ms : List NModule) where
     judged_alts_fit c s rt i b (MoreNAlts (NBranch head.Default bs e) rest) last h =
         let p = part i (alt_judged ms c s rt b (NBranch head.Default bs e)) _ last h in
         let q = alt_inv c s rt b head.Default bs e p.0 p.1 in
-        let u = need_inv (default_goes b) _ _ p.0 q.2 in
+        let u = need_inv (default_in_order b) _ _ p.0 q.2 in
         default_alt q.0 (given_type_is (with_binders bs c) e rt q.1) u.0
         (subst (λ x. AltsFit ms c s rt x rest) (sym (ok_ok u.1)) (judged_alts_fit c s rt (i + 1) p.0 rest last p.2))
     judged_alts_fit c s rt i b (MoreNAlts (NBranch (head.Lit n) bs e) rest) last h =
         let p = part i (alt_judged ms c s rt b (NBranch (head.Lit n) bs e)) _ last h in
         let q = alt_inv c s rt b (head.Lit n) bs e p.0 p.1 in
         let u = need_inv (is_int s) _ _ p.0 q.2 in
-        let v = need_inv (lit_goes b n) _ _ p.0 u.1 in
+        let v = need_inv (literal_in_order b n) _ _ p.0 u.1 in
         literal_alt q.0 (given_type_is (with_binders bs c) e rt q.1) u.0 v.0
         (subst (λ x. AltsFit ms c s rt x rest) (sym (ok_ok v.1)) (judged_alts_fit c s rt (i + 1) p.0 rest last p.2))
     judged_alts_fit c s rt i b (MoreNAlts (NBranch (head.Con n) bs e) rest) last h =

@@ -41,21 +41,21 @@ name_text n = n.text
 
 -- Where a piece stands: by itself, or where it is flattened into the piece around it. The result of a function goes on with the
 -- list of its parts, the head of an application begins it, and the body of a lambda ends the list of its binders.
-pub data Place : Type 0 where
-  Alone : Place
-  Result : Place
-  AsHead : Place
-  Body : Place
+pub data Position : Type 0 where
+  Alone : Position
+  Result : Position
+  AsHead : Position
+  Body : Position
 
 -- what does not go on with the piece around it
-abbrev pub placed : Place → List ℕ → List ℕ
+abbrev pub placed : Position → List ℕ → List ℕ
 placed Alone t = t
 placed Result t = 32 ∷ t
 placed AsHead t = codes "(app " ++ t
 placed Body t = codes ") " ++ (t ++ codes ")")
 
 -- forms that are not built yet have no text
-abbrev pub type_at : Ty → Place → List ℕ
+abbrev pub type_at : Ty → Position → List ℕ
 type_at (TVar a) at = []
 type_at (TCon n) at = placed at (name_text n)
 type_at TInt at = placed at (codes "Int#")
@@ -99,7 +99,7 @@ head_text (head.Lit n) bs = literal_text n
 head_text (head.Con n) bs = name_text n ++ (codes " (" ++ (binders_text bs ++ codes ")"))
 
 abbrev mutual
-  pub expr_at : Expr → Place → List ℕ
+  pub expr_at : Expr → Position → List ℕ
   expr_at (EVar n) at = placed at (name_text n)
   expr_at (ELit n) at = placed at (literal_text n)
   expr_at (EApp f a) AsHead = expr_at f AsHead ++ (32 ∷ arg_text a)

@@ -33,8 +33,10 @@ abbrev pub others : WordSet → List Word → List Word
 others seen [] = []
 others seen (w ∷ ws) = if seen w then others seen ws else w ∷ others (plus w seen) ws
 
--- the module under the written header: its hidden names are the read ones and then every other declared word that is not
--- exported, in declared order
+-- the hidden names that are written: the read ones, and then every other declared word that is not exported, in declared order
+abbrev pub hidden_of : Module → List Word
+hidden_of (ModuleOf m imports exports hidden ds) = hidden ++ others (plus_all hidden (plus_all exports no_word)) (declared_words ds)
+
+-- the module under the written header
 abbrev pub written_of : Module → Module
-written_of (ModuleOf m imports exports hidden ds) =
-    ModuleOf m imports exports (hidden ++ others (plus_all hidden (plus_all exports no_word)) (declared_words ds)) ds
+written_of (ModuleOf m imports exports hidden ds) = ModuleOf m imports exports (hidden_of (ModuleOf m imports exports hidden ds)) ds

@@ -1,9 +1,19 @@
 -- What the judgements as functions and the relations by cases have to do with each other.
 use Rattle.std.specs.Prelude.{◌≡◌, ◌↔◌, ℕ, true, List, Some, Ok}
-use Rattle.fc_syntax.specs.Tree.{Kind}
+use Rattle.fc_syntax.specs.Tree.{Kind, Module}
 use Rattle.fc_model.specs.Kinding.{HasHeadKind, head_kind_or_fault, same_type}
 use Rattle.fc_model.specs.Nameless.{NExpr, NModule, NTy}
+use Rattle.fc_model.specs.Resolution.{resolved_or_fault}
+use Rattle.fc_model.specs.ResolutionRules.{Resolves}
 use Rattle.fc_model.specs.Typing.{Context, HasType, type_or_fault, type_read_off}
+
+-- the function gives a nameless form exactly where the rules do
+abbrev pub NamelessFormsAreByCases : Type 0
+NamelessFormsAreByCases = (m : Module) (n : NModule) → (resolved_or_fault m ≡ Ok n) ↔ Resolves m n
+
+-- a module has at most one nameless form
+abbrev pub NamelessFormsAreUnique : Type 0
+NamelessFormsAreUnique = (m : Module) (n k : NModule) → Resolves m n → Resolves m k → n ≡ k
 
 -- the test for sameness of types is their equality
 abbrev pub SamenessIsEquality : Type 0

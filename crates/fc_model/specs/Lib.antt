@@ -12,11 +12,12 @@ pub mod Observing
 pub mod Programs
 pub mod ReadFaults
 pub mod Resolution
+pub mod ResolutionRules
 pub mod Says
 pub mod Stepping
 pub mod Terms
 pub mod Texts
 pub mod Typing
 pub mod WordSets
+pub mod Worded
 pub mod Words
-pub mod Scopes

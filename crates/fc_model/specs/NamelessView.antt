@@ -1,223 +1,97 @@
--- What the nameless trees of src mean: the words of their binders are forgotten.
-use Rattle.std.specs.Prelude.{List, [], ◌∷◌, map}
-use Rattle.fc_syntax.specs.Tree.{Kind}
-use Rattle.fc_syntax.specs.View.{kind_of}
-use Rattle.fc_model.specs.Nameless.{NTy, NTVar, NTCon, NTInt, NTApp, NTFun, NTForall, NTCoForall}
-use Rattle.fc_model.specs.Nameless.{NCo, NGVar, NGRefl, NGSym, NGTrans, NGTc, NGCapp, NGFun, NGAll, NGCoAll, NGInst, NGNth, NGLeft, NGRight, NGSub, NGAx, NGUniv, NCos, NoNCos, MoreNCos}
-use Rattle.fc_model.specs.Nameless.{NBinder, NBValue, NBType, NBCo, NArg, NATerm, NAType, NACo, NBind, NBound, NJoinBind, NJoined, NAlt, NBranch}
-use Rattle.fc_model.specs.Nameless.{NExpr, NLocal, NVar, NLit, NApp, NLam, NLet, NCase, NCast, NCon, NPrim, NFail, NJoin, NJump}
-use Rattle.fc_model.specs.Nameless.{NExprs, NoNExprs, MoreNExprs, NArgs, NoNArgs, MoreNArgs, NBinds, NoNBinds, MoreNBinds, NJoins, NoNJoins, MoreNJoins, NAlts, NoNAlts, MoreNAlts}
-use Rattle.fc_model.specs.Nameless.{NParam, NParamOf, NConDecl, NConOf, NDecl, NData, NNew, NFamily, NAxiom, NDef, NWrap, NModule, NModuleOf}
-use Rattle.fc_model.specs.declared.nameless.NTy as T
-use Rattle.fc_model.specs.declared.nameless.NTy.{NTy-F}
-use Rattle.fc_model.specs.declared.nameless.NCo as G
-use Rattle.fc_model.specs.declared.nameless.NCo.{NCo-F, Row_of-NCo, end_of-NCo, more_of-NCo}
-use Rattle.fc_model.specs.declared.nameless.NBinder as RustBinder
-use Rattle.fc_model.specs.declared.nameless.NBinder.TheVariants as B
-use Rattle.fc_model.specs.declared.nameless.NArg as A
-use Rattle.fc_model.specs.declared.nameless.NBind as RustBind
-use Rattle.fc_model.specs.declared.nameless.NJoinBind as RustJoin
-use Rattle.fc_model.specs.declared.nameless.NAlt as RustAlt
-use Rattle.fc_model.specs.declared.nameless.NParam as RustParam
-use Rattle.fc_model.specs.declared.nameless.NPlain as RustPlain
-use Rattle.fc_model.specs.declared.nameless.NConDecl as RustConDecl
-use Rattle.fc_model.specs.declared.nameless.NDecl as RustDecl
-use Rattle.fc_model.specs.declared.nameless.NDecl.TheVariants as D
-use Rattle.fc_model.specs.declared.nameless.NModule as RustModule
-use Rattle.fc_model.specs.declared.nameless.NExpr as E
-use Rattle.fc_model.specs.declared.nameless.NExpr.{NExpr-F, Row_of-NExpr, end_of-NExpr, more_of-NExpr, Row_of-NArg, end_of-NArg, more_of-NArg, Row_of-NBind, end_of-NBind, more_of-NBind, Row_of-NAlt, end_of-NAlt, more_of-NAlt, Row_of-NJoinBind, end_of-NJoinBind, more_of-NJoinBind}
+-- What the nameless trees of src mean to every judgement: the words of their binders are forgotten.
+use Rattle.std.specs.Prelude.{ℕ, List, map}
+use Rattle.fc_syntax.specs.GenericTree.{Kind}
+use Rattle.fc_syntax.specs.View.{ty_of, tys_of, co_of, cos_of, binder_of, binders_of, expr_of, exprs_of, arg_of, args_of, bind_of, binds_of, join_of, joins_of, alt_of, alts_of}
+use Rattle.fc_syntax.specs.View.{param_of, params_of, plain_of, plains_of, con_of, cons_of, decl_of, decls_of, module_of}
+use Rattle.fc_syntax.specs.declared.ty.Ref.{Ref}
+use Rattle.fc_syntax.specs.declared.ty.Ty as T
+use Rattle.fc_syntax.specs.declared.co.Co as G
+use Rattle.fc_syntax.specs.declared.expr.Binder as RustBinder
+use Rattle.fc_syntax.specs.declared.expr.Arg as A
+use Rattle.fc_syntax.specs.declared.expr.Bind as RustBind
+use Rattle.fc_syntax.specs.declared.expr.JoinBind as RustJoin
+use Rattle.fc_syntax.specs.declared.expr.Alt as RustAlt
+use Rattle.fc_syntax.specs.declared.expr.Expr as E
+use Rattle.fc_syntax.specs.declared.module.Param as RustParam
+use Rattle.fc_syntax.specs.declared.module.Plain as RustPlain
+use Rattle.fc_syntax.specs.declared.module.ConDecl as RustConDecl
+use Rattle.fc_syntax.specs.declared.module.Decl as RustDecl
+use Rattle.fc_syntax.specs.declared.module.Module as RustModule
+use Rattle.fc_model.specs.Nameless.{NTy, NCo, NCos, NBinder, NExpr, NArg, NBind, NJoinBind, NAlt, NExprs, NArgs, NBinds, NJoins, NAlts, NParam, NConDecl, NDecl, NModule}
+use Rattle.fc_model.specs.Worded.{bare_ty, bare_tys, bare_co, bare_cos, bare_binder, bare_binders, bare_expr, bare_exprs, bare_arg, bare_args, bare_bind, bare_binds, bare_join, bare_joins, bare_alt, bare_alts}
+use Rattle.fc_model.specs.Worded.{bare_param, bare_plain, bare_con, bare_decl, bare_decls, bare_module}
 
-unfoldable pub nty_of : T.NTy → NTy
-nty_of (T.Var i) = NTVar i
-nty_of (T.Con n) = NTCon n
-nty_of T.IntHash = NTInt
-nty_of (T.App' _ t _ u) = NTApp (nty_of t) (nty_of u)
-nty_of (T.Fun' _ t _ u) = NTFun (nty_of t) (nty_of u)
-nty_of (T.Forall' a k _ t) = NTForall (kind_of k) (nty_of t)
-nty_of (T.CoForall' r _ t _ u _ v) = NTCoForall r (nty_of t) (nty_of u) (nty_of v)
+abbrev pub nty_of : T.Ty ℕ → NTy
+nty_of t = bare_ty (ty_of t)
 
-abbrev pub nty_at : NTy-F T.NTy → NTy
-nty_at (NTy-F.Var i) = NTVar i
-nty_at (NTy-F.Con n) = NTCon n
-nty_at NTy-F.IntHash = NTInt
-nty_at (NTy-F.App t u) = NTApp (nty_of t.value) (nty_of u.value)
-nty_at (NTy-F.Fun t u) = NTFun (nty_of t.value) (nty_of u.value)
-nty_at (NTy-F.Forall a k t) = NTForall (kind_of k) (nty_of t.value)
-nty_at (NTy-F.CoForall r t u v) = NTCoForall r (nty_of t.value) (nty_of u.value) (nty_of v.value)
+abbrev pub ntys_of : List (T.Ty ℕ) → List NTy
+ntys_of ts = bare_tys (tys_of ts)
 
-unfoldable mutual
-  pub nco_of : G.NCo → NCo
-  nco_of (G.Var c) = NGVar c
-  nco_of (G.Refl r t) = NGRefl r (nty_of t)
-  nco_of (G.Sym' _ g) = NGSym (nco_of g)
-  nco_of (G.Trans' _ g _ h) = NGTrans (nco_of g) (nco_of h)
-  nco_of (G.Tc' r n _ gs) = NGTc r n (ncos_row gs)
-  nco_of (G.Capp' _ g _ h) = NGCapp (nco_of g) (nco_of h)
-  nco_of (G.FunCo' _ g _ h) = NGFun (nco_of g) (nco_of h)
-  nco_of (G.AllCo' a k _ g) = NGAll (kind_of k) (nco_of g)
-  nco_of (G.CoAllCo' r s _ f _ g _ h) = NGCoAll r s (nco_of f) (nco_of g) (nco_of h)
-  nco_of (G.Inst' _ g _ h) = NGInst (nco_of g) (nco_of h)
-  nco_of (G.Nth' n _ g) = NGNth n (nco_of g)
-  nco_of (G.Left' _ g) = NGLeft (nco_of g)
-  nco_of (G.Right' _ g) = NGRight (nco_of g)
-  nco_of (G.Sub' _ g) = NGSub (nco_of g)
-  nco_of (G.Ax' n _ gs) = NGAx n (ncos_row gs)
-  nco_of (G.Univ t u) = NGUniv (nty_of t) (nty_of u)
+abbrev pub nco_of : G.Co ℕ → NCo
+nco_of g = bare_co (co_of g)
 
-  pub ncos_row : {n : _} → Row_of-NCo n → NCos
-  ncos_row end_of-NCo = NoNCos
-  ncos_row (more_of-NCo g rest) = MoreNCos (nco_of g) (ncos_row rest)
+abbrev pub ncos_of : List (G.Co ℕ) → NCos
+ncos_of gs = bare_cos (cos_of gs)
 
-abbrev pub ncos_of : List G.NCo → NCos
-ncos_of [] = NoNCos
-ncos_of (g ∷ gs) = MoreNCos (nco_of g) (ncos_of gs)
+abbrev pub nbinder_of : RustBinder.Binder ℕ → NBinder
+nbinder_of b = bare_binder (binder_of b)
 
-abbrev pub nco_at : NCo-F G.NCo → NCo
-nco_at (NCo-F.Var c) = NGVar c
-nco_at (NCo-F.Refl r t) = NGRefl r (nty_of t)
-nco_at (NCo-F.Sym g) = NGSym (nco_of g.value)
-nco_at (NCo-F.Trans g h) = NGTrans (nco_of g.value) (nco_of h.value)
-nco_at (NCo-F.Tc r n gs) = NGTc r n (ncos_of gs)
-nco_at (NCo-F.Capp g h) = NGCapp (nco_of g.value) (nco_of h.value)
-nco_at (NCo-F.FunCo g h) = NGFun (nco_of g.value) (nco_of h.value)
-nco_at (NCo-F.AllCo a k g) = NGAll (kind_of k) (nco_of g.value)
-nco_at (NCo-F.CoAllCo r s f g h) = NGCoAll r s (nco_of f.value) (nco_of g.value) (nco_of h.value)
-nco_at (NCo-F.Inst g h) = NGInst (nco_of g.value) (nco_of h.value)
-nco_at (NCo-F.Nth n g) = NGNth n (nco_of g.value)
-nco_at (NCo-F.Left g) = NGLeft (nco_of g.value)
-nco_at (NCo-F.Right g) = NGRight (nco_of g.value)
-nco_at (NCo-F.Sub g) = NGSub (nco_of g.value)
-nco_at (NCo-F.Ax n gs) = NGAx n (ncos_of gs)
-nco_at (NCo-F.Univ t u) = NGUniv (nty_of t) (nty_of u)
+abbrev pub nbinders_of : List (RustBinder.Binder ℕ) → List NBinder
+nbinders_of bs = bare_binders (binders_of bs)
 
-abbrev pub nbinder_of : RustBinder.NBinder → NBinder
-nbinder_of (B.Value x t) = NBValue (nty_of t)
-nbinder_of (B.OfType a k) = NBType (kind_of k)
-nbinder_of (B.OfCo c r t u) = NBCo r (nty_of t) (nty_of u)
+abbrev pub nexpr_of : E.Expr ℕ Ref → NExpr
+nexpr_of e = bare_expr (expr_of e)
 
-abbrev pub nbinders_of : List RustBinder.NBinder → List NBinder
-nbinders_of bs = map nbinder_of bs
+abbrev pub narg_of : A.Arg ℕ Ref → NArg
+narg_of a = bare_arg (arg_of a)
 
-unfoldable mutual
-  pub nexpr_of : E.NExpr → NExpr
-  nexpr_of (E.Local i) = NLocal i
-  nexpr_of (E.Var n) = NVar n
-  nexpr_of (E.Lit n) = NLit n
-  nexpr_of (E.App' _ f _ (A.Term a)) = NApp (nexpr_of f) (NATerm (nexpr_of a))
-  nexpr_of (E.App' _ f _ (A.OfType t)) = NApp (nexpr_of f) (NAType (nty_of t))
-  nexpr_of (E.App' _ f _ (A.OfCo g)) = NApp (nexpr_of f) (NACo (nco_of g))
-  nexpr_of (E.Lam' b _ e) = NLam (nbinder_of b.value) (nexpr_of e)
-  nexpr_of (E.Let' r _ bs _ e) = NLet r (nbinds_row bs) (nexpr_of e)
-  nexpr_of (E.Case' _ e x t u _ alts) = NCase (nexpr_of e) (nty_of t) (nty_of u) (nalts_row alts)
-  nexpr_of (E.Cast' _ e g) = NCast (nexpr_of e) (nco_of g)
-  nexpr_of (E.Con' n _ args) = NCon n (nargs_row args)
-  nexpr_of (E.Prim' op _ es) = NPrim op (nexprs_row es)
-  nexpr_of (E.Fail t) = NFail (nty_of t)
-  nexpr_of (E.Join' r t _ js _ e) = NJoin r (nty_of t) (njoins_row js) (nexpr_of e)
-  nexpr_of (E.Jump' j _ args) = NJump j (nargs_row args)
+abbrev pub nbind_of : RustBind.Bind ℕ Ref → NBind
+nbind_of b = bare_bind (bind_of b)
 
-  pub nexprs_row : {n : _} → Row_of-NExpr n → NExprs
-  nexprs_row end_of-NExpr = NoNExprs
-  nexprs_row (more_of-NExpr e rest) = MoreNExprs (nexpr_of e) (nexprs_row rest)
+abbrev pub njoin_of : RustJoin.JoinBind ℕ Ref → NJoinBind
+njoin_of j = bare_join (join_of j)
 
-  pub nargs_row : {n : _} → Row_of-NArg n → NArgs
-  nargs_row end_of-NArg = NoNArgs
-  nargs_row (more_of-NArg (A.Term e) rest) = MoreNArgs (NATerm (nexpr_of e)) (nargs_row rest)
-  nargs_row (more_of-NArg (A.OfType t) rest) = MoreNArgs (NAType (nty_of t)) (nargs_row rest)
-  nargs_row (more_of-NArg (A.OfCo g) rest) = MoreNArgs (NACo (nco_of g)) (nargs_row rest)
+abbrev pub nalt_of : RustAlt.Alt ℕ Ref → NAlt
+nalt_of a = bare_alt (alt_of a)
 
-  pub nbinds_row : {n : _} → Row_of-NBind n → NBinds
-  nbinds_row end_of-NBind = NoNBinds
-  nbinds_row (more_of-NBind x t e rest) = MoreNBinds (NBound (nty_of t) (nexpr_of e)) (nbinds_row rest)
+abbrev pub nexprs_of : List (E.Expr ℕ Ref) → NExprs
+nexprs_of es = bare_exprs (exprs_of es)
 
-  pub njoins_row : {n : _} → Row_of-NJoinBind n → NJoins
-  njoins_row end_of-NJoinBind = NoNJoins
-  njoins_row (more_of-NJoinBind j ps e rest) = MoreNJoins (NJoined (nbinders_of ps) (nexpr_of e)) (njoins_row rest)
+abbrev pub nargs_of : List (A.Arg ℕ Ref) → NArgs
+nargs_of args = bare_args (args_of args)
 
-  pub nalts_row : {n : _} → Row_of-NAlt n → NAlts
-  nalts_row end_of-NAlt = NoNAlts
-  nalts_row (more_of-NAlt h bs e rest) = MoreNAlts (NBranch h (nbinders_of bs) (nexpr_of e)) (nalts_row rest)
+abbrev pub nbinds_of : List (RustBind.Bind ℕ Ref) → NBinds
+nbinds_of bs = bare_binds (binds_of bs)
 
-abbrev pub narg_of : A.NArg → NArg
-narg_of (A.Term e) = NATerm (nexpr_of e)
-narg_of (A.OfType t) = NAType (nty_of t)
-narg_of (A.OfCo g) = NACo (nco_of g)
+abbrev pub njoins_of : List (RustJoin.JoinBind ℕ Ref) → NJoins
+njoins_of js = bare_joins (joins_of js)
 
-abbrev pub nbind_of : RustBind.NBind → NBind
-nbind_of b = NBound (nty_of b.ty) (nexpr_of b.rhs)
+abbrev pub nalts_of : List (RustAlt.Alt ℕ Ref) → NAlts
+nalts_of alts = bare_alts (alts_of alts)
 
-abbrev pub njoin_of : RustJoin.NJoinBind → NJoinBind
-njoin_of j = NJoined (nbinders_of j.params) (nexpr_of j.rhs)
+abbrev pub nparam_of : RustParam.Param → NParam
+nparam_of p = bare_param (param_of p)
 
-abbrev pub nalt_of : RustAlt.NAlt → NAlt
-nalt_of a = NBranch a.head (nbinders_of a.binders) (nexpr_of a.body)
+abbrev pub nparams_of : List RustParam.Param → List NParam
+nparams_of ps = map bare_param (params_of ps)
 
-abbrev pub nexprs_of : List E.NExpr → NExprs
-nexprs_of [] = NoNExprs
-nexprs_of (e ∷ rest) = MoreNExprs (nexpr_of e) (nexprs_of rest)
+abbrev pub nplain_of : RustPlain.Plain → Kind
+nplain_of p = bare_plain (plain_of p)
 
-abbrev pub nargs_of : List A.NArg → NArgs
-nargs_of [] = NoNArgs
-nargs_of (a ∷ rest) = MoreNArgs (narg_of a) (nargs_of rest)
+abbrev pub nplains_of : List RustPlain.Plain → List Kind
+nplains_of ps = map bare_plain (plains_of ps)
 
-abbrev pub nbinds_of : List RustBind.NBind → NBinds
-nbinds_of [] = NoNBinds
-nbinds_of (b ∷ rest) = MoreNBinds (nbind_of b) (nbinds_of rest)
+abbrev pub ncon_of : RustConDecl.ConDecl ℕ → NConDecl
+ncon_of c = bare_con (con_of c)
 
-abbrev pub njoins_of : List RustJoin.NJoinBind → NJoins
-njoins_of [] = NoNJoins
-njoins_of (j ∷ rest) = MoreNJoins (njoin_of j) (njoins_of rest)
+abbrev pub ncons_of : List (RustConDecl.ConDecl ℕ) → List NConDecl
+ncons_of cs = map bare_con (cons_of cs)
 
-abbrev pub nalts_of : List RustAlt.NAlt → NAlts
-nalts_of [] = NoNAlts
-nalts_of (a ∷ rest) = MoreNAlts (nalt_of a) (nalts_of rest)
+abbrev pub ndecl_of : RustDecl.Decl ℕ Ref → NDecl
+ndecl_of d = bare_decl (decl_of d)
 
-abbrev pub nexpr_at : NExpr-F A.NArg E.NExpr RustAlt.NAlt RustBind.NBind RustJoin.NJoinBind → NExpr
-nexpr_at (NExpr-F.Local i) = NLocal i
-nexpr_at (NExpr-F.Var n) = NVar n
-nexpr_at (NExpr-F.Lit n) = NLit n
-nexpr_at (NExpr-F.App f a) = NApp (nexpr_of f.value) (narg_of a.value)
-nexpr_at (NExpr-F.Lam b e) = NLam (nbinder_of b.value) (nexpr_of e.value)
-nexpr_at (NExpr-F.Let r bs e) = NLet r (nbinds_of bs) (nexpr_of e.value)
-nexpr_at (NExpr-F.Case e x t u alts) = NCase (nexpr_of e.value) (nty_of t) (nty_of u) (nalts_of alts)
-nexpr_at (NExpr-F.Cast e g) = NCast (nexpr_of e.value) (nco_of g)
-nexpr_at (NExpr-F.Con n args) = NCon n (nargs_of args)
-nexpr_at (NExpr-F.Prim op es) = NPrim op (nexprs_of es)
-nexpr_at (NExpr-F.Fail t) = NFail (nty_of t)
-nexpr_at (NExpr-F.Join r t js e) = NJoin r (nty_of t) (njoins_of js) (nexpr_of e.value)
-nexpr_at (NExpr-F.Jump j args) = NJump j (nargs_of args)
+abbrev pub ndecls_of : List (RustDecl.Decl ℕ Ref) → List NDecl
+ndecls_of ds = bare_decls (decls_of ds)
 
-abbrev pub ntys_of : List T.NTy → List NTy
-ntys_of ts = map nty_of ts
-
-abbrev pub nparam_of : RustParam.NParam → NParam
-nparam_of p = NParamOf (kind_of p.kind) p.role
-
-abbrev pub nparams_of : List RustParam.NParam → List NParam
-nparams_of ps = map nparam_of ps
-
-abbrev pub nplain_of : RustPlain.NPlain → Kind
-nplain_of p = kind_of p.kind
-
-abbrev pub nplains_of : List RustPlain.NPlain → List Kind
-nplains_of ps = map nplain_of ps
-
-abbrev pub ncon_of : RustConDecl.NConDecl → NConDecl
-ncon_of c = NConOf c.name (nbinders_of c.binders) (ntys_of c.fields)
-
-abbrev pub ncons_of : List RustConDecl.NConDecl → List NConDecl
-ncons_of cs = map ncon_of cs
-
-abbrev pub ndecl_of : RustDecl.NDecl → NDecl
-ndecl_of (D.DataType n ps cs) = NData n (nparams_of ps) (ncons_of cs)
-ndecl_of (D.NewType n ps t con) = NNew n (nparams_of ps) (nty_of t) con
-ndecl_of (D.Family n ps k) = NFamily n (nplains_of ps) (kind_of k)
-ndecl_of (D.Axiom n ps t u) = NAxiom n (nplains_of ps) (nty_of t) (nty_of u)
-ndecl_of (D.Def n t e) = NDef n (nty_of t) (nexpr_of e)
-ndecl_of (D.Wrap n t e) = NWrap n (nty_of t) (nexpr_of e)
-
-abbrev pub ndecls_of : List RustDecl.NDecl → List NDecl
-ndecls_of ds = map ndecl_of ds
-
-abbrev pub nmodule_of : RustModule.NModule → NModule
-nmodule_of m = NModuleOf m.name m.imports m.exports m.hidden (ndecls_of m.decls)
+abbrev pub nmodule_of : RustModule.Module ℕ Ref → NModule
+nmodule_of m = bare_module (module_of m)

@@ -1,6 +1,6 @@
 -- The nameless form of a module, or its first fault of names: a word that is not in scope, or one that is bound twice. Both
 -- are sought in one walk, in declaration order and text order within.
-use Rattle.std.specs.Prelude.{◌≡◌, ℕ, ◌+◌, Bool, true, false, not, List, [], ◌∷◌, ◌++◌, map, reverse, length, if◌then◌else◌, Option, Some, None, option_map, Result, Ok, Err}
+use Rattle.std.specs.Prelude.{ℕ, ◌+◌, Bool, true, false, not, List, [], ◌∷◌, ◌++◌, map, reverse, length, if◌then◌else◌, Option, Some, None, option_map, Result, Ok, Err}
 use Rattle.std.specs.Str.{bytes_eq}
 use Rattle.fc_syntax.specs.declared.ty.Name.{Name}
 use Rattle.fc_syntax.specs.declared.expr.Head.{Head}
@@ -459,7 +459,3 @@ resolved_decls top ws (d ∷ ds) = and_then (within (decl_word d) (resolved_decl
 abbrev pub resolved_or_fault : Module → Result NModule F
 resolved_or_fault (ModuleOf m imports exports hidden ds) =
     and_then (resolved_decls (top_of (ModuleOf m imports exports hidden ds)) no_words ds) (λ cs. Ok (NModuleOf m imports exports hidden cs))
-
--- the module has this nameless form
-abbrev pub Resolves : Module → NModule → Type 0
-Resolves m n = resolved_or_fault m ≡ Ok n

@@ -8,7 +8,7 @@ use Rattle.fc_syntax.specs.Tree.{Word, Ty, TCon, TInt, TFun, ConDecl, ConOf, Bin
 use Rattle.fc_syntax.specs.Tree.{Alt, Branch, Alts, NoAlts, MoreAlts}
 use Rattle.fc_syntax.specs.Tree.{Decl, DData, DDef, Module, ModuleOf}
 use Rattle.fc_syntax.specs.Tokens.{Lexeme, is_module_part, tokens_of}
-use Rattle.fc_model.specs.declared.keyword.Keyword.TheVariants as word
+use Rattle.fc_syntax.specs.declared.keyword.Keyword.TheVariants as word
 use Rattle.fc_model.specs.Words.{Tok, Open, Close, Key, Lower, Upper, Literal, tok_of}
 
 -- a word without a dot, as a name

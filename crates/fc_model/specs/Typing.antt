@@ -120,32 +120,32 @@ applied (NTForall k t) u atom = Err (At NotFunction None [])
 applied (NTCoForall r t s v) u atom = Err (At NotFunction None [])
 
 -- a term that is given to a constructor: its type, and whether it is an atom
-pub record Given : Type 0 where
+pub record TypedArg : Type 0 where
   pub type : NTy
   pub atom : Bool
 
-abbrev pub types_fit : List NTy → List Given → Bool
-types_fit [] gs = true
-types_fit (t ∷ ts) [] = true
-types_fit (t ∷ ts) (g ∷ gs) = same_type t g.type && types_fit ts gs
+abbrev pub argument_types_match : List NTy → List TypedArg → Bool
+argument_types_match [] gs = true
+argument_types_match (t ∷ ts) [] = true
+argument_types_match (t ∷ ts) (g ∷ gs) = same_type t g.type && argument_types_match ts gs
 
-abbrev pub atoms_fit : List NTy → List Given → Bool
-atoms_fit [] gs = true
-atoms_fit (t ∷ ts) [] = true
-atoms_fit (t ∷ ts) (g ∷ gs) = atom_fits t g.atom && atoms_fit ts gs
+abbrev pub unlifted_arguments_are_atoms : List NTy → List TypedArg → Bool
+unlifted_arguments_are_atoms [] gs = true
+unlifted_arguments_are_atoms (t ∷ ts) [] = true
+unlifted_arguments_are_atoms (t ∷ ts) (g ∷ gs) = atom_fits t g.atom && unlifted_arguments_are_atoms ts gs
 
-abbrev pub same_length : {X Y : Type 0} → List X → List Y → Bool
-same_length [] [] = true
-same_length (x ∷ xs) (y ∷ ys) = same_length xs ys
-same_length xs ys = false
+abbrev pub is_saturated : {X Y : Type 0} → List X → List Y → Bool
+is_saturated [] [] = true
+is_saturated (x ∷ xs) (y ∷ ys) = is_saturated xs ys
+is_saturated xs ys = false
 
 -- a constructor without type parameters and binders of its own, given these terms
-abbrev pub constructed : Name → Option Constructor → List Given → Result NTy F
+abbrev pub constructed : Name → Option Constructor → List TypedArg → Result NTy F
 constructed n None gs = Err (At Unbound None [])
 constructed n (Some k) gs =
-    need (same_length k.fields gs) ConArity (need (types_fit k.fields gs) ArgType (need (atoms_fit k.fields gs) UnliftedNotAtom (Ok (NTCon (data_name n k.data_word)))))
+    need (is_saturated k.fields gs) ConArity (need (argument_types_match k.fields gs) ArgType (need (unlifted_arguments_are_atoms k.fields gs) UnliftedNotAtom (Ok (NTCon (data_name n k.data_word)))))
 
-abbrev pub then_given : NTy → Bool → Result (List Given) F → Result (List Given) F
+abbrev pub then_given : NTy → Bool → Result (List TypedArg) F → Result (List TypedArg) F
 then_given t atom (Ok gs) = Ok (record { type = t; atom = atom } ∷ gs)
 then_given t atom (Err f) = Err f
 
@@ -157,25 +157,25 @@ pub data Before : Type 0 where
   AfterCon : (number : ℕ) → Before
 
 -- a default stands first
-abbrev pub default_goes : Before → Bool
-default_goes Start = true
-default_goes AfterDefault = false
-default_goes (AfterLit n) = false
-default_goes (AfterCon i) = false
+abbrev pub default_in_order : Before → Bool
+default_in_order Start = true
+default_in_order AfterDefault = false
+default_in_order (AfterLit n) = false
+default_in_order (AfterCon i) = false
 
 -- literals rise
-abbrev pub lit_goes : Before → ℤ → Bool
-lit_goes Start n = true
-lit_goes AfterDefault n = true
-lit_goes (AfterLit m) n = int_lt m n
-lit_goes (AfterCon i) n = false
+abbrev pub literal_in_order : Before → ℤ → Bool
+literal_in_order Start n = true
+literal_in_order AfterDefault n = true
+literal_in_order (AfterLit m) n = int_lt m n
+literal_in_order (AfterCon i) n = false
 
 -- constructors come in declared order
-abbrev pub con_goes : Before → ℕ → Bool
-con_goes Start n = true
-con_goes AfterDefault n = true
-con_goes (AfterLit m) n = false
-con_goes (AfterCon i) n = nat_lt i n
+abbrev pub constructor_in_order : Before → ℕ → Bool
+constructor_in_order Start n = true
+constructor_in_order AfterDefault n = true
+constructor_in_order (AfterLit m) n = false
+constructor_in_order (AfterCon i) n = nat_lt i n
 
 abbrev pub binders_fit : List NTy → List NBinder → Bool
 binders_fit [] [] = true
@@ -197,10 +197,10 @@ con_fields (Some k) = k.fields
 
 -- an alternative for a scrutinee of this type, by its head: what stands before the next one
 abbrev pub head_goes : List NModule → NTy → Before → Head → List NBinder → Result Before F
-head_goes ms s b head.Default bs = need (default_goes b) AltOrder (Ok AfterDefault)
-head_goes ms s b (head.Lit n) bs = need (is_int s) LitAlt (need (lit_goes b n) AltOrder (Ok (AfterLit n)))
+head_goes ms s b head.Default bs = need (default_in_order b) AltOrder (Ok AfterDefault)
+head_goes ms s b (head.Lit n) bs = need (is_int s) LitAlt (need (literal_in_order b n) AltOrder (Ok (AfterLit n)))
 head_goes ms s b (head.Con n) bs =
-    need (is_con_of s n (constructor ms n)) AltConstructor (need (con_goes b (con_number (constructor ms n))) AltOrder
+    need (is_con_of s n (constructor ms n)) AltConstructor (need (constructor_in_order b (con_number (constructor ms n))) AltOrder
     (need (binders_fit (con_fields (constructor ms n)) bs) ConArity (Ok (AfterCon (con_number (constructor ms n))))))
 
 abbrev pub binder_types : List NBinder → List NTy
@@ -264,7 +264,7 @@ abbrev mutual
   argument_applied ms c t (NACo g) = not_built
 
   -- terms from part i on
-  pub args_given : List NModule → Context → ℕ → NArgs → Result (List Given) F
+  pub args_given : List NModule → Context → ℕ → NArgs → Result (List TypedArg) F
   args_given ms c i NoNArgs = Ok []
   args_given ms c i (MoreNArgs (NATerm a) rest) = and_then (under i (type_or_fault ms c a)) (λ t. then_given t (is_atom a) (args_given ms c (i + 1) rest))
   args_given ms c i (MoreNArgs (NAType u) rest) = not_built
@@ -349,13 +349,13 @@ mutual
         → HasType ms (with_binds bs c) e t → HasType ms c (NLet r bs e) t
     typed_case : {c : Context} {e : NExpr} {s rt : NTy} {alts : NAlts} (j k : Kind) → HasType ms c e s → HasKind ms c.kinds s j → HasKind ms c.kinds rt k
         → AltsFit ms (with_value s c) s rt Start alts → is_value_kind k ≡ true → HasType ms c (NCase e s rt alts) rt
-    typed_con : {c : Context} {n : Name} {args : NArgs} (k : Constructor) (gs : List Given) → constructor ms n ≡ Some k → ArgsAreGiven ms c args gs
-        → same_length k.fields gs ≡ true → types_fit k.fields gs ≡ true → atoms_fit k.fields gs ≡ true
+    typed_con : {c : Context} {n : Name} {args : NArgs} (k : Constructor) (gs : List TypedArg) → constructor ms n ≡ Some k → ArgsAreGiven ms c args gs
+        → is_saturated k.fields gs ≡ true → argument_types_match k.fields gs ≡ true → unlifted_arguments_are_atoms k.fields gs ≡ true
         → HasType ms c (NCon n args) (NTCon (data_name n k.data_word))
 
-  pub data ArgsAreGiven (ms : List NModule) : Context → NArgs → List Given → Type 0 where
+  pub data ArgsAreGiven (ms : List NModule) : Context → NArgs → List TypedArg → Type 0 where
     no_args : {c : Context} → ArgsAreGiven ms c NoNArgs []
-    one_arg : {c : Context} {a : NExpr} {rest : NArgs} {t : NTy} {gs : List Given} → HasType ms c a t → ArgsAreGiven ms c rest gs
+    one_arg : {c : Context} {a : NExpr} {rest : NArgs} {t : NTy} {gs : List TypedArg} → HasType ms c a t → ArgsAreGiven ms c rest gs
         → ArgsAreGiven ms c (MoreNArgs (NATerm a) rest) (record { type = t; atom = is_atom a } ∷ gs)
 
   pub data BindsHaveTypes (ms : List NModule) : Context → Bool → NBinds → Type 0 where
@@ -367,11 +367,11 @@ mutual
   pub data AltsFit (ms : List NModule) : Context → NTy → NTy → Before → NAlts → Type 0 where
     no_alts : {c : Context} {s rt : NTy} {b : Before} → AltsFit ms c s rt b NoNAlts
     default_alt : {c : Context} {s rt : NTy} {b : Before} {bs : List NBinder} {e : NExpr} {rest : NAlts} → BindersAreKinded ms c bs
-        → HasType ms (with_binders bs c) e rt → default_goes b ≡ true
+        → HasType ms (with_binders bs c) e rt → default_in_order b ≡ true
         → AltsFit ms c s rt AfterDefault rest → AltsFit ms c s rt b (MoreNAlts (NBranch head.Default bs e) rest)
     literal_alt : {c : Context} {s rt : NTy} {b : Before} {bs : List NBinder} {n : ℤ} {e : NExpr} {rest : NAlts} → BindersAreKinded ms c bs
-        → HasType ms (with_binders bs c) e rt → is_int s ≡ true → lit_goes b n ≡ true
+        → HasType ms (with_binders bs c) e rt → is_int s ≡ true → literal_in_order b n ≡ true
         → AltsFit ms c s rt (AfterLit n) rest → AltsFit ms c s rt b (MoreNAlts (NBranch (head.Lit n) bs e) rest)
     con_alt : {c : Context} {s rt : NTy} {b : Before} {bs : List NBinder} {n : Name} {e : NExpr} {rest : NAlts} (k : Constructor) → BindersAreKinded ms c bs
-        → HasType ms (with_binders bs c) e rt → constructor ms n ≡ Some k → s ≡ NTCon (data_name n k.data_word) → con_goes b k.number ≡ true → binders_fit k.fields bs ≡ true
+        → HasType ms (with_binders bs c) e rt → constructor ms n ≡ Some k → s ≡ NTCon (data_name n k.data_word) → constructor_in_order b k.number ≡ true → binders_fit k.fields bs ≡ true
         → AltsFit ms c s rt (AfterCon k.number) rest → AltsFit ms c s rt b (MoreNAlts (NBranch (head.Con n) bs e) rest)

@@ -5,8 +5,8 @@ use Rattle.fc_syntax.specs.declared.token.Token.{Token}
 use Rattle.fc_syntax.specs.declared.token.TokenKind.{TokenKind}
 use Rattle.fc_syntax.specs.declared.token.TokenKind.TheVariants as kind
 use Rattle.fc_syntax.specs.Tokens.{Lexeme, is_lower_name, is_upper_name, lexeme_of}
-use Rattle.fc_model.specs.declared.keyword.Keyword.{Keyword}
-use Rattle.fc_model.specs.declared.keyword.Keyword.TheVariants as word
+use Rattle.fc_syntax.specs.declared.keyword.Keyword.{Keyword}
+use Rattle.fc_syntax.specs.declared.keyword.Keyword.TheVariants as word
 
 pub data Tok : Type 0 where
   Open : Tok

@@ -47,13 +47,6 @@ pub fn flaw_here(alloc: Global, kind: FaultKind) -> Flawed
     })
 }
 
-/// The answer for a form that is not built yet: want of memory, which says nothing of what is judged.
-pub fn not_built() -> Flawed
-    ensures { result ≡ memory }
-{
-    Flawed::Memory
-}
-
 /// The number of the next part, where it can be told.
 pub fn next_part(part: u32) -> Result<u32, Flawed>
     ensures next { IfOk result (λ next. next ≡ part + 1) }

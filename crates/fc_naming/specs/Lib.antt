@@ -1,5 +1,8 @@
-pub mod Hinted
-pub mod HintedView
-pub mod Naming
-pub mod Scopes
-pub mod Laws
+pub mod Declarations
+pub mod GroupWords
+pub mod Groups
+pub mod Known
+pub mod Named
+pub mod Scoped
+pub mod Standing
+pub mod Used

@@ -1,120 +1,135 @@
-//! The words of the binders of an alternative.
-ghost use Rattle.std.specs.Prelude.{◌≡◌, ◌||◌, IfOk};
+//! The binders of an alternative, a join point or a constructor, and the members of groups, with the words that they take.
+ghost use Rattle.std.specs.Prelude.{◌≡◌, length, IfOk, OnOk};
 ghost use Rattle.fc_syntax.specs.View.{binder_of, binders_of};
-ghost use Rattle.fc_model.specs.Resolution.{no_word, plus_all};
-ghost use Rattle.fc_naming.specs.HintedView.{hbinder_of, hbinders_of, hexpr_of};
-ghost use Rattle.fc_naming.specs.Naming.{IsChosen, IsNamedBinder, either, hiding, uses as is_used};
-ghost use Rattle.fc_naming.specs.Scopes.{GoesOn, onto, words_of};
+ghost use Rattle.fc_model.specs.NamelessView.{nbinder_of, nbinders_of};
+ghost use Rattle.fc_model.specs.Resolution.{Locals, enter};
+ghost use Rattle.fc_model.specs.WordSets.{set_of};
+ghost use Rattle.fc_scope.specs.ScopeWords.{locals_of, with_binders};
+ghost use Rattle.fc_naming.specs.Groups.{IsGroup};
+ghost use Rattle.fc_naming.specs.Known.{top_by, words_by};
+ghost use Rattle.fc_naming.specs.Named.{TakeWords, TakesWord};
 
-use crate::expressions::candidate;
-use crate::is_among;
-use crate::names::named_ty;
-use crate::scope::Scope;
-use crate::uses::{below, uses};
-use fc_model::{NBinder, NExpr};
-use fc_syntax::{Binder, Memory, Seq, Text};
+use crate::choose::take_word;
+use crate::error::NotNamed;
+use crate::known::Known;
+use crate::types::named_ty;
+use crate::used::Used;
+use fc_model::WordSet;
+use fc_scope::{Binders, Names, Scope};
+use fc_syntax::{Binder, Memory, NBind, NBinder, NJoinBind, Seq, Text};
 use std::alloc::Global;
 
-/// Whether a word is one of those that the binders of the alternative before have taken, or would hide a name.
-fn is_taken(
-    word: &Text,
-    passed: &[Text],
-    own: &Text,
-    scope: &Scope,
-    inside: u32,
-    e: &NExpr,
-) -> Result<bool, Memory>
-    ensures { IfOk result (λ b. b ≡ plus_all passed.now no_word word.now || is_used word.now own.now (words_of scope.now) inside (hexpr_of e.now)) }
-{
-    if is_among(passed, word) {
-        return Ok(true);
-    }
-    uses(word, own, scope, inside, e)
-}
-
-/// The first candidate that is not taken, for a binder of an alternative. Where there are too many, want of memory is answered.
-fn chosen(
+/// A binder with a word that is not taken, which is taken then.
+pub fn named_binder<'x>(
     alloc: Global,
-    hint: &Text,
-    passed: &[Text],
-    own: &Text,
-    scope: &Scope,
-    inside: u32,
-    e: &NExpr,
-) -> Result<Text, Memory>
-    ensures { IfOk result (λ v. IsChosen (either (plus_all passed.now no_word) (hiding own.now (words_of scope.now) inside (hexpr_of e.now))) hint.now v) }
-{
-    for number in 0..u32::MAX {
-        let next = candidate(alloc, hint, number)?;
-        if !is_taken(&next, passed, own, scope, inside, e)? {
-            return Ok(next);
-        }
-    }
-    Err(Memory)
-}
-
-/// A binder, with its word again.
-#[derive(Drop)]
-struct Named {
-    word: Text,
-    binder: Binder,
-}
-
-/// A binder of a value, behind those whose words are passed; as many as are told are inside of them, itself included.
-fn named_binder<'x>(
-    alloc: Global,
-    own: &Text,
-    scope: &'x Scope<'x>,
-    passed: &'x [Text],
-    inside: u32,
     binder: &NBinder,
-    e: &NExpr,
-) -> Result<Named, Memory>
-    ensures { IfOk result (λ r. IsNamedBinder own.now (either (plus_all passed.now no_word) (hiding own.now (onto passed.now (words_of scope.now)) inside (hexpr_of e.now))) (hbinder_of binder.now) r.word (binder_of r.binder)) }
+    top: &Known,
+    scope: &'x Scope<'x>,
+    taken: &mut Used,
+) -> Result<Binder, NotNamed>
+    ensures { IfOk result (λ b. TakesWord (top_by top.now) (locals_of scope.now) (words_by taken.old) (nbinder_of binder.now) (binder_of b) (enter (binder_of b) (locals_of scope.now)) (words_by taken.new)) }
 {
     match binder {
         NBinder::Value(hint, t) => {
-            let t = named_ty(alloc, own, t)?;
-            let around = Scope::Values(passed, &*scope);
-            let word = chosen(alloc, hint, passed, own, &around, inside, e)?;
-            let binder = Binder::Value(word.copy(alloc)?, t);
-            Ok(Named { word, binder })
+            let t = named_ty(alloc, t, top, &*scope)?;
+            let word = take_word(alloc, hint, &mut taken.terms)?;
+            Ok(Binder::Value(word, t))
         }
-        NBinder::OfType(_, _) => Err(Memory),
-        NBinder::OfCo(_, _, _, _) => Err(Memory),
+        NBinder::OfType(hint, kind) => {
+            let kind = kind.copy(alloc)?;
+            let word = take_word(alloc, hint, &mut taken.types)?;
+            Ok(Binder::OfType(word, kind))
+        }
+        NBinder::OfCo(hint, role, t, u) => {
+            let t = named_ty(alloc, t, top, &*scope)?;
+            let u = named_ty(alloc, u, top, &*scope)?;
+            let word = take_word(alloc, hint, &mut taken.coercions)?;
+            Ok(Binder::OfCo(word, *role, t, u))
+        }
     }
 }
 
-/// The binders of an alternative, with their words again.
-#[derive(Drop)]
-pub struct NamedBinders {
-    /// The words, the outermost first.
-    pub words: Seq<Text>,
-    /// The binders in the same order.
-    pub binders: Seq<Binder>,
+/// Puts the word of a binder in.
+pub fn add_binder(alloc: Global, words: &mut Binders, binder: &Binder) -> Result<(), Memory>
+    ensures { OnOk result ((s : Locals) → with_binders words.new s ≡ enter (binder_of binder.now) (with_binders words.old s)) }
+{
+    match binder {
+        Binder::Value(word, _) => words.values.add(alloc, word),
+        Binder::OfType(word, _) => words.types.add(alloc, word),
+        Binder::OfCo(word, _, _, _) => words.coercions.add(alloc, word),
+    }
 }
 
-/// The binders of an alternative that answers this expression, the outermost first.
+/// Binders with their words.
+#[derive(Drop)]
+pub struct Named {
+    /// The binders, the outermost first.
+    pub binders: Seq<Binder>,
+    /// Their words.
+    pub words: Binders,
+}
+
+/// Binders, each with a word that is not taken by a name in its scope or by a binder before it.
 pub fn named_binders<'x>(
     alloc: Global,
-    own: &Text,
-    scope: &'x Scope<'x>,
     binders: &[NBinder],
-    e: &NExpr,
-) -> Result<NamedBinders, Memory>
-    ensures { IfOk result (λ r. GoesOn own.now (words_of scope.now) (hbinders_of binders.now) (hexpr_of e.now) r.words (binders_of r.binders)) }
+    top: &Known,
+    scope: &'x Scope<'x>,
+    taken: &mut Used,
+) -> Result<Named, NotNamed>
+    ensures { IfOk result (λ r. TakeWords (top_by top.now) (locals_of scope.now) (words_by taken.old) (nbinders_of binders.now) (binders_of r.binders) (with_binders r.words (locals_of scope.now)) (words_by taken.new)) }
 {
-    let mut inside = below(binders, 0)?;
-    let mut words = Seq::new(alloc);
+    let mut words = Binders::new(alloc);
     let mut out = Seq::new(alloc);
     for binder in binders {
-        let next = named_binder(alloc, own, &*scope, words.as_slice(), inside, binder, e)?;
-        words.push(next.word)?;
-        out.push(next.binder)?;
-        inside -= 1;
+        let around = Scope::Binders(&words, &*scope);
+        let next = named_binder(alloc, binder, top, &around, taken)?;
+        add_binder(alloc, &mut words, &next)?;
+        out.push(next)?;
     }
-    Ok(NamedBinders {
-        words,
+    Ok(Named {
         binders: out,
+        words,
     })
+}
+
+/// The words of the members of a group.
+#[derive(Drop)]
+pub struct Group {
+    /// The words, the outermost first.
+    pub words: Seq<Text>,
+    /// The same for look-ups.
+    pub names: Names,
+}
+
+/// The words of binds, each not taken by a name in its scope or by a bind before it.
+pub fn bind_group(alloc: Global, binds: &[NBind], taken: &mut WordSet) -> Result<Group, NotNamed>
+    ensures { IfOk result (λ r. IsGroup (set_of taken.old) (length binds.now) r.words r.names (set_of taken.new)) }
+{
+    let mut words = Seq::new(alloc);
+    let mut names = Names::new(alloc);
+    for bind in binds {
+        let word = take_word(alloc, &bind.name, taken)?;
+        names.add(alloc, &word)?;
+        words.push(word)?;
+    }
+    Ok(Group { words, names })
+}
+
+/// The words of join points, each not taken by a name in its scope or by a join point before it.
+pub fn join_group(
+    alloc: Global,
+    joins: &[NJoinBind],
+    taken: &mut WordSet,
+) -> Result<Group, NotNamed>
+    ensures { IfOk result (λ r. IsGroup (set_of taken.old) (length joins.now) r.words r.names (set_of taken.new)) }
+{
+    let mut words = Seq::new(alloc);
+    let mut names = Names::new(alloc);
+    for join in joins {
+        let word = take_word(alloc, &join.name, taken)?;
+        names.add(alloc, &word)?;
+        words.push(word)?;
+    }
+    Ok(Group { words, names })
 }

@@ -1,85 +1,175 @@
 //! Declarations with words for their binders.
-ghost use Rattle.std.specs.Prelude.{[], IfOk};
-ghost use Rattle.fc_syntax.specs.View.{con_of, cons_of, decl_of, decls_of, expr_of};
-ghost use Rattle.fc_model.specs.NamelessView.{ncon_of, ncons_of};
-ghost use Rattle.fc_naming.specs.HintedView.{hdecl_of, hdecls_of, hexpr_of};
-ghost use Rattle.fc_naming.specs.Naming.{AreEach, IsNamedCon, IsNamed, IsNamedDecl};
+ghost use Rattle.std.specs.Prelude.{IfOk, OnOk};
+ghost use Rattle.fc_syntax.specs.View.{con_of, cons_of, decl_of, decls_of};
+ghost use Rattle.fc_model.specs.NamelessView.{nbinders_of, ncon_of, ncons_of, ndecl_of, ndecls_of, ntys_of};
+ghost use Rattle.fc_scope.specs.ScopeWords.{locals_of};
+ghost use Rattle.fc_naming.specs.Known.{counts_of, top_by, words_by};
+ghost use Rattle.fc_naming.specs.Declarations.{FieldsUse, IsNamedCon, IsNamedCons, IsNamedDecl, IsNamedDecls};
+ghost use Rattle.fc_naming.specs.Used.{AddsTys};
 
-use crate::expressions::named;
-use crate::names::{named_ty, named_tys};
-use crate::scope::Scope;
-use fc_model::{NConDecl, NDecl, NExpr};
-use fc_syntax::{ConDecl, Decl, Expr, Memory, Seq, Text};
+use crate::binders::named_binders;
+use crate::error::NotNamed;
+use crate::expressions::named_expr;
+use crate::known::Known;
+use crate::params::{own_params, own_plains};
+use crate::types::{named_ty, named_tys};
+use crate::used::{Inside, Used};
+use crate::used_expressions::use_binders;
+use crate::used_types::use_ty;
+use fc_scope::Scope;
+use fc_syntax::{ConDecl, Decl, Memory, NConDecl, NDecl, NTy, Seq, Text};
 use std::alloc::Global;
 
-/// A constructor without binders of its own.
-fn named_con(alloc: Global, own: &Text, con: &NConDecl) -> Result<ConDecl, Memory>
-    ensures { IfOk result (λ r. IsNamedCon own.now (ncon_of con.now) (con_of r)) }
+// CONSTRUCTORS
+
+/// Puts the words in that types use.
+fn use_tys<'x>(
+    alloc: Global,
+    own: &Text,
+    types: &[NTy],
+    scope: &'x Scope<'x>,
+    inside: Inside,
+    used: &mut Used,
+) -> Result<(), NotNamed>
+    ensures { OnOk result (AddsTys own.now (locals_of scope.now) (counts_of inside) (ntys_of types.now) (words_by used.old) (words_by used.new)) }
 {
-    if !con.binders.is_empty() {
-        return Err(Memory);
+    for t in types {
+        use_ty(alloc, own, t, &*scope, inside, used)?;
     }
+    Ok(())
+}
+
+/// The words that the binders of a constructor and its fields use.
+fn used_in_con<'x>(
+    alloc: Global,
+    con: &NConDecl,
+    top: &Known,
+    scope: &'x Scope<'x>,
+) -> Result<Used, NotNamed>
+    ensures { IfOk result (λ u. FieldsUse top.now.own (locals_of scope.now) (nbinders_of con.now.binders) (ntys_of con.now.fields) (words_by u)) }
+{
+    let mut used = Used::new(alloc);
+    let inside = use_binders(
+        alloc,
+        &top.own,
+        con.binders.as_slice(),
+        &*scope,
+        Inside::new(),
+        &mut used,
+    )?;
+    use_tys(
+        alloc,
+        &top.own,
+        con.fields.as_slice(),
+        &*scope,
+        inside,
+        &mut used,
+    )?;
+    Ok(used)
+}
+
+/// A constructor with words for its binders.
+fn named_con<'x>(
+    alloc: Global,
+    con: &NConDecl,
+    top: &Known,
+    scope: &'x Scope<'x>,
+) -> Result<ConDecl, NotNamed>
+    ensures { IfOk result (λ r. IsNamedCon (top_by top.now) (locals_of scope.now) (ncon_of con.now) (con_of r)) }
+{
+    let mut taken = used_in_con(alloc, con, top, &*scope)?;
+    let named = named_binders(alloc, con.binders.as_slice(), top, &*scope, &mut taken)?;
+    let inner = Scope::Binders(&named.words, &*scope);
+    let fields = named_tys(alloc, con.fields.as_slice(), top, &inner)?;
     let name = con.name.copy(alloc)?;
-    let fields = named_tys(alloc, own, con.fields.as_slice())?;
+    let binders = named.binders;
     Ok(ConDecl {
         name,
-        binders: Seq::new(alloc),
+        binders,
         fields,
     })
 }
 
-fn named_cons(alloc: Global, own: &Text, cons: &[NConDecl]) -> Result<Seq<ConDecl>, Memory>
-    ensures { IfOk result (λ r. AreEach (IsNamedCon own.now) (ncons_of cons.now) (cons_of r)) }
+/// Constructors in the scope of their type's parameters.
+fn named_cons<'x>(
+    alloc: Global,
+    cons: &[NConDecl],
+    top: &Known,
+    scope: &'x Scope<'x>,
+) -> Result<Seq<ConDecl>, NotNamed>
+    ensures { IfOk result (λ r. IsNamedCons (top_by top.now) (locals_of scope.now) (ncons_of cons.now) (cons_of r)) }
 {
     let mut out = Seq::new(alloc);
     for con in cons {
-        let next = named_con(alloc, own, con)?;
+        let next = named_con(alloc, con, top, &*scope)?;
         out.push(next)?;
     }
     Ok(out)
 }
 
-/// An expression below no binder.
-fn closed(alloc: Global, own: &Text, e: &NExpr) -> Result<Expr, Memory>
-    ensures { IfOk result (λ r. IsNamed own.now [] (hexpr_of e.now) (expr_of r)) }
-{
-    let scope = Scope::End;
-    named(alloc, own, &scope, e)
-}
+// DECLARATIONS
 
-/// A data type without parameters, or a definition.
-fn named_decl(alloc: Global, own: &Text, decl: &NDecl) -> Result<Decl, Memory>
-    ensures { IfOk result (λ r. IsNamedDecl own.now (hdecl_of decl.now) (decl_of r)) }
+/// A declaration with words for its parameters and binders.
+fn named_decl(alloc: Global, decl: &NDecl, top: &Known) -> Result<Decl, NotNamed>
+    ensures { IfOk result (λ r. IsNamedDecl (top_by top.now) (ndecl_of decl.now) (decl_of r)) }
 {
+    let none = Scope::End;
     match decl {
         NDecl::DataType(name, params, cons) => {
-            if !params.is_empty() {
-                return Err(Memory);
-            }
+            let own = own_params(alloc, params.as_slice())?;
+            let scope = Scope::Types(&own.names, &none);
+            let cons = named_cons(alloc, cons.as_slice(), top, &scope)?;
             let name = name.copy(alloc)?;
-            let cons = named_cons(alloc, own, cons.as_slice())?;
-            Ok(Decl::DataType(name, Seq::new(alloc), cons))
+            let params = own.params;
+            Ok(Decl::DataType(name, params, cons))
+        }
+        NDecl::NewType(name, params, t, con) => {
+            let own = own_params(alloc, params.as_slice())?;
+            let scope = Scope::Types(&own.names, &none);
+            let t = named_ty(alloc, t, top, &scope)?;
+            let name = name.copy(alloc)?;
+            let con = con.copy(alloc)?;
+            let params = own.params;
+            Ok(Decl::NewType(name, params, t, con))
+        }
+        NDecl::Family(name, params, kind) => {
+            let own = own_plains(alloc, params.as_slice())?;
+            let name = name.copy(alloc)?;
+            let kind = kind.copy(alloc)?;
+            let params = own.params;
+            Ok(Decl::Family(name, params, kind))
+        }
+        NDecl::Axiom(name, params, t, u) => {
+            let own = own_plains(alloc, params.as_slice())?;
+            let scope = Scope::Types(&own.names, &none);
+            let t = named_ty(alloc, t, top, &scope)?;
+            let u = named_ty(alloc, u, top, &scope)?;
+            let name = name.copy(alloc)?;
+            let params = own.params;
+            Ok(Decl::Axiom(name, params, t, u))
         }
         NDecl::Def(name, t, e) => {
+            let t = named_ty(alloc, t, top, &none)?;
+            let e = named_expr(alloc, e, top, &none)?;
             let name = name.copy(alloc)?;
-            let t = named_ty(alloc, own, t)?;
-            let e = closed(alloc, own, e)?;
             Ok(Decl::Def(name, t, e))
         }
-        NDecl::NewType(_, _, _, _) => Err(Memory),
-        NDecl::Family(_, _, _) => Err(Memory),
-        NDecl::Axiom(_, _, _, _) => Err(Memory),
-        NDecl::Wrap(_, _, _) => Err(Memory),
+        NDecl::Wrap(name, t, e) => {
+            let t = named_ty(alloc, t, top, &none)?;
+            let e = named_expr(alloc, e, top, &none)?;
+            let name = name.copy(alloc)?;
+            Ok(Decl::Wrap(name, t, e))
+        }
     }
 }
 
-/// Declarations as they are written in the module `own`, in their order.
-pub fn named_decls(alloc: Global, own: &Text, decls: &[NDecl]) -> Result<Seq<Decl>, Memory>
-    ensures { IfOk result (λ r. AreEach (IsNamedDecl own.now) (hdecls_of decls.now) (decls_of r)) }
+/// Declarations with words for their parameters and binders.
+pub fn named_decls(alloc: Global, decls: &[NDecl], top: &Known) -> Result<Seq<Decl>, NotNamed>
+    ensures { IfOk result (λ r. IsNamedDecls (top_by top.now) (ndecls_of decls.now) (decls_of r)) }
 {
     let mut out = Seq::new(alloc);
     for decl in decls {
-        let next = named_decl(alloc, own, decl)?;
+        let next = named_decl(alloc, decl, top)?;
         out.push(next)?;
     }
     Ok(out)

@@ -1,306 +1,317 @@
 //! Expressions with words for their binders.
-ghost use Rattle.std.specs.Prelude.{◌≡◌, ◌∷◌, false, IfOk, Some, None};
-ghost use Rattle.fc_syntax.specs.Tree.{ELet, MoreBinds, NoBinds};
-ghost use Rattle.fc_syntax.specs.View.{alt_of, alts_of, arg_of, args_of, bind_of, expr_of};
-ghost use Rattle.fc_model.specs.NamelessView.{nexpr_of, nty_of};
-ghost use Rattle.fc_naming.specs.Hinted.{HCase, HExpr};
-ghost use Rattle.fc_naming.specs.HintedView.{halt_of, halts_of, harg_of, hargs_of, hexpr_of, lambda_of};
-ghost use Rattle.fc_naming.specs.Naming.{AreNamed, AreNamedAlts, IsChosen, IsNamed, IsNamedAlt, IsNamedArg, candidate as is_candidate, hiding, hiding_in_alts, word_at};
-ghost use Rattle.fc_naming.specs.Scopes.{onto, words_of};
+ghost use Rattle.std.specs.Prelude.{◌≡◌, if◌then◌else◌, length, IfOk};
+ghost use Rattle.fc_syntax.specs.View.{alts_of, arg_of, args_of, binders_of, binds_of, expr_of, exprs_of, joins_of};
+ghost use Rattle.fc_model.specs.Nameless.{NLam};
+ghost use Rattle.fc_model.specs.NamelessView.{nalts_of, narg_of, nargs_of, nbinder_of, nbinders_of, nbinds_of, nexpr_of, nexprs_of, njoins_of};
+ghost use Rattle.fc_model.specs.Resolution.{bind_words, join_words};
+ghost use Rattle.fc_scope.specs.ScopeWords.{locals_of, with_joins, with_values};
+ghost use Rattle.fc_naming.specs.Known.{top_by};
+ghost use Rattle.fc_naming.specs.Named.{IsNamedAlts, IsNamedArg, IsNamedArgs, IsNamedBelow, IsNamedBinds, IsNamedExpr, IsNamedExprs, IsNamedJoins};
 
-use crate::binders::named_binders;
-use crate::names::{named_ty, short_head, short_name};
-use crate::scope::{Scope, word};
-use crate::uses::{alts_use, uses};
-use fc_model::{NAlt, NArg, NBinder, NExpr, NTy};
-use fc_syntax::{Alt, Arg, Bind, Binder, Expr, Memory, Name, Seq, Text, boxed};
-use itoa::Buffer;
+use crate::binders::{Group, add_binder, named_binder, named_binders};
+use crate::coercions::named_co;
+use crate::error::NotNamed;
+use crate::known::Known;
+use crate::members::{let_words, point_words};
+use crate::names::written;
+use crate::taken::{used_below, used_in_lambda, word_around};
+use crate::types::named_ty;
+use crate::variables::{join_point, local, named_head};
+use fc_scope::{Binders, Scope};
+use fc_syntax::{
+    Alt, Arg, Bind, Binder, Expr, JoinBind, Memory, NAlt, NArg, NBind, NBinder, NExpr, NJoinBind,
+    Ref, Seq, Text, boxed,
+};
 use std::alloc::Global;
 
-// THE WORD OF A BINDER
-
-/// The word itself, then `w_1`, `w_2` and so on.
-pub fn candidate(alloc: Global, hint: &Text, number: u32) -> Result<Text, Memory>
-    ensures { IfOk result (λ v. v ≡ is_candidate hint.now number) }
-{
-    if number == 0 {
-        return hint.copy(alloc);
-    }
-    let mut digits = Buffer::new();
-    let mut text = String::from_str(alloc, hint.as_str())?;
-    text.push_str("_")?;
-    text.push_str(digits.format(number))?;
-    Text::from_str(alloc, text.as_str())
-}
-
-/// The first candidate that hides no name in the scope of its binder. Where there are too many, want of memory is answered.
-fn chosen(alloc: Global, hint: &Text, own: &Text, scope: &Scope, e: &NExpr) -> Result<Text, Memory>
-    ensures { IfOk result (λ v. IsChosen (hiding own.now (words_of scope.now) 1 (hexpr_of e.now)) hint.now v) }
-{
-    for number in 0..u32::MAX {
-        let next = candidate(alloc, hint, number)?;
-        if !uses(&next, own, scope, 1, e)? {
-            return Ok(next);
-        }
-    }
-    Err(Memory)
-}
-
-/// The same for the binder of a case, whose scope are its alternatives.
-fn chosen_in_alts(
-    alloc: Global,
-    hint: &Text,
-    own: &Text,
-    scope: &Scope,
-    alts: &[NAlt],
-) -> Result<Text, Memory>
-    ensures { IfOk result (λ v. IsChosen (hiding_in_alts own.now (words_of scope.now) (halts_of alts.now)) hint.now v) }
-{
-    for number in 0..u32::MAX {
-        let next = candidate(alloc, hint, number)?;
-        if !alts_use(&next, own, scope, 1, alts)? {
-            return Ok(next);
-        }
-    }
-    Err(Memory)
-}
-
-// EXPRESSIONS
-
-/// A local variable.
-fn local(alloc: Global, scope: &Scope, distance: u32) -> Result<Name, Memory>
-    ensures alone { IfOk result (λ n. n.module ≡ None) }
-    ensures word { IfOk result (λ n. word_at (words_of scope.now) distance ≡ Some n.text) }
-{
-    let text = word(alloc, scope, distance as usize)?;
-    Ok(Name { module: None, text })
-}
-
-/// An expression below binders whose words are chosen.
+/// An expression as it is written in a scope.
 #[cycle(naming)]
-pub fn named<'x>(alloc: Global, own: &Text, scope: &'x Scope<'x>, e: &NExpr) -> Result<Expr, Memory>
-    ensures { IfOk result (λ r. IsNamed own.now (words_of scope.now) (hexpr_of e.now) (expr_of r)) }
+#[tactic(auto, using(fc_syntax::proofs::View::view_rules, crate::proofs::NamedExpressions::expression_names, crate::proofs::NamedGroups::group_names))]
+pub fn named_expr<'x>(
+    alloc: Global,
+    e: &NExpr,
+    top: &Known,
+    scope: &'x Scope<'x>,
+) -> Result<Expr, NotNamed>
+    ensures { IfOk result (λ r. IsNamedExpr (top_by top.now) (locals_of scope.now) (nexpr_of e.now) (expr_of r)) }
 {
     match e {
-        NExpr::Local(distance) => Ok(Expr::Var(local(alloc, scope, *distance)?)),
-        NExpr::Var(name) => Ok(Expr::Var(short_name(alloc, own, name)?)),
+        NExpr::Var(Ref::Local(distance)) => Ok(Expr::Var(local(alloc, &*scope, *distance)?)),
+        NExpr::Var(Ref::Top(name)) => Ok(Expr::Var(written(alloc, top, &top.terms, name)?)),
         NExpr::Lit(n) => Ok(Expr::Lit(*n)),
         NExpr::App(f, a) => {
-            let f = named(alloc, own, &*scope, f)?;
-            let a = named_arg(alloc, own, &*scope, a)?;
+            let f = named_expr(alloc, f, top, &*scope)?;
+            let a = named_arg(alloc, a, top, &*scope)?;
             Ok(Expr::App(boxed(alloc, f)?, boxed(alloc, a)?))
         }
-        NExpr::Lam(binder, e) => lambda(alloc, own, &*scope, e, binder),
-        NExpr::Let(recursive, binds, e) => match binds.as_slice() {
-            [bind] if !*recursive => {
-                let ty = named_ty(alloc, own, &bind.ty)?;
-                let rhs = named(alloc, own, &*scope, &bind.rhs)?;
-                let below = named_below(alloc, own, &*scope, e, &bind.hint)?;
-                let name = below.word;
-                let_of(alloc, Bind { name, ty, rhs }, below.body)
-            }
-            _ => Err(Memory),
-        },
-        NExpr::Con(name, args) => {
-            let name = short_name(alloc, own, name)?;
-            let args = named_args(alloc, own, &*scope, args.as_slice())?;
-            Ok(Expr::Con(name, args))
+        NExpr::Lam(binder, e) => lambda(alloc, e, top, &*scope, binder),
+        NExpr::Let(recursive, binds, e) => {
+            let binds = binds.as_slice();
+            let group = let_words(alloc, e, top, &*scope, *recursive, binds)?;
+            let members = let_binds(alloc, binds, top, &*scope, *recursive, &group)?;
+            let inner = Scope::Values(&group.names, &*scope);
+            let e = named_expr(alloc, e, top, &inner)?;
+            Ok(Expr::Let(*recursive, members, boxed(alloc, e)?))
         }
         NExpr::Case(e, hint, t, u, alts) => {
-            let e = named(alloc, own, &*scope, e)?;
-            case_of(alloc, own, &*scope, alts.as_slice(), hint, t, u, e)
+            let e = named_expr(alloc, e, top, &*scope)?;
+            let t = named_ty(alloc, t, top, &*scope)?;
+            let u = named_ty(alloc, u, top, &*scope)?;
+            let word = word_around(alloc, alts.as_slice(), top, &*scope, hint)?;
+            let inner = Scope::Value(&word, &*scope);
+            let alts = named_alts(alloc, alts.as_slice(), top, &inner)?;
+            Ok(Expr::Case(boxed(alloc, e)?, word, t, u, alts))
         }
-        NExpr::Cast(_, _) => Err(Memory),
-        NExpr::Prim(_, _) => Err(Memory),
-        NExpr::Fail(_) => Err(Memory),
-        NExpr::Join(_, _, _, _) => Err(Memory),
-        NExpr::Jump(_, _) => Err(Memory),
+        NExpr::Cast(e, g) => {
+            let e = named_expr(alloc, e, top, &*scope)?;
+            let g = named_co(alloc, g, top, &*scope)?;
+            Ok(Expr::Cast(boxed(alloc, e)?, g))
+        }
+        NExpr::Con(name, args) => {
+            let name = written(alloc, top, &top.terms, name)?;
+            let args = named_args(alloc, args.as_slice(), top, &*scope)?;
+            Ok(Expr::Con(name, args))
+        }
+        NExpr::Prim(op, es) => {
+            let es = named_exprs(alloc, es.as_slice(), top, &*scope)?;
+            Ok(Expr::Prim(*op, es))
+        }
+        NExpr::Fail(t) => Ok(Expr::Fail(named_ty(alloc, t, top, &*scope)?)),
+        NExpr::Join(recursive, t, joins, e) => {
+            let t = named_ty(alloc, t, top, &*scope)?;
+            let joins = joins.as_slice();
+            let group = point_words(alloc, e, top, &*scope, *recursive, joins)?;
+            let members = join_members(alloc, joins, top, &*scope, *recursive, &group)?;
+            let inner = Scope::Joins(&group.names, &*scope);
+            let e = named_expr(alloc, e, top, &inner)?;
+            Ok(Expr::Join(*recursive, t, members, boxed(alloc, e)?))
+        }
+        NExpr::Jump(distance, args) => {
+            let word = join_point(alloc, &*scope, *distance)?;
+            let args = named_args(alloc, args.as_slice(), top, &*scope)?;
+            Ok(Expr::Jump(word, args))
+        }
     }
 }
 
-/// An expression below one more binder of this word.
 #[cycle(naming)]
-fn body<'x>(
+#[tactic(auto, using(fc_syntax::proofs::View::view_rules, crate::proofs::NamedExpressions::argument_names))]
+fn named_arg<'x>(
     alloc: Global,
-    own: &Text,
+    arg: &NArg,
+    top: &Known,
     scope: &'x Scope<'x>,
-    word: &'x Text,
-    e: &NExpr,
-) -> Result<Expr, Memory>
-    ensures { IfOk result (λ r. IsNamed own.now (word.now ∷ words_of scope.now) (hexpr_of e.now) (expr_of r)) }
-{
-    let inner = Scope::Value(&*word, &*scope);
-    named(alloc, own, &inner, e)
-}
-
-/// What stands below a binder, with the binder's word.
-#[derive(Drop)]
-struct Below {
-    word: Text,
-    body: Expr,
-}
-
-/// An expression below a binder with this word as a hint.
-#[cycle(naming)]
-fn named_below<'x>(
-    alloc: Global,
-    own: &Text,
-    scope: &'x Scope<'x>,
-    e: &NExpr,
-    hint: &Text,
-) -> Result<Below, Memory>
-    ensures chosen { IfOk result (λ r. IsChosen (hiding own.now (words_of scope.now) 1 (hexpr_of e.now)) hint.now r.word) }
-    ensures named { IfOk result (λ r. IsNamed own.now (r.word ∷ words_of scope.now) (hexpr_of e.now) (expr_of r.body)) }
-{
-    let word = chosen(alloc, hint, own, scope, e)?;
-    let body = body(alloc, own, &*scope, &word, e)?;
-    Ok(Below { word, body })
-}
-
-/// A lambda over a value.
-#[cycle(naming)]
-fn lambda<'x>(
-    alloc: Global,
-    own: &Text,
-    scope: &'x Scope<'x>,
-    e: &NExpr,
-    binder: &NBinder,
-) -> Result<Expr, Memory>
-    ensures { IfOk result (λ r. IsNamed own.now (words_of scope.now) (lambda_of binder.now (hexpr_of e.now) (nexpr_of e.now)) (expr_of r)) }
-{
-    match binder {
-        NBinder::Value(hint, t) => {
-            let t = named_ty(alloc, own, t)?;
-            let below = named_below(alloc, own, &*scope, e, hint)?;
-            let binder = Binder::Value(below.word, t);
-            Ok(Expr::Lam(boxed(alloc, binder)?, boxed(alloc, below.body)?))
-        }
-        NBinder::OfType(_, _) => Err(Memory),
-        NBinder::OfCo(_, _, _, _) => Err(Memory),
-    }
-}
-
-/// A let of one bind that is not recursive.
-fn let_of(alloc: Global, bind: Bind, e: Expr) -> Result<Expr, Memory>
-    ensures { IfOk result (λ r. expr_of r ≡ ELet false (MoreBinds (bind_of bind) NoBinds) (expr_of e)) }
-{
-    let mut binds = Seq::new(alloc);
-    binds.push(bind)?;
-    Ok(Expr::Let(false, binds, boxed(alloc, e)?))
-}
-
-#[cycle(naming)]
-fn named_arg<'x>(alloc: Global, own: &Text, scope: &'x Scope<'x>, arg: &NArg) -> Result<Arg, Memory>
-    ensures { IfOk result (λ r. IsNamedArg own.now (words_of scope.now) (harg_of arg.now) (arg_of r)) }
+) -> Result<Arg, NotNamed>
+    ensures { IfOk result (λ r. IsNamedArg (top_by top.now) (locals_of scope.now) (narg_of arg.now) (arg_of r)) }
 {
     match arg {
-        NArg::Term(e) => {
-            let e = named(alloc, own, &*scope, e)?;
-            Ok(Arg::Term(e))
-        }
-        NArg::OfType(_) => Err(Memory),
-        NArg::OfCo(_) => Err(Memory),
+        NArg::Term(e) => Ok(Arg::Term(named_expr(alloc, e, top, &*scope)?)),
+        NArg::OfType(t) => Ok(Arg::OfType(named_ty(alloc, t, top, &*scope)?)),
+        NArg::OfCo(g) => Ok(Arg::OfCo(named_co(alloc, g, top, &*scope)?)),
     }
 }
 
 #[cycle(naming)]
 fn named_args<'x>(
     alloc: Global,
-    own: &Text,
-    scope: &'x Scope<'x>,
     args: &[NArg],
-) -> Result<Seq<Arg>, Memory>
-    ensures { IfOk result (λ r. AreNamed own.now (words_of scope.now) (hargs_of args.now) (args_of r)) }
+    top: &Known,
+    scope: &'x Scope<'x>,
+) -> Result<Seq<Arg>, NotNamed>
+    ensures { IfOk result (λ r. IsNamedArgs (top_by top.now) (locals_of scope.now) (nargs_of args.now) (args_of r)) }
 {
     let mut out = Seq::new(alloc);
     for arg in args {
-        let next = named_arg(alloc, own, &*scope, arg)?;
+        let next = named_arg(alloc, arg, top, &*scope)?;
         out.push(next)?;
     }
     Ok(out)
 }
 
-// CASES
-
-/// A case whose scrutinee is named.
 #[cycle(naming)]
-fn case_of<'x>(
+fn named_exprs<'x>(
     alloc: Global,
-    own: &Text,
+    es: &[NExpr],
+    top: &Known,
     scope: &'x Scope<'x>,
-    alts: &[NAlt],
-    hint: &Text,
-    t: &NTy,
-    u: &NTy,
-    e: Expr,
-) -> Result<Expr, Memory>
-    ensures { IfOk result (λ r. (h : HExpr) → IsNamed own.now (words_of scope.now) h (expr_of e) → IsNamed own.now (words_of scope.now) (HCase h hint.now (nty_of t.now) (nty_of u.now) (halts_of alts.now)) (expr_of r)) }
+) -> Result<Seq<Expr>, NotNamed>
+    ensures { IfOk result (λ r. IsNamedExprs (top_by top.now) (locals_of scope.now) (nexprs_of es.now) (exprs_of r)) }
 {
-    let t = named_ty(alloc, own, t)?;
-    let u = named_ty(alloc, own, u)?;
-    let word = chosen_in_alts(alloc, hint, own, scope, alts)?;
-    let alts = named_alts_below(alloc, own, &*scope, &word, alts)?;
-    Ok(Expr::Case(boxed(alloc, e)?, word, t, u, alts))
+    let mut out = Seq::new(alloc);
+    for e in es {
+        let next = named_expr(alloc, e, top, &*scope)?;
+        out.push(next)?;
+    }
+    Ok(out)
 }
 
-/// Alternatives below the binder of their case, which has this word.
+/// A lambda over one binder.
 #[cycle(naming)]
-fn named_alts_below<'x>(
+#[tactic(auto, using(fc_syntax::proofs::View::view_rules))]
+fn lambda<'x>(
     alloc: Global,
-    own: &Text,
+    e: &NExpr,
+    top: &Known,
     scope: &'x Scope<'x>,
-    word: &'x Text,
-    alts: &[NAlt],
-) -> Result<Seq<Alt>, Memory>
-    ensures { IfOk result (λ r. AreNamedAlts own.now (word.now ∷ words_of scope.now) (halts_of alts.now) (alts_of r)) }
+    binder: &NBinder,
+) -> Result<Expr, NotNamed>
+    ensures { IfOk result (λ r. IsNamedExpr (top_by top.now) (locals_of scope.now) (NLam (nbinder_of binder.now) (nexpr_of e.now)) (expr_of r)) }
 {
-    let inner = Scope::Value(&*word, &*scope);
-    named_alts(alloc, own, &inner, alts)
+    let mut taken = used_in_lambda(alloc, e, top, &*scope, binder)?;
+    let binder = named_binder(alloc, binder, top, &*scope, &mut taken)?;
+    let mut words = Binders::new(alloc);
+    add_binder(alloc, &mut words, &binder)?;
+    let inner = Scope::Binders(&words, &*scope);
+    let e = named_expr(alloc, e, top, &inner)?;
+    Ok(Expr::Lam(boxed(alloc, binder)?, boxed(alloc, e)?))
 }
 
+// LETS
+
+/// The right sides of a group, whose words are chosen.
+#[cycle(naming)]
+fn named_binds<'x>(
+    alloc: Global,
+    binds: &[NBind],
+    top: &Known,
+    scope: &'x Scope<'x>,
+    words: &[Text],
+) -> Result<Seq<Bind>, NotNamed>
+    requires { length words.now ≡ length binds.now }
+    ensures named { IfOk result (λ r. IsNamedBinds (top_by top.now) (locals_of scope.now) (nbinds_of binds.now) (binds_of r)) }
+    ensures words { IfOk result (λ r. bind_words (binds_of r) ≡ words.now) }
+{
+    let mut out = Seq::new(alloc);
+    for (i, bind) in binds.iter().enumerate() {
+        let ty = named_ty(alloc, &bind.ty, top, &*scope)?;
+        let rhs = named_expr(alloc, &bind.rhs, top, &*scope)?;
+        let name = words[i].copy(alloc)?;
+        out.push(Bind { name, ty, rhs })?;
+    }
+    Ok(out)
+}
+
+/// The members of a let's group, which are in its scope where it is recursive.
+#[cycle(naming)]
+fn let_binds<'x>(
+    alloc: Global,
+    binds: &[NBind],
+    top: &Known,
+    scope: &'x Scope<'x>,
+    recursive: bool,
+    group: &'x Group,
+) -> Result<Seq<Bind>, NotNamed>
+    requires { length group.now.words ≡ length binds.now }
+    ensures named { IfOk result (λ r. IsNamedBinds (top_by top.now) (if recursive then with_values group.now.names (locals_of scope.now) else locals_of scope.now) (nbinds_of binds.now) (binds_of r)) }
+    ensures words { IfOk result (λ r. bind_words (binds_of r) ≡ group.now.words) }
+{
+    let inner = Scope::Values(&group.names, &*scope);
+    let words = group.words.as_slice();
+    let binds = if recursive {
+        named_binds(alloc, binds, top, &inner, words)?
+    } else {
+        named_binds(alloc, binds, top, &*scope, words)?
+    };
+    Ok(binds)
+}
+
+// JOIN POINTS AND ALTERNATIVES
+
+/// Binders with an expression below them.
+#[derive(Drop)]
+struct Below {
+    binders: Seq<Binder>,
+    body: Expr,
+}
+
+/// An expression below the binders of an alternative or of a join point.
+#[cycle(naming)]
+fn named_below<'x>(
+    alloc: Global,
+    e: &NExpr,
+    top: &Known,
+    scope: &'x Scope<'x>,
+    binders: &[NBinder],
+) -> Result<Below, NotNamed>
+    ensures { IfOk result (λ r. IsNamedBelow (top_by top.now) (locals_of scope.now) (nbinders_of binders.now) (nexpr_of e.now) (binders_of r.binders) (expr_of r.body)) }
+{
+    let mut taken = used_below(alloc, e, top, &*scope, binders)?;
+    let named = named_binders(alloc, binders, top, &*scope, &mut taken)?;
+    let inner = Scope::Binders(&named.words, &*scope);
+    let body = named_expr(alloc, e, top, &inner)?;
+    let binders = named.binders;
+    Ok(Below { binders, body })
+}
+
+/// The join points of a group, whose words are chosen.
+#[cycle(naming)]
+fn named_joins<'x>(
+    alloc: Global,
+    joins: &[NJoinBind],
+    top: &Known,
+    scope: &'x Scope<'x>,
+    words: &[Text],
+) -> Result<Seq<JoinBind>, NotNamed>
+    requires { length words.now ≡ length joins.now }
+    ensures named { IfOk result (λ r. IsNamedJoins (top_by top.now) (locals_of scope.now) (njoins_of joins.now) (joins_of r)) }
+    ensures words { IfOk result (λ r. join_words (joins_of r) ≡ words.now) }
+{
+    let mut out = Seq::new(alloc);
+    for (i, join) in joins.iter().enumerate() {
+        let below = named_below(alloc, &join.rhs, top, &*scope, join.params.as_slice())?;
+        let name = words[i].copy(alloc)?;
+        let params = below.binders;
+        let rhs = below.body;
+        out.push(JoinBind { name, params, rhs })?;
+    }
+    Ok(out)
+}
+
+/// The members of a group of join points, which are in its scope where it is recursive.
+#[cycle(naming)]
+fn join_members<'x>(
+    alloc: Global,
+    joins: &[NJoinBind],
+    top: &Known,
+    scope: &'x Scope<'x>,
+    recursive: bool,
+    group: &'x Group,
+) -> Result<Seq<JoinBind>, NotNamed>
+    requires { length group.now.words ≡ length joins.now }
+    ensures named { IfOk result (λ r. IsNamedJoins (top_by top.now) (if recursive then with_joins group.now.names (locals_of scope.now) else locals_of scope.now) (njoins_of joins.now) (joins_of r)) }
+    ensures words { IfOk result (λ r. join_words (joins_of r) ≡ group.now.words) }
+{
+    let inner = Scope::Joins(&group.names, &*scope);
+    let words = group.words.as_slice();
+    let joins = if recursive {
+        named_joins(alloc, joins, top, &inner, words)?
+    } else {
+        named_joins(alloc, joins, top, &*scope, words)?
+    };
+    Ok(joins)
+}
+
+/// The alternatives of a case.
 #[cycle(naming)]
 fn named_alts<'x>(
     alloc: Global,
-    own: &Text,
-    scope: &'x Scope<'x>,
     alts: &[NAlt],
-) -> Result<Seq<Alt>, Memory>
-    ensures { IfOk result (λ r. AreNamedAlts own.now (words_of scope.now) (halts_of alts.now) (alts_of r)) }
+    top: &Known,
+    scope: &'x Scope<'x>,
+) -> Result<Seq<Alt>, NotNamed>
+    ensures { IfOk result (λ r. IsNamedAlts (top_by top.now) (locals_of scope.now) (nalts_of alts.now) (alts_of r)) }
 {
     let mut out = Seq::new(alloc);
     for alt in alts {
-        let next = named_alt(alloc, own, &*scope, alt)?;
-        out.push(next)?;
+        let head = named_head(alloc, &alt.head, top)?;
+        let below = named_below(alloc, &alt.body, top, &*scope, alt.binders.as_slice())?;
+        let binders = below.binders;
+        let body = below.body;
+        out.push(Alt {
+            head,
+            binders,
+            body,
+        })?;
     }
     Ok(out)
-}
-
-#[cycle(naming)]
-fn named_alt<'x>(alloc: Global, own: &Text, scope: &'x Scope<'x>, alt: &NAlt) -> Result<Alt, Memory>
-    ensures { IfOk result (λ r. IsNamedAlt own.now (words_of scope.now) (halt_of alt.now) (alt_of r)) }
-{
-    let head = short_head(alloc, own, &alt.head)?;
-    let named = named_binders(alloc, own, &*scope, alt.binders.as_slice(), &alt.body)?;
-    let body = behind(alloc, own, &*scope, named.words.as_slice(), &alt.body)?;
-    let binders = named.binders;
-    Ok(Alt {
-        head,
-        binders,
-        body,
-    })
-}
-
-/// An expression below binders of these words, the outermost first.
-#[cycle(naming)]
-fn behind<'x>(
-    alloc: Global,
-    own: &Text,
-    scope: &'x Scope<'x>,
-    words: &'x [Text],
-    e: &NExpr,
-) -> Result<Expr, Memory>
-    ensures { IfOk result (λ r. IsNamed own.now (onto words.now (words_of scope.now)) (hexpr_of e.now) (expr_of r)) }
-{
-    let inner = Scope::Values(words, &*scope);
-    named(alloc, own, &inner, e)
 }

@@ -1,11 +1,10 @@
 //! Texts of modules, and what they are named back to, by hand from the rules of naming back: with the words that they were read
 //! with, and with others.
-use fc_model::{NAlt, NBind, NBinder, NDecl, NExpr, NModule};
 use fc_naming::name_back;
 use fc_printer::{put_decl, put_header};
 use fc_reader::read_module;
 use fc_resolve::resolve;
-use fc_syntax::{Memory, Module, Seq, Text};
+use fc_syntax::{Memory, Module, NAlt, NBind, NBinder, NDecl, NExpr, NModule, Ref, Seq, Text};
 use std::alloc::Global;
 use std::process::Abort;
 use std::test::Fail;
@@ -52,7 +51,10 @@ fn printed(alloc: Global, m: &Module) -> Result<Vec<u8>, Memory> {
 
 /// What a nameless module is named back to. Fails where that has no nameless form, as where a name stands with its module.
 fn named_back(alloc: Global, n: &NModule) -> Result<Vec<u8>, Fail> {
-    let m = name_back(alloc, n)?;
+    let m = match name_back(alloc, n) {
+        Ok(m) => m,
+        Err(_) => return Err("no names".into()),
+    };
     if resolve(alloc, &m).is_err() {
         return Err("no nameless form".into());
     }
@@ -85,7 +87,7 @@ fn set_bind(alloc: Global, binds: &mut Seq<NBind>, word: &str) -> Result<(), Mem
         return Ok(());
     }
     let bind = binds.at_mut(0);
-    bind.hint = Text::from_str(alloc, word)?;
+    bind.name = Text::from_str(alloc, word)?;
     Ok(())
 }
 
@@ -228,7 +230,7 @@ fn leave_scope(n: &mut NModule) {
         return;
     }
     match n.decls.at_mut(count - 1) {
-        NDecl::Def(_, _, NExpr::Lam(_, body)) => **body = NExpr::Local(1),
+        NDecl::Def(_, _, NExpr::Lam(_, body)) => **body = NExpr::Var(Ref::Local(1)),
         _ => {}
     }
 }

@@ -15,8 +15,8 @@ use Rattle.fc_syntax.specs.Tokens.{Lexeme, Between, lexed, then_lexemes, word_ki
 use Rattle.fc_syntax.proofs.Lexing.{StartsApart, lexed_token}
 use Rattle.fc_syntax.proofs.NameWords.{all_follows, name_is_plain, name_kind, name_parts}
 use Rattle.fc_lex.proofs.Printed.{literal_plain, printed_literal}
-use Rattle.fc_model.specs.declared.keyword.Keyword.{Keyword}
-use Rattle.fc_model.specs.declared.keyword.Keyword.TheVariants as word
+use Rattle.fc_syntax.specs.declared.keyword.Keyword.{Keyword}
+use Rattle.fc_syntax.specs.declared.keyword.Keyword.TheVariants as word
 use Rattle.fc_model.specs.Words.{Tok, Open, Close, Key, Lower, Upper, Other, Literal, keyword_of, name_tok, tok_at, tok_of, tok_of_keyword, declaration_keyword, type_keyword, expression_keyword, join_keyword}
 use Rattle.fc_model.specs.Canonical.{is_lower_word, is_upper_word, is_word, is_literal_formed, literal_text}
 

@@ -11,7 +11,7 @@ use Rattle.fc_syntax.specs.Tree.{Expr, EVar, ELit, EApp, ELam, ELet, ECase, ECon
 use Rattle.fc_syntax.specs.Tree.{Alt, Branch, Alts, NoAlts, MoreAlts}
 use Rattle.fc_syntax.specs.Tree.{ConDecl, ConOf, Decl, DData, DDef}
 use Rattle.fc_syntax.proofs.Lexing.{StartsApart}
-use Rattle.fc_model.specs.declared.keyword.Keyword.TheVariants as word
+use Rattle.fc_syntax.specs.declared.keyword.Keyword.TheVariants as word
 use Rattle.fc_model.specs.Words.{Tok, Open, Close, Key, Lower, Upper, Literal}
 use Rattle.fc_model.specs.Texts.{plain_name, functions, TypeAt, type_con, type_int, type_fun, TypesAt, types_end, types_more, ConAt, con_at, ConsAt, cons_end, cons_more}
 use Rattle.fc_model.specs.Texts.{BinderAt, binder_value, BindersAt, binders_end, binders_more, applications, lambdas}

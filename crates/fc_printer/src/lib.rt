@@ -1,10 +1,11 @@
-//! Prints modules in their canonical text.
+//! Prints modules in their canonical text, and puts them under the header that is written.
 #![tactic(auto)]
 
 mod decls;
 mod exprs;
 mod header;
 mod types;
+mod written_header;
 
 ghost use Rattle.std.specs.Prelude.{◌≡◌, IfOk};
 ghost use Rattle.fc_syntax.specs.View.{module_of};
@@ -17,6 +18,7 @@ use fc_syntax::{Memory, Module};
 pub use header::put_header;
 use std::alloc::Global;
 pub use types::put_type;
+pub use written_header::written;
 
 /// The canonical text of a module, which reads back to the module where each of its words is one of its form.
 pub fn print_module(alloc: Global, m: &Module) -> Result<Vec<u8>, Memory>

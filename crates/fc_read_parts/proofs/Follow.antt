@@ -3,7 +3,7 @@ use Rattle.std.proofs.Common.{◌≡◌, ℕ, suc, Bool, true, List, [], ◌∷�
 use Rattle.fc_syntax.specs.Tree.{Word, Ty, ConDecl, Binder, Expr, Args, Alt, Alts, Decl, Module}
 use Rattle.fc_syntax.specs.Tokens.{is_module_part}
 use Rattle.fc_model.specs.Words.{Tok, Open, Close, Key, Upper}
-use Rattle.fc_model.specs.declared.keyword.Keyword.TheVariants as word
+use Rattle.fc_syntax.specs.declared.keyword.Keyword.TheVariants as word
 use Rattle.fc_model.specs.Texts.{NamesAt, names_end, names_lower, names_upper, TypeAt, type_con, type_int, type_fun, TypesAt, types_end, types_more, ConAt, con_at, ConsAt, cons_end, cons_more}
 use Rattle.fc_model.specs.Texts.{BinderAt, binder_value, BindersAt, binders_end, binders_more}
 use Rattle.fc_model.specs.Texts.{ExprAt, expr_var, expr_lit, expr_con, expr_app, expr_lam, expr_let, expr_case, ArgsAt, args_end, args_more, DeclAt, decl_data, decl_def, DeclsAt, decls_end, decls_more}

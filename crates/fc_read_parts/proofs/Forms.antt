@@ -3,8 +3,8 @@ use Rattle.std.proofs.Common.{◌≡◌, true, List, [], ◌∷◌, ◌++◌, sy
 use Rattle.std.proofs.lemmas.List.{append-nil}
 use Rattle.fc_syntax.specs.Tree.{Word, Decl, Module, ModuleOf}
 use Rattle.fc_syntax.specs.Tokens.{is_module_part}
-use Rattle.fc_model.specs.declared.keyword.Keyword.{Keyword}
-use Rattle.fc_model.specs.declared.keyword.Keyword.TheVariants as word
+use Rattle.fc_syntax.specs.declared.keyword.Keyword.{Keyword}
+use Rattle.fc_syntax.specs.declared.keyword.Keyword.TheVariants as word
 use Rattle.fc_model.specs.Words.{Tok, Open, Close, Key, Lower, Upper}
 use Rattle.fc_model.specs.Texts.{NamesAt, names_end, names_lower, names_upper, DeclsAt, BodyAt, body_hidden, body_plain, ModuleAt, module_at}
 use Rattle.fc_read_parts.specs.Header.{HeaderAt, header_at}

@@ -1,5 +1,6 @@
 -- One rule of types, constructors, expressions and declarations each, as a reader meets it.
 use Rattle.std.proofs.Common.{◌≡◌, false, ℤ, List, [], ◌∷◌, ◌++◌, refl, sym, ap, ◌∙◌, subst}
+use Rattle.fc_syntax.specs.declared.ty.Name.{Name}
 use Rattle.fc_syntax.specs.declared.expr.Head.{Head}
 use Rattle.fc_syntax.specs.declared.expr.Head.TheVariants as head
 use Rattle.fc_syntax.specs.Tree.{Alt, Branch, Alts, NoAlts, MoreAlts}
@@ -8,7 +9,7 @@ use Rattle.fc_syntax.specs.View.{expr_of, arg_of, args_of, alt_of, alts_of}
 use Rattle.fc_syntax.specs.declared.expr.Alt as RustAlt
 use Rattle.fc_syntax.specs.declared.expr.Arg as A
 use Rattle.fc_syntax.specs.declared.expr.Expr as E
-use Rattle.fc_model.specs.declared.keyword.Keyword.TheVariants as word
+use Rattle.fc_syntax.specs.declared.keyword.Keyword.TheVariants as word
 use Rattle.fc_model.specs.Words.{Tok, Open, Close, Key, Lower, Upper, Literal}
 use Rattle.fc_model.specs.Texts.{plain_name, functions, applications, lambdas, TypeAt, type_con, type_int, type_fun, TypesAt, types_end, ConAt, con_at, ConsAt, cons_end}
 use Rattle.fc_model.specs.Texts.{BinderAt, binder_value, BindersAt, binders_end}
@@ -95,29 +96,29 @@ applied_end_read token so = so _ _ (record { args = NoArgs; read = args_end; val
 
 -- ---- arguments
 
-abbrev pub args_then : List A.Arg → Args → Args
+abbrev pub args_then : List (A.Arg Word Name) → Args → Args
 args_then [] more = more
 args_then (x ∷ xs) more = MoreArgs (arg_of x) (args_then xs more)
 
-args_then_none : (xs : List A.Arg) → args_then xs NoArgs ≡ args_of xs
+args_then_none : (xs : List (A.Arg Word Name)) → args_then xs NoArgs ≡ args_of xs
 args_then_none [] = refl
 args_then_none (x ∷ xs) = ap (λ y. MoreArgs (arg_of x) y) (args_then_none xs)
 
-args_then_last : (xs : List A.Arg) (x : A.Arg) (more : Args) → args_then (xs ++ x ∷ []) more ≡ args_then xs (MoreArgs (arg_of x) more)
+args_then_last : (xs : List (A.Arg Word Name)) (x : A.Arg Word Name) (more : Args) → args_then (xs ++ x ∷ []) more ≡ args_then xs (MoreArgs (arg_of x) more)
 args_then_last [] x more = refl
 args_then_last (y ∷ ys) x more = ap (λ z. MoreArgs (arg_of y) z) (args_then_last ys x more)
 
 args_on : {ts rest : List Tok} {xs ys : Args} → xs ≡ ys → ArgsAt ts ys rest → ArgsAt ts xs rest
 args_on {ts = ts} {rest = rest} e d = subst (λ x. ArgsAt ts x rest) (sym e) d
 
-abbrev pub ArgsSoFar : List Tok → List A.Arg → List Tok → Type 0
+abbrev pub ArgsSoFar : List Tok → List (A.Arg Word Name) → List Tok → Type 0
 ArgsSoFar ts xs us = (more : Args) (rest : List Tok) → ArgsAt us more rest → ArgsAt ts (args_then xs more) rest
 
-pub args_more_read : {ts us vs : List Tok} (old new : List A.Arg) (e : E.Expr) → new ≡ old ++ A.Term e ∷ [] → ArgsSoFar ts old us → ExprAt us (expr_of e) vs → ArgsSoFar ts new vs
+pub args_more_read : {ts us vs : List Tok} (old new : List (A.Arg Word Name)) (e : E.Expr Word Name) → new ≡ old ++ A.Term e ∷ [] → ArgsSoFar ts old us → ExprAt us (expr_of e) vs → ArgsSoFar ts new vs
 args_more_read old new e is so d =
     λ more rest r. args_on (ap (λ x. args_then x more) is ∙ args_then_last old (A.Term e) more) (so (MoreArgs (ATerm (expr_of e)) more) rest (args_more d r))
 
-pub args_end_read : {ts us rest : List Tok} (xs : List A.Arg) → Token Close us rest → ArgsSoFar ts xs us → ArgsAt ts (args_of xs) rest
+pub args_end_read : {ts us rest : List Tok} (xs : List (A.Arg Word Name)) → Token Close us rest → ArgsSoFar ts xs us → ArgsAt ts (args_of xs) rest
 args_end_read xs token so = args_on (sym (args_then_none xs)) (so NoArgs _ args_end)
 
 -- ---- a case and its alternatives
@@ -145,28 +146,28 @@ con_head_read {bs = bs} e token token token dbs = λ x rest d. alt_on (ap (λ k.
 pub alt_read : {ts us vs rest : List Tok} {h : Head} {bs : List Binder} {e : Expr} → HeadAt ts h bs us → ExprAt us e vs → Token Close vs rest → AltAt ts (Branch h bs e) rest
 alt_read h de token = h _ _ de
 
-abbrev pub alts_then : List RustAlt.Alt → Alts → Alts
+abbrev pub alts_then : List (RustAlt.Alt Word Name) → Alts → Alts
 alts_then [] more = more
 alts_then (x ∷ xs) more = MoreAlts (alt_of x) (alts_then xs more)
 
-alts_then_none : (xs : List RustAlt.Alt) → alts_then xs NoAlts ≡ alts_of xs
+alts_then_none : (xs : List (RustAlt.Alt Word Name)) → alts_then xs NoAlts ≡ alts_of xs
 alts_then_none [] = refl
 alts_then_none (x ∷ xs) = ap (λ y. MoreAlts (alt_of x) y) (alts_then_none xs)
 
-alts_then_last : (xs : List RustAlt.Alt) (x : RustAlt.Alt) (more : Alts) → alts_then (xs ++ x ∷ []) more ≡ alts_then xs (MoreAlts (alt_of x) more)
+alts_then_last : (xs : List (RustAlt.Alt Word Name)) (x : RustAlt.Alt Word Name) (more : Alts) → alts_then (xs ++ x ∷ []) more ≡ alts_then xs (MoreAlts (alt_of x) more)
 alts_then_last [] x more = refl
 alts_then_last (y ∷ ys) x more = ap (λ z. MoreAlts (alt_of y) z) (alts_then_last ys x more)
 
 alts_on : {ts rest : List Tok} {xs ys : Alts} → xs ≡ ys → AltsAt ts ys rest → AltsAt ts xs rest
 alts_on {ts = ts} {rest = rest} e d = subst (λ x. AltsAt ts x rest) (sym e) d
 
-abbrev pub AltsSoFar : List Tok → List RustAlt.Alt → List Tok → Type 0
+abbrev pub AltsSoFar : List Tok → List (RustAlt.Alt Word Name) → List Tok → Type 0
 AltsSoFar ts xs us = (more : Alts) (rest : List Tok) → AltsAt us more rest → AltsAt ts (alts_then xs more) rest
 
-pub alts_more_read : {ts us vs : List Tok} (old new : List RustAlt.Alt) (a : RustAlt.Alt) → new ≡ old ++ a ∷ [] → AltsSoFar ts old us → AltAt us (alt_of a) vs → AltsSoFar ts new vs
+pub alts_more_read : {ts us vs : List Tok} (old new : List (RustAlt.Alt Word Name)) (a : RustAlt.Alt Word Name) → new ≡ old ++ a ∷ [] → AltsSoFar ts old us → AltAt us (alt_of a) vs → AltsSoFar ts new vs
 alts_more_read old new a is so d = λ more rest r. alts_on (ap (λ x. alts_then x more) is ∙ alts_then_last old a more) (so (MoreAlts (alt_of a) more) rest (alts_more d r))
 
-pub alts_end_read : {ts us rest : List Tok} (xs : List RustAlt.Alt) → Token Close us rest → AltsSoFar ts xs us → AltsAt ts (alts_of xs) rest
+pub alts_end_read : {ts us rest : List Tok} (xs : List (RustAlt.Alt Word Name)) → Token Close us rest → AltsSoFar ts xs us → AltsAt ts (alts_of xs) rest
 alts_end_read xs token so = alts_on (sym (alts_then_none xs)) (so NoAlts _ alts_end)
 
 -- ---- declarations

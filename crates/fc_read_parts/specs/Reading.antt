@@ -5,7 +5,7 @@ use Rattle.fc_syntax.specs.declared.expr.Head.{Head}
 use Rattle.fc_syntax.specs.Tree.{Word, Ty, Binder, Expr, ELam, Args, Branch}
 use Rattle.fc_syntax.specs.Tokens.{AreSlices}
 use Rattle.fc_model.specs.Words.{Tok, Open, Close, Key, Lower, toks}
-use Rattle.fc_model.specs.declared.keyword.Keyword.TheVariants as word
+use Rattle.fc_syntax.specs.declared.keyword.Keyword.TheVariants as word
 use Rattle.fc_model.specs.Texts.{NamesAt, TypeAt, ExprAt, ArgsAt, AltAt, applications, lambdas}
 use Rattle.fc_read_parts.specs.declared.parts.Stop.{Stop}
 use Rattle.fc_read_parts.specs.declared.parts.Stop.TheVariants as stop

@@ -6,8 +6,7 @@ ghost use Rattle.fc_read_parts.specs.Classes.{IsFirst, IsNamed, IsSlice, seen, w
 
 use crate::words::keyword_of;
 use fc_lex::{is_lower_name, is_upper_name};
-use fc_model::Keyword;
-use fc_syntax::{Token, TokenKind};
+use fc_syntax::{Keyword, Token, TokenKind};
 
 /// What a token is. A name's bytes stand in the text.
 #[derive(Clone, Copy, Debug, PartialEq, Eq)]

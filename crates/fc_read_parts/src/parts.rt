@@ -3,7 +3,7 @@
 ghost use Rattle.std.specs.Prelude.{◌≡◌, ◌<◌, ◌∷◌, length, true, IfOk, IfErr, IfSome, IfNone};
 ghost use Rattle.fc_syntax.specs.Tokens.{AreSlices, is_module_part as spec_is_module_part, is_plain_name};
 ghost use Rattle.fc_model.specs.Words.{Open, Close, Key, Lower, Upper, toks};
-ghost use Rattle.fc_model.specs.declared.keyword.Keyword.TheVariants as key;
+ghost use Rattle.fc_syntax.specs.declared.keyword.Keyword.TheVariants as key;
 ghost use Rattle.fc_read_parts.specs.Classes.{IsSlice, word_at};
 ghost use Rattle.fc_read_parts.specs.Machine.{AModuleWord, AModuleName, AnImportsWord, AnExportsWord, AName, ALower, AnUpper, AnOpen, AClose};
 ghost use Rattle.fc_read_parts.specs.Reading.{Closes, GoesOn, IsName, IsPlain, OpensHidden, Stops, Takes};
@@ -11,8 +11,7 @@ ghost use Rattle.fc_read_parts.specs.declared.parts.Stop.TheVariants.{Memory as 
 
 use crate::class::{Class, first};
 use fc_lex::is_module_part;
-use fc_model::Keyword;
-use fc_syntax::{Memory, Text, Token};
+use fc_syntax::{Keyword, Memory, Text, Token};
 use std::alloc::Global;
 use std::str;
 

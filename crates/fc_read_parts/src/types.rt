@@ -11,8 +11,7 @@ ghost use Rattle.fc_read_parts.specs.Reading.{Stops, Takes};
 use crate::class::{Class, first};
 use crate::parts::{Stop, closes, name_text, read_close, read_lower, read_open, read_upper};
 use crate::trees::{chain, function};
-use fc_model::Keyword;
-use fc_syntax::{Binder, ConDecl, Name, Seq, Text, Token, Ty};
+use fc_syntax::{Binder, ConDecl, Keyword, Name, Seq, Text, Token, Ty};
 use std::alloc::Global;
 
 #[tactic(auto, using(fc_syntax::proofs::View::view_rules))]

@@ -2,7 +2,7 @@
 ghost use Rattle.std.specs.Prelude.{◌≡◌};
 ghost use Rattle.fc_model.specs.Words as spec;
 
-use fc_model::Keyword;
+use fc_syntax::Keyword;
 
 #[tactic(auto, unfolding(fc_model::specs::Words::declaration_keyword))]
 fn declaration_keyword(word: &[u8]) -> Option<Keyword>

@@ -1,7 +1,7 @@
 -- Each text of the grammar stands in front of what follows it, whatever that is.
 use Rattle.std.proofs.Common.{◌≡◌, List, [], ◌∷◌, ◌++◌, refl, sym, ap, ◌∙◌, subst, append_assoc}
 use Rattle.fc_syntax.specs.Tree.{Word, Ty, ConDecl, Binder, Expr, Args, Alt, Alts, Decl, DDef, Module}
-use Rattle.fc_model.specs.declared.keyword.Keyword.TheVariants as word
+use Rattle.fc_syntax.specs.declared.keyword.Keyword.TheVariants as word
 use Rattle.fc_model.specs.Words.{Tok, Open, Close, Key, Lower, Upper, Literal}
 use Rattle.fc_model.specs.Texts.{NamesAt, names_end, names_lower, names_upper, TypeAt, type_con, type_int, type_fun, TypesAt, types_end, types_more, ConAt, con_at, ConsAt, cons_end, cons_more}
 use Rattle.fc_model.specs.Texts.{BinderAt, binder_value, BindersAt, binders_end, binders_more}

@@ -9,9 +9,9 @@ use Rattle.fc_syntax.specs.declared.fault.FaultKind.TheVariants as fault
 use Rattle.fc_syntax.specs.declared.token.TokenKind.{TokenKind}
 use Rattle.fc_syntax.specs.declared.token.TokenKind.TheVariants as kind
 use Rattle.fc_syntax.specs.Tree.{Word, Ty, ConDecl, Binder, Expr, EApp, ATerm, Args, NoArgs, MoreArgs, Alt, Alts, Decl, Module}
-use Rattle.fc_syntax.specs.Tokens.{ByteFault, ByteClass, Blank, LineFeed, Opening, Closing, Semicolon, Plain, Foreign, Lexeme, Before, InComment, Passes, IsBracket, StartsWord, Breaks, Move, Between, InWord, byte_class, move, lexed, is_plain, word_kind, word_lexeme, as_lexeme, then_lexemes, tokens_of}
+use Rattle.fc_syntax.specs.Tokens.{ByteFault, ByteClass, Blank, LineFeed, Opening, Closing, Semicolon, Plain, Foreign, Lexeme, Preceding, InComment, Passes, IsBracket, StartsWord, Breaks, Move, Between, InWord, byte_class, move, lexed, is_plain, word_kind, word_lexeme, as_lexeme, then_lexemes, tokens_of}
 use Rattle.fc_syntax.specs.Tokens.{is_in_range, is_literal, is_lower_name, is_name, is_number, is_sign, is_upper_name, literal_value}
-use Rattle.fc_model.specs.declared.keyword.Keyword.{Keyword}
+use Rattle.fc_syntax.specs.declared.keyword.Keyword.{Keyword}
 use Rattle.fc_model.specs.Words.{Tok, Lower, Upper, Literal, Other, keyword_of, tok_of_keyword, tok_at, tok_of}
 use Rattle.fc_model.specs.Texts.{NamesAt, names_end, names_lower, names_upper, TypeAt, type_con, type_int, type_fun, TypesAt, types_end, types_more, ConAt, con_at, ConsAt, cons_end, cons_more}
 use Rattle.fc_model.specs.Texts.{BinderAt, binder_value, BindersAt, binders_end, binders_more, functions, applications, lambdas}
@@ -119,7 +119,7 @@ abbrev IsGoodMove : Move → Type 0
 IsGoodMove (IsBracket k) = IsGoodKind k
 IsGoodMove _ = ⊤
 
-move_good : (s : Before) (c : ByteClass) → IsGoodMove (move s c)
+move_good : (s : Preceding) (c : ByteClass) → IsGoodMove (move s c)
 move_good InComment LineFeed = tt
 move_good InComment Foreign = tt
 move_good InComment _ = tt
@@ -138,7 +138,7 @@ move_good InWord Semicolon = tt
 move_good InWord Plain = tt
 move_good InWord Foreign = tt
 
-moved_good : (at : ℕ) (b : ℕ) (bs : List ℕ) → ((s : Before) → GoodWhereOk (lexed s (at + 1) bs)) → (m : Move) → IsGoodMove m → GoodWhereOk (elim m as (λ _. Result (List Lexeme) ByteFault) [
+moved_good : (at : ℕ) (b : ℕ) (bs : List ℕ) → ((s : Preceding) → GoodWhereOk (lexed s (at + 1) bs)) → (m : Move) → IsGoodMove m → GoodWhereOk (elim m as (λ _. Result (List Lexeme) ByteFault) [
   | Passes after ↦ lexed after (at + 1) bs
   | IsBracket k ↦ then_lexemes (Ok (record { from = at; text = b ∷ []; kind = k })) (lexed Between (at + 1) bs)
   | StartsWord ↦ then_lexemes (word_lexeme at (take_while is_plain (b ∷ bs))) (lexed InWord (at + 1) bs)
@@ -151,7 +151,7 @@ moved_good at b bs ih StartsWord h =
     then_good (word_lexeme at w) (lexed InWord (at + 1) bs) (token_good at w (word_kind at w) (kind_good at w)) (ih InWord)
 moved_good at b bs ih Breaks h = tt
 
-lexed_good : (s : Before) (at : ℕ) (bs : List ℕ) → GoodWhereOk (lexed s at bs)
+lexed_good : (s : Preceding) (at : ℕ) (bs : List ℕ) → GoodWhereOk (lexed s at bs)
 lexed_good s at [] = tt
 lexed_good s at (b ∷ bs) = moved_good at b bs (λ t. lexed_good t (at + 1) bs) (move s (byte_class b)) (move_good s (byte_class b))
 

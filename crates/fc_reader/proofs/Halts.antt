@@ -1,12 +1,13 @@
 -- How halts of parts are halts of what they stand in.
 use Rattle.std.proofs.Common.{◌≡◌, ◌≤◌, ◌+◌, ℕ, true, false, ◌&&◌, nat_le, List, [], ◌∷◌, ◌++◌, length, sym, ap, ◌∙◌, subst}
 use Rattle.std.proofs.lemmas.List.{append-nil, map-append}
+use Rattle.fc_syntax.specs.declared.ty.Name.{Name}
 use Rattle.fc_syntax.specs.Limits.{standard_limits}
 use Rattle.fc_syntax.specs.Measures.{decl_size, decls_size}
 use Rattle.fc_syntax.specs.Tree.{Word, Decl}
 use Rattle.fc_syntax.specs.View.{decl_of, decls_of}
 use Rattle.fc_syntax.specs.declared.module.Decl as D
-use Rattle.fc_model.specs.declared.keyword.Keyword.TheVariants as word
+use Rattle.fc_syntax.specs.declared.keyword.Keyword.TheVariants as word
 use Rattle.fc_model.specs.Words.{Tok, Open, Close, Key}
 use Rattle.fc_model.specs.Texts.{NamesAt, DeclAt, DeclsAt, decls_end, SomeDeclsAt, no_decls, SomeBodyAt, some_hidden, some_plain, BeginsWithDecls, begins_with}
 use Rattle.fc_model.specs.ReadFaults.{are_within, counts_fit, depth_fits}
@@ -47,7 +48,7 @@ decl_much {us = us} {vs = vs} {ds = ds} {d = d} size start e own left is past = 
   past = (past.0, ap (λ m. counts_fit d && nat_le m standard_limits.size) (size_more ds d ∙ ap (λ m. m + decl_size d) (sym is)) ∙ past.1);
 }
 
-decls_pushed : (old new : List D.Decl) (d : D.Decl) → new ≡ old ++ d ∷ [] → decls_of new ≡ decls_of old ++ decl_of d ∷ []
+decls_pushed : (old new : List (D.Decl Word Name)) (d : D.Decl Word Name) → new ≡ old ++ d ∷ [] → decls_of new ≡ decls_of old ++ decl_of d ∷ []
 decls_pushed old new d e = ap decls_of e ∙ map-append decl_of old (d ∷ [])
 
 pub none_read : {ts : List Tok} {ds : List Decl} → ds ≡ [] → SomeDeclsAt ts ds ts
@@ -62,15 +63,15 @@ none_size e = sym (ap decls_size e)
 pub decls_end_read : {ts us rest : List Tok} {ds : List Decl} → Token Close us rest → SomeDeclsAt ts ds us → DeclsAt ts ds rest
 decls_end_read {ts = ts} {rest = rest} {ds = ds} token d = subst (λ x. DeclsAt ts x rest) (append-nil ds) (some_then d decls_end)
 
-pub decl_more_read : {ts us vs : List Tok} (old new : List D.Decl) (d : D.Decl) → new ≡ old ++ d ∷ [] → SomeDeclsAt ts (decls_of old) us → DeclAt us (decl_of d) vs → SomeDeclsAt ts (decls_of new) vs
+pub decl_more_read : {ts us vs : List Tok} (old new : List (D.Decl Word Name)) (d : D.Decl Word Name) → new ≡ old ++ d ∷ [] → SomeDeclsAt ts (decls_of old) us → DeclAt us (decl_of d) vs → SomeDeclsAt ts (decls_of new) vs
 decl_more_read {ts = ts} {vs = vs} old new d e s a = subst (λ x. SomeDeclsAt ts x vs) (sym (decls_pushed old new d e)) (some_more s a)
 
-pub decl_more_within : (old new : List D.Decl) (d : D.Decl) (size n : ℕ) → new ≡ old ++ d ∷ [] → are_within (decls_of old) ≡ true → size ≡ decls_size (decls_of old)
+pub decl_more_within : (old new : List (D.Decl Word Name)) (d : D.Decl Word Name) (size n : ℕ) → new ≡ old ++ d ∷ [] → are_within (decls_of old) ≡ true → size ≡ decls_size (decls_of old)
     → (depth_fits (decl_of d) ≡ true) × ((counts_fit (decl_of d) ≡ true) × ((n ≡ size + decl_size (decl_of d)) × (n ≤ standard_limits.size))) → are_within (decls_of new) ≡ true
 decl_more_within old new d size n e w is h =
     ap are_within (decls_pushed old new d e) ∙ more_within (decls_of old) (decl_of d) n w h.0 h.1.0 (h.1.1.0 ∙ ap (λ m. m + decl_size (decl_of d)) is) h.1.1.1
 
-pub decl_more_size : (old new : List D.Decl) (d : D.Decl) (size n : ℕ) → new ≡ old ++ d ∷ [] → size ≡ decls_size (decls_of old) → n ≡ size + decl_size (decl_of d) → n ≡ decls_size (decls_of new)
+pub decl_more_size : (old new : List (D.Decl Word Name)) (d : D.Decl Word Name) (size n : ℕ) → new ≡ old ++ d ∷ [] → size ≡ decls_size (decls_of old) → n ≡ size + decl_size (decl_of d) → n ≡ decls_size (decls_of new)
 decl_more_size old new d size n e is h = h ∙ ap (λ m. m + decl_size (decl_of d)) is ∙ sym (ap decls_size (decls_pushed old new d e) ∙ size_more (decls_of old) (decl_of d))
 
 -- ---- around them

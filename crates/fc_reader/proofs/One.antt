@@ -2,7 +2,7 @@
 use Rattle.std.proofs.Common.{◌≡◌, false, List, [], ◌∷◌, refl, sym, ap, subst}
 use Rattle.fc_syntax.specs.Tree.{Word, Ty, TFun, ConDecl, ConOf, Binder, BValue, Bound, NoBinds, MoreBinds, Expr, EApp, ELam, ELet, ECase, ECon, ATerm, Args, MoreArgs, Alt, Branch, Alts, MoreAlts, Decl, DData, DDef, Module, ModuleOf}
 use Rattle.fc_syntax.specs.declared.expr.Head.TheVariants as head
-use Rattle.fc_model.specs.declared.keyword.Keyword.TheVariants as word
+use Rattle.fc_syntax.specs.declared.keyword.Keyword.TheVariants as word
 use Rattle.fc_model.specs.Words.{Tok, Open, Close, Key, Lower}
 use Rattle.fc_model.specs.Texts.{NamesAt, names_end, names_lower, names_upper, TypeAt, type_con, type_int, type_fun, TypesAt, types_end, types_more, ConAt, con_at, ConsAt, cons_end, cons_more}
 use Rattle.fc_model.specs.Texts.{BinderAt, binder_value, BindersAt, binders_end, binders_more, functions, applications, lambdas}

@@ -4,7 +4,7 @@ use Rattle.std.specs.List.{list_all}
 use Rattle.fc_syntax.specs.Limits.{standard_limits}
 use Rattle.fc_syntax.specs.Measures.{decl_size, decls_size}
 use Rattle.fc_syntax.specs.Tree.{Word, Decl, Module}
-use Rattle.fc_model.specs.declared.keyword.Keyword.TheVariants as word
+use Rattle.fc_syntax.specs.declared.keyword.Keyword.TheVariants as word
 use Rattle.fc_model.specs.Words.{Tok, Open, Close, Key}
 use Rattle.fc_model.specs.Texts.{NamesAt, DeclAt, DeclsAt, decls_end, decls_more, BodyAt, body_hidden, body_plain, ModuleAt, module_at}
 use Rattle.fc_model.specs.Texts.{SomeDeclsAt, no_decls, some_decls, SomeBodyAt, some_hidden, some_plain, BeginsWithDecls, begins_with}

@@ -3,18 +3,17 @@ ghost use Rattle.std.specs.Prelude.{◌≡◌, ◌<◌, ◌∷◌, length, IfOk,
 ghost use Rattle.fc_syntax.specs.Tokens.{AreSlices};
 ghost use Rattle.fc_syntax.specs.View.{ty_of, binders_of, expr_of, alt_of, alts_of};
 ghost use Rattle.fc_model.specs.Words.{Open, Key, toks};
-ghost use Rattle.fc_model.specs.declared.keyword.Keyword.TheVariants as key;
+ghost use Rattle.fc_syntax.specs.declared.keyword.Keyword.TheVariants as key;
 ghost use Rattle.fc_model.specs.Texts.{ExprAt, AltAt, AltsAt};
 ghost use Rattle.fc_read_parts.specs.Machine.{AnExprForm, ACaseBinder, Alternatives, AnAlternative};
 ghost use Rattle.fc_read_parts.specs.Reading.{CaseBinderAt, HeadAt, Stops, Takes, TakesAlternativeHead};
 
 use crate::exprs::read_expr;
-use fc_model::Keyword;
 use fc_read_parts::{
     Class, Stop, case_of, closes, first, name_text, read_binders, read_close, read_lower,
     read_open, read_type,
 };
-use fc_syntax::{Alt, Binder, Expr, Head, Name, Seq, Text, Token, Ty};
+use fc_syntax::{Alt, Binder, Expr, Head, Keyword, Name, Seq, Text, Token, Ty};
 use std::alloc::Global;
 
 /// A case behind its word.

@@ -11,12 +11,11 @@ ghost use Rattle.fc_reader.specs.Halting.{Halts};
 
 use crate::exprs::read_expr;
 use crate::limits::{Halt, Judged, judge};
-use fc_model::Keyword;
 use fc_read_parts::{
     Class, Stop, closes, first, read_close, read_constructors, read_lower, read_open, read_type,
     read_upper,
 };
-use fc_syntax::{Decl, Seq, Token};
+use fc_syntax::{Decl, Keyword, Seq, Token};
 use std::alloc::Global;
 
 /// A declaration.

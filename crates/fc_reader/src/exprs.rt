@@ -4,18 +4,17 @@ ghost use Rattle.fc_syntax.specs.Tokens.{AreSlices};
 ghost use Rattle.fc_syntax.specs.Tree.{EVar, ELit, ECon};
 ghost use Rattle.fc_syntax.specs.View.{binder_of, binders_of, expr_of, args_of};
 ghost use Rattle.fc_model.specs.Words.{Open, Key, toks};
-ghost use Rattle.fc_model.specs.declared.keyword.Keyword.TheVariants as key;
+ghost use Rattle.fc_syntax.specs.declared.keyword.Keyword.TheVariants as key;
 ghost use Rattle.fc_model.specs.Texts.{plain_name, ExprAt, ArgsAt};
 ghost use Rattle.fc_read_parts.specs.Machine.{AnExpr, AnExprForm, Arguments};
 ghost use Rattle.fc_read_parts.specs.Reading.{AppliedAt, AppliesAt, BindsAt, Stops, Takes, TakesBinders, TakesHead};
 
 use crate::alternatives::read_case;
-use fc_model::Keyword;
 use fc_read_parts::{
     Class, Stop, application, binding, closes, first, lambda_over, name_text, read_binder,
     read_binders, read_close, read_lower, read_open, read_type, read_upper,
 };
-use fc_syntax::{Arg, Binder, Expr, Name, Seq, Text, Token};
+use fc_syntax::{Arg, Binder, Expr, Keyword, Name, Seq, Text, Token};
 use std::alloc::Global;
 
 #[tactic(auto, using(fc_syntax::proofs::View::view_rules))]

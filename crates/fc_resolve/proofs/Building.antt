@@ -1,12 +1,17 @@
 -- Lists that are built item by item.
-use Rattle.std.proofs.Common.{◌≡◌, ◌++◌, List, [], ◌∷◌, map, Result, Ok, Err, refl, ap}
+use Rattle.std.proofs.Common.{◌≡◌, ℕ, ◌++◌, List, [], ◌∷◌, map, Result, Ok, Err, refl, ap}
+use Rattle.fc_syntax.specs.declared.ty.Ref.{Ref}
+use Rattle.fc_syntax.specs.declared.co.Co as G
+use Rattle.fc_syntax.specs.declared.expr.Expr as E
+use Rattle.fc_syntax.specs.declared.expr.Arg as A
+use Rattle.fc_syntax.specs.declared.expr.Bind as RustBind
+use Rattle.fc_syntax.specs.declared.expr.JoinBind as RustJoin
+use Rattle.fc_syntax.specs.declared.expr.Alt as RustAlt
 use Rattle.fc_model.specs.Faulting.{F}
-use Rattle.fc_model.specs.Nameless.{NAlts, NoNAlts, MoreNAlts, NArgs, NoNArgs, MoreNArgs}
-use Rattle.fc_model.specs.NamelessView.{nalt_of, nalts_of, narg_of, nargs_of}
-use Rattle.fc_model.specs.Resolution.{then_item, then_arg, then_alt}
-use Rattle.fc_resolve.specs.Building.{with_items, nalts_before, nargs_before, with_alts, with_args}
-use Rattle.fc_model.specs.declared.nameless.NAlt as B
-use Rattle.fc_model.specs.declared.nameless.NArg as A
+use Rattle.fc_model.specs.Nameless.{NCos, NoNCos, MoreNCos, NExprs, NoNExprs, MoreNExprs, NArgs, NoNArgs, MoreNArgs, NBinds, NoNBinds, MoreNBinds, NJoins, NoNJoins, MoreNJoins, NAlts, NoNAlts, MoreNAlts}
+use Rattle.fc_model.specs.NamelessView.{nco_of, ncos_of, nexpr_of, nexprs_of, narg_of, nargs_of, nbind_of, nbinds_of, njoin_of, njoins_of, nalt_of, nalts_of}
+use Rattle.fc_model.specs.Resolution.{then_item, then_co, then_expr, then_arg, then_bind, then_join, then_alt}
+use Rattle.fc_resolve.specs.Building.{with_items, cos_before, with_cos, exprs_before, with_exprs, args_before, with_args, binds_before, with_binds, joins_before, with_joins, alts_before, with_alts}
 
 append_item : {X Y : Type 0} (view : X → Y) (items : List X) (x : X) (rest : List Y) → map view items ++ view x ∷ rest ≡ map view (items ++ x ∷ []) ++ rest
 append_item view [] x rest = refl
@@ -34,56 +39,160 @@ pub with_items_err : {X Y : Type 0} (view : X → Y) (items : List X) (f : F) �
 unfolding with_items
 with_items_err view items f = refl
 
-append_arg : (items : List A.NArg) (a : A.NArg) (rest : NArgs) → nargs_before items (MoreNArgs (narg_of a) rest) ≡ nargs_before (items ++ a ∷ []) rest
-append_arg [] a rest = refl
-append_arg (b ∷ items) a rest = ap (λ xs. MoreNArgs (narg_of b) xs) (append_arg items a rest)
+append_co : (items : List (G.Co ℕ)) (x : G.Co ℕ) (rest : NCos) → cos_before items (MoreNCos (nco_of x) rest) ≡ cos_before (items ++ x ∷ []) rest
+append_co [] x rest = refl
+append_co (y ∷ items) x rest = ap (λ xs. MoreNCos (nco_of y) xs) (append_co items x rest)
 
-append_no_args : (items : List A.NArg) → nargs_before items NoNArgs ≡ nargs_of items
-append_no_args [] = refl
-append_no_args (b ∷ items) = ap (λ xs. MoreNArgs (narg_of b) xs) (append_no_args items)
+append_no_co : (items : List (G.Co ℕ)) → cos_before items NoNCos ≡ ncos_of items
+append_no_co [] = refl
+append_no_co (y ∷ items) = ap (λ xs. MoreNCos (nco_of y) xs) (append_no_co items)
 
-pub with_args_more : (items : List A.NArg) (a : A.NArg) (r : Result NArgs F) → with_args items (then_arg (narg_of a) r) ≡ with_args (items ++ a ∷ []) r
+pub with_cos_more : (items : List (G.Co ℕ)) (x : G.Co ℕ) (r : Result NCos F) → with_cos items (then_co (nco_of x) r) ≡ with_cos (items ++ x ∷ []) r
+unfolding with_cos
+with_cos_more items x (Ok rest) = ap (λ z. Ok z) (append_co items x rest)
+with_cos_more items x (Err f) = refl
+
+pub with_cos_end : (items : List (G.Co ℕ)) → with_cos items (Ok NoNCos) ≡ Ok (ncos_of items)
+unfolding with_cos
+with_cos_end items = ap (λ z. Ok z) (append_no_co items)
+
+pub with_cos_none : (r : Result NCos F) → with_cos [] r ≡ r
+unfolding with_cos
+with_cos_none (Ok rest) = refl
+with_cos_none (Err f) = refl
+
+pub with_cos_err : (items : List (G.Co ℕ)) (f : F) → with_cos items (Err f) ≡ Err f
+unfolding with_cos
+with_cos_err items f = refl
+
+append_expr : (items : List (E.Expr ℕ Ref)) (x : E.Expr ℕ Ref) (rest : NExprs) → exprs_before items (MoreNExprs (nexpr_of x) rest) ≡ exprs_before (items ++ x ∷ []) rest
+append_expr [] x rest = refl
+append_expr (y ∷ items) x rest = ap (λ xs. MoreNExprs (nexpr_of y) xs) (append_expr items x rest)
+
+append_no_expr : (items : List (E.Expr ℕ Ref)) → exprs_before items NoNExprs ≡ nexprs_of items
+append_no_expr [] = refl
+append_no_expr (y ∷ items) = ap (λ xs. MoreNExprs (nexpr_of y) xs) (append_no_expr items)
+
+pub with_exprs_more : (items : List (E.Expr ℕ Ref)) (x : E.Expr ℕ Ref) (r : Result NExprs F) → with_exprs items (then_expr (nexpr_of x) r) ≡ with_exprs (items ++ x ∷ []) r
+unfolding with_exprs
+with_exprs_more items x (Ok rest) = ap (λ z. Ok z) (append_expr items x rest)
+with_exprs_more items x (Err f) = refl
+
+pub with_exprs_end : (items : List (E.Expr ℕ Ref)) → with_exprs items (Ok NoNExprs) ≡ Ok (nexprs_of items)
+unfolding with_exprs
+with_exprs_end items = ap (λ z. Ok z) (append_no_expr items)
+
+pub with_exprs_none : (r : Result NExprs F) → with_exprs [] r ≡ r
+unfolding with_exprs
+with_exprs_none (Ok rest) = refl
+with_exprs_none (Err f) = refl
+
+pub with_exprs_err : (items : List (E.Expr ℕ Ref)) (f : F) → with_exprs items (Err f) ≡ Err f
+unfolding with_exprs
+with_exprs_err items f = refl
+
+append_arg : (items : List (A.Arg ℕ Ref)) (x : A.Arg ℕ Ref) (rest : NArgs) → args_before items (MoreNArgs (narg_of x) rest) ≡ args_before (items ++ x ∷ []) rest
+append_arg [] x rest = refl
+append_arg (y ∷ items) x rest = ap (λ xs. MoreNArgs (narg_of y) xs) (append_arg items x rest)
+
+append_no_arg : (items : List (A.Arg ℕ Ref)) → args_before items NoNArgs ≡ nargs_of items
+append_no_arg [] = refl
+append_no_arg (y ∷ items) = ap (λ xs. MoreNArgs (narg_of y) xs) (append_no_arg items)
+
+pub with_args_more : (items : List (A.Arg ℕ Ref)) (x : A.Arg ℕ Ref) (r : Result NArgs F) → with_args items (then_arg (narg_of x) r) ≡ with_args (items ++ x ∷ []) r
 unfolding with_args
-with_args_more items a (Ok rest) = ap (λ x. Ok x) (append_arg items a rest)
-with_args_more items a (Err f) = refl
+with_args_more items x (Ok rest) = ap (λ z. Ok z) (append_arg items x rest)
+with_args_more items x (Err f) = refl
 
-pub with_args_end : (items : List A.NArg) → with_args items (Ok NoNArgs) ≡ Ok (nargs_of items)
+pub with_args_end : (items : List (A.Arg ℕ Ref)) → with_args items (Ok NoNArgs) ≡ Ok (nargs_of items)
 unfolding with_args
-with_args_end items = ap (λ x. Ok x) (append_no_args items)
+with_args_end items = ap (λ z. Ok z) (append_no_arg items)
 
 pub with_args_none : (r : Result NArgs F) → with_args [] r ≡ r
 unfolding with_args
 with_args_none (Ok rest) = refl
 with_args_none (Err f) = refl
 
-pub with_args_err : (items : List A.NArg) (f : F) → with_args items (Err f) ≡ Err f
+pub with_args_err : (items : List (A.Arg ℕ Ref)) (f : F) → with_args items (Err f) ≡ Err f
 unfolding with_args
 with_args_err items f = refl
 
-append_alt : (items : List B.NAlt) (a : B.NAlt) (rest : NAlts) → nalts_before items (MoreNAlts (nalt_of a) rest) ≡ nalts_before (items ++ a ∷ []) rest
-append_alt [] a rest = refl
-append_alt (b ∷ items) a rest = ap (λ xs. MoreNAlts (nalt_of b) xs) (append_alt items a rest)
+append_bind : (items : List (RustBind.Bind ℕ Ref)) (x : RustBind.Bind ℕ Ref) (rest : NBinds) → binds_before items (MoreNBinds (nbind_of x) rest) ≡ binds_before (items ++ x ∷ []) rest
+append_bind [] x rest = refl
+append_bind (y ∷ items) x rest = ap (λ xs. MoreNBinds (nbind_of y) xs) (append_bind items x rest)
 
-append_no_alts : (items : List B.NAlt) → nalts_before items NoNAlts ≡ nalts_of items
-append_no_alts [] = refl
-append_no_alts (b ∷ items) = ap (λ xs. MoreNAlts (nalt_of b) xs) (append_no_alts items)
+append_no_bind : (items : List (RustBind.Bind ℕ Ref)) → binds_before items NoNBinds ≡ nbinds_of items
+append_no_bind [] = refl
+append_no_bind (y ∷ items) = ap (λ xs. MoreNBinds (nbind_of y) xs) (append_no_bind items)
 
-pub with_alts_more : (items : List B.NAlt) (a : B.NAlt) (r : Result NAlts F) → with_alts items (then_alt (nalt_of a) r) ≡ with_alts (items ++ a ∷ []) r
+pub with_binds_more : (items : List (RustBind.Bind ℕ Ref)) (x : RustBind.Bind ℕ Ref) (r : Result NBinds F) → with_binds items (then_bind (nbind_of x) r) ≡ with_binds (items ++ x ∷ []) r
+unfolding with_binds
+with_binds_more items x (Ok rest) = ap (λ z. Ok z) (append_bind items x rest)
+with_binds_more items x (Err f) = refl
+
+pub with_binds_end : (items : List (RustBind.Bind ℕ Ref)) → with_binds items (Ok NoNBinds) ≡ Ok (nbinds_of items)
+unfolding with_binds
+with_binds_end items = ap (λ z. Ok z) (append_no_bind items)
+
+pub with_binds_none : (r : Result NBinds F) → with_binds [] r ≡ r
+unfolding with_binds
+with_binds_none (Ok rest) = refl
+with_binds_none (Err f) = refl
+
+pub with_binds_err : (items : List (RustBind.Bind ℕ Ref)) (f : F) → with_binds items (Err f) ≡ Err f
+unfolding with_binds
+with_binds_err items f = refl
+
+append_join : (items : List (RustJoin.JoinBind ℕ Ref)) (x : RustJoin.JoinBind ℕ Ref) (rest : NJoins) → joins_before items (MoreNJoins (njoin_of x) rest) ≡ joins_before (items ++ x ∷ []) rest
+append_join [] x rest = refl
+append_join (y ∷ items) x rest = ap (λ xs. MoreNJoins (njoin_of y) xs) (append_join items x rest)
+
+append_no_join : (items : List (RustJoin.JoinBind ℕ Ref)) → joins_before items NoNJoins ≡ njoins_of items
+append_no_join [] = refl
+append_no_join (y ∷ items) = ap (λ xs. MoreNJoins (njoin_of y) xs) (append_no_join items)
+
+pub with_joins_more : (items : List (RustJoin.JoinBind ℕ Ref)) (x : RustJoin.JoinBind ℕ Ref) (r : Result NJoins F) → with_joins items (then_join (njoin_of x) r) ≡ with_joins (items ++ x ∷ []) r
+unfolding with_joins
+with_joins_more items x (Ok rest) = ap (λ z. Ok z) (append_join items x rest)
+with_joins_more items x (Err f) = refl
+
+pub with_joins_end : (items : List (RustJoin.JoinBind ℕ Ref)) → with_joins items (Ok NoNJoins) ≡ Ok (njoins_of items)
+unfolding with_joins
+with_joins_end items = ap (λ z. Ok z) (append_no_join items)
+
+pub with_joins_none : (r : Result NJoins F) → with_joins [] r ≡ r
+unfolding with_joins
+with_joins_none (Ok rest) = refl
+with_joins_none (Err f) = refl
+
+pub with_joins_err : (items : List (RustJoin.JoinBind ℕ Ref)) (f : F) → with_joins items (Err f) ≡ Err f
+unfolding with_joins
+with_joins_err items f = refl
+
+append_alt : (items : List (RustAlt.Alt ℕ Ref)) (x : RustAlt.Alt ℕ Ref) (rest : NAlts) → alts_before items (MoreNAlts (nalt_of x) rest) ≡ alts_before (items ++ x ∷ []) rest
+append_alt [] x rest = refl
+append_alt (y ∷ items) x rest = ap (λ xs. MoreNAlts (nalt_of y) xs) (append_alt items x rest)
+
+append_no_alt : (items : List (RustAlt.Alt ℕ Ref)) → alts_before items NoNAlts ≡ nalts_of items
+append_no_alt [] = refl
+append_no_alt (y ∷ items) = ap (λ xs. MoreNAlts (nalt_of y) xs) (append_no_alt items)
+
+pub with_alts_more : (items : List (RustAlt.Alt ℕ Ref)) (x : RustAlt.Alt ℕ Ref) (r : Result NAlts F) → with_alts items (then_alt (nalt_of x) r) ≡ with_alts (items ++ x ∷ []) r
 unfolding with_alts
-with_alts_more items a (Ok rest) = ap (λ x. Ok x) (append_alt items a rest)
-with_alts_more items a (Err f) = refl
+with_alts_more items x (Ok rest) = ap (λ z. Ok z) (append_alt items x rest)
+with_alts_more items x (Err f) = refl
 
-pub with_alts_end : (items : List B.NAlt) → with_alts items (Ok NoNAlts) ≡ Ok (nalts_of items)
+pub with_alts_end : (items : List (RustAlt.Alt ℕ Ref)) → with_alts items (Ok NoNAlts) ≡ Ok (nalts_of items)
 unfolding with_alts
-with_alts_end items = ap (λ x. Ok x) (append_no_alts items)
+with_alts_end items = ap (λ z. Ok z) (append_no_alt items)
 
 pub with_alts_none : (r : Result NAlts F) → with_alts [] r ≡ r
 unfolding with_alts
 with_alts_none (Ok rest) = refl
 with_alts_none (Err f) = refl
 
-pub with_alts_err : (items : List B.NAlt) (f : F) → with_alts items (Err f) ≡ Err f
+pub with_alts_err : (items : List (RustAlt.Alt ℕ Ref)) (f : F) → with_alts items (Err f) ≡ Err f
 unfolding with_alts
 with_alts_err items f = refl
 
-pub ruleset building_rules = (with_alts_more, with_alts_end, with_alts_none, with_alts_err, with_items_more, with_items_end, with_items_none, with_items_err, with_args_more, with_args_end, with_args_none, with_args_err)
+pub ruleset building_rules = (with_items_more, with_items_end, with_items_none, with_items_err, with_cos_more, with_cos_end, with_cos_none, with_cos_err, with_exprs_more, with_exprs_end, with_exprs_none, with_exprs_err, with_args_more, with_args_end, with_args_none, with_args_err, with_binds_more, with_binds_end, with_binds_none, with_binds_err, with_joins_more, with_joins_end, with_joins_none, with_joins_err, with_alts_more, with_alts_end, with_alts_none, with_alts_err)

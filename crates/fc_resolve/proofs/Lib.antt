@@ -1,7 +1,7 @@
 pub mod Behind
-pub mod Binders
 pub mod Building
-pub mod Locals
-pub mod OneMore
-pub mod Scopes
-pub mod Variables
+pub mod GroupSteps
+pub mod InsideGroups
+pub mod ListSteps
+pub mod ParamWords
+pub mod WordSteps

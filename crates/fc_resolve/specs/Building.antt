@@ -1,35 +1,64 @@
 -- What is resolved so far, before what is still to come.
-use Rattle.std.specs.Prelude.{List, [], ◌∷◌, ◌++◌, map, Result, Ok, Err}
-use Rattle.fc_syntax.specs.Tree.{Word, Ty, Alts}
-use Rattle.fc_model.specs.Faulting.{F, and_then, under}
-use Rattle.fc_model.specs.Nameless.{NAlts, MoreNAlts, NArgs, MoreNArgs, NExpr, NCase}
-use Rattle.fc_model.specs.NamelessView.{nalt_of, narg_of}
-use Rattle.fc_model.specs.Resolution.{Locals, Top, Value, resolved_alts, resolved_ty, with_term}
-use Rattle.fc_model.specs.declared.nameless.NAlt as B
-use Rattle.fc_model.specs.declared.nameless.NArg as A
+use Rattle.std.specs.Prelude.{ℕ, List, [], ◌∷◌, ◌++◌, map, Result, Ok, Err}
+use Rattle.fc_syntax.specs.declared.ty.Ref.{Ref}
+use Rattle.fc_syntax.specs.declared.co.Co as G
+use Rattle.fc_syntax.specs.declared.expr.Expr as E
+use Rattle.fc_syntax.specs.declared.expr.Arg as A
+use Rattle.fc_syntax.specs.declared.expr.Bind as RustBind
+use Rattle.fc_syntax.specs.declared.expr.JoinBind as RustJoin
+use Rattle.fc_syntax.specs.declared.expr.Alt as RustAlt
+use Rattle.fc_model.specs.Faulting.{F}
+use Rattle.fc_model.specs.Nameless.{NCos, MoreNCos, NExprs, MoreNExprs, NArgs, MoreNArgs, NBinds, MoreNBinds, NJoins, MoreNJoins, NAlts, MoreNAlts}
+use Rattle.fc_model.specs.NamelessView.{nco_of, nexpr_of, narg_of, nbind_of, njoin_of, nalt_of}
 
 unfoldable pub with_items : {X Y : Type 0} → (X → Y) → List X → Result (List Y) F → Result (List Y) F
 with_items view items (Ok rest) = Ok (map view items ++ rest)
 with_items view items (Err f) = Err f
 
-abbrev pub nargs_before : List A.NArg → NArgs → NArgs
-nargs_before [] rest = rest
-nargs_before (a ∷ items) rest = MoreNArgs (narg_of a) (nargs_before items rest)
+abbrev pub cos_before : List (G.Co ℕ) → NCos → NCos
+cos_before [] rest = rest
+cos_before (x ∷ items) rest = MoreNCos (nco_of x) (cos_before items rest)
 
-unfoldable pub with_args : List A.NArg → Result NArgs F → Result NArgs F
-with_args items (Ok rest) = Ok (nargs_before items rest)
+unfoldable pub with_cos : List (G.Co ℕ) → Result NCos F → Result NCos F
+with_cos items (Ok rest) = Ok (cos_before items rest)
+with_cos items (Err f) = Err f
+
+abbrev pub exprs_before : List (E.Expr ℕ Ref) → NExprs → NExprs
+exprs_before [] rest = rest
+exprs_before (x ∷ items) rest = MoreNExprs (nexpr_of x) (exprs_before items rest)
+
+unfoldable pub with_exprs : List (E.Expr ℕ Ref) → Result NExprs F → Result NExprs F
+with_exprs items (Ok rest) = Ok (exprs_before items rest)
+with_exprs items (Err f) = Err f
+
+abbrev pub args_before : List (A.Arg ℕ Ref) → NArgs → NArgs
+args_before [] rest = rest
+args_before (x ∷ items) rest = MoreNArgs (narg_of x) (args_before items rest)
+
+unfoldable pub with_args : List (A.Arg ℕ Ref) → Result NArgs F → Result NArgs F
+with_args items (Ok rest) = Ok (args_before items rest)
 with_args items (Err f) = Err f
 
-abbrev pub nalts_before : List B.NAlt → NAlts → NAlts
-nalts_before [] rest = rest
-nalts_before (a ∷ items) rest = MoreNAlts (nalt_of a) (nalts_before items rest)
+abbrev pub binds_before : List (RustBind.Bind ℕ Ref) → NBinds → NBinds
+binds_before [] rest = rest
+binds_before (x ∷ items) rest = MoreNBinds (nbind_of x) (binds_before items rest)
 
-unfoldable pub with_alts : List B.NAlt → Result NAlts F → Result NAlts F
-with_alts items (Ok rest) = Ok (nalts_before items rest)
+unfoldable pub with_binds : List (RustBind.Bind ℕ Ref) → Result NBinds F → Result NBinds F
+with_binds items (Ok rest) = Ok (binds_before items rest)
+with_binds items (Err f) = Err f
+
+abbrev pub joins_before : List (RustJoin.JoinBind ℕ Ref) → NJoins → NJoins
+joins_before [] rest = rest
+joins_before (x ∷ items) rest = MoreNJoins (njoin_of x) (joins_before items rest)
+
+unfoldable pub with_joins : List (RustJoin.JoinBind ℕ Ref) → Result NJoins F → Result NJoins F
+with_joins items (Ok rest) = Ok (joins_before items rest)
+with_joins items (Err f) = Err f
+
+abbrev pub alts_before : List (RustAlt.Alt ℕ Ref) → NAlts → NAlts
+alts_before [] rest = rest
+alts_before (x ∷ items) rest = MoreNAlts (nalt_of x) (alts_before items rest)
+
+unfoldable pub with_alts : List (RustAlt.Alt ℕ Ref) → Result NAlts F → Result NAlts F
+with_alts items (Ok rest) = Ok (alts_before items rest)
 with_alts items (Err f) = Err f
-
--- a case whose scrutinee is resolved
-abbrev pub case_resolved : Top → Locals → NExpr → Word → Ty → Ty → Alts → Result NExpr F
-case_resolved top s e x t u alts =
-    and_then (under 1 (resolved_ty top s.types t)) (λ a. and_then (under 2 (resolved_ty top s.types u)) (λ b.
-    and_then (resolved_alts top (with_term (Value x) s) 3 alts) (λ xs. Ok (NCase e a b xs))))

@@ -1,17 +1,13 @@
 -- What a module declares and imports, as its tables say.
 use Rattle.std.specs.Prelude.{List, [], ◌∷◌}
 use Rattle.fc_syntax.specs.Tree.{Decl}
-use Rattle.fc_model.specs.Resolution.{Top, WordSet, Words, behind, no_words}
+use Rattle.fc_model.specs.Resolution.{Top, Words, behind}
 use Rattle.fc_model.specs.WordSets.{set_of}
 use Rattle.fc_resolve.specs.declared.declared.Spaces.{Spaces}
 use Rattle.fc_resolve.specs.declared.declared.Declared.{Declared}
 
 unfoldable pub words_by_space : Spaces → Words
 words_by_space s = record { types = set_of s.types; terms = set_of s.terms; coercions = set_of s.coercions }
-
--- words of terms, and none of the other spaces
-abbrev pub terms_alone : WordSet → Words
-terms_alone s = record no_words { terms = s }
 
 abbrev pub top_by : Declared → Top
 top_by d = record {

@@ -1,3 +1,3 @@
 pub mod Building
 pub mod DeclaredWords
-pub mod ScopeWords
+pub mod Entered

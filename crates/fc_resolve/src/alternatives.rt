@@ -1,26 +1,26 @@
-//! What the alternatives of a case are for, and their binders.
-ghost use Rattle.std.specs.Prelude.{◌≡◌, not, drop, length, OnOk};
-ghost use Rattle.fc_syntax.specs.declared.fault.FaultKind.TheVariants.{Duplicate};
-ghost use Rattle.fc_syntax.specs.View.{binder_of, binders_of};
-ghost use Rattle.fc_model.specs.Faulting.{need, under};
-ghost use Rattle.fc_model.specs.NamelessView.{nbinder_of, nbinders_of};
-ghost use Rattle.fc_model.specs.Resolution.{enter, enter_all, is_new, no_locals, no_words, with_binder, resolved_binder as binder_resolved, resolved_binders as binders_resolved, resolved_head as head_resolved};
+//! The alternatives of a case.
+ghost use Rattle.std.specs.Prelude.{◌≡◌, Ok, length, IfOk};
+ghost use Rattle.fc_syntax.specs.Hints as kept;
+ghost use Rattle.fc_syntax.specs.View.{alt_of, alts_of, binders_of, expr_of};
+ghost use Rattle.fc_model.specs.Faulting.{under};
+ghost use Rattle.fc_model.specs.NamelessView.{nalt_of, nalts_of, nexpr_of};
+ghost use Rattle.fc_model.specs.Resolution.{Value, enter_all, with_term, resolved_expr as expr_resolved, resolved_head as head_resolved, resolved_alt as alt_resolved, resolved_alts as alts_resolved};
 ghost use Rattle.fc_model.specs.Says.{Says};
-ghost use Rattle.fc_model.specs.Scopes.{scope_of};
-ghost use Rattle.fc_resolve.specs.ScopeWords.{words_in};
-ghost use Rattle.fc_model.specs.WordSets.{set_of};
-ghost use Rattle.fc_resolve.specs.DeclaredWords.{terms_alone, top_by};
+ghost use Rattle.fc_scope.specs.ScopeWords.{locals_of, with_binders};
+ghost use Rattle.fc_resolve.specs.DeclaredWords.{top_by};
 
+use crate::binders::{Entered, resolved_binders};
 use crate::declared::Declared;
-use crate::scope::Scope;
-use crate::types::{declared, ty_part};
-use fc_model::{Flawed, NBinder, WordSet, deeper, flaw_here, next_part};
-use fc_syntax::{Binder, FaultKind, Head, Memory, Seq};
+use crate::expressions::expr_part;
+use crate::names::declared;
+use fc_model::{Flawed, deeper, next_part};
+use fc_scope::{Binders, Scope};
+use fc_syntax::{Alt, Binder, Expr, Head, Memory, NAlt, NExpr, Seq, Text};
 use std::alloc::Global;
 
 /// What an alternative is for. The word of a constructor that is not in scope is `Unbound`.
-pub fn resolved_head(alloc: Global, top: &Declared, head: &Head) -> Result<Head, Flawed>
-    ensures { Says (λ h. h) result (head_resolved (top_by top.now) head.now) }
+fn resolved_head(alloc: Global, top: &Declared, head: &Head) -> Result<Head, Flawed>
+    ensures form { Says (λ h. h) result (head_resolved (top_by top.now) head.now) }
 {
     match head {
         Head::Default => Ok(Head::Default),
@@ -29,85 +29,101 @@ pub fn resolved_head(alloc: Global, top: &Declared, head: &Head) -> Result<Head,
     }
 }
 
-/// A binder behind the words of those before it in its alternative.
-fn new_binder(
+/// The alternatives of a case below its binder.
+#[cycle(resolve)]
+pub fn alternatives_below<'x>(
     alloc: Global,
     top: &Declared,
-    earlier: &WordSet,
-    binder: &Binder,
-) -> Result<NBinder, Flawed>
-    ensures { Says nbinder_of result (need (is_new (binder_of binder.now) (terms_alone (set_of earlier.now))) Duplicate (binder_resolved (top_by top.now) no_locals (binder_of binder.now))) }
+    scope: &'x Scope<'x>,
+    alts: &[Alt],
+    word: &'x Text,
+) -> Result<Seq<NAlt>, Flawed>
+    ensures form { Says nalts_of result (alts_resolved (top_by top.now) (with_term (Value word.now) (locals_of scope.now)) 3 (alts_of alts.now)) }
+    ensures words { IfOk result (λ n. kept.alts_hints (alts_of n) ≡ kept.alts_hints (alts_of alts.now)) }
 {
-    match binder {
-        Binder::Value(word, t) => {
-            if earlier.has(word) {
-                return Err(flaw_here(alloc, FaultKind::Duplicate));
-            }
-            let t = ty_part(alloc, top, t, 0)?;
-            Ok(NBinder::Value(word.copy(alloc)?, t))
-        }
-        Binder::OfType(_, _) => Err(Flawed::Memory),
-        Binder::OfCo(_, _, _, _) => Err(Flawed::Memory),
-    }
+    let inner = Scope::Value(&*word, &*scope);
+    alternatives(alloc, top, &inner, alts)
 }
 
-fn binder_part(
+/// The alternatives of a case, which are its parts from 3 on.
+#[cycle(resolve)]
+#[tactic(auto, using(crate::proofs::Building::building_rules, crate::proofs::WordSteps::word_rules, std::proofs::lemmas::Grind::common_steps))]
+fn alternatives<'x>(
     alloc: Global,
     top: &Declared,
-    earlier: &WordSet,
-    binder: &Binder,
-    part: u32,
-) -> Result<NBinder, Flawed>
-    ensures { Says nbinder_of result (under part (need (is_new (binder_of binder.now) (terms_alone (set_of earlier.now))) Duplicate (binder_resolved (top_by top.now) no_locals (binder_of binder.now)))) }
+    scope: &'x Scope<'x>,
+    alts: &[Alt],
+) -> Result<Seq<NAlt>, Flawed>
+    ensures form { Says nalts_of result (alts_resolved (top_by top.now) (locals_of scope.now) 3 (alts_of alts.now)) }
+    ensures words { IfOk result (λ n. kept.alts_hints (alts_of n) ≡ kept.alts_hints (alts_of alts.now)) }
 {
-    match new_binder(alloc, top, earlier, binder) {
+    let mut out = Seq::new(alloc);
+    let mut at = 3u32;
+    for alt in alts {
+        let next = alternative_part(alloc, top, &*scope, alt, at)?;
+        out.push(next)?;
+        at = next_part(at)?;
+    }
+    Ok(out)
+}
+
+/// An alternative that is the part of this number.
+#[cycle(resolve)]
+fn alternative_part<'x>(
+    alloc: Global,
+    top: &Declared,
+    scope: &'x Scope<'x>,
+    alt: &Alt,
+    part: u32,
+) -> Result<NAlt, Flawed>
+    ensures form { Says nalt_of result (under part (alt_resolved (top_by top.now) (locals_of scope.now) (alt_of alt.now))) }
+    ensures words { IfOk result (λ n. kept.alt_hints (alt_of n) ≡ kept.alt_hints (alt_of alt.now)) }
+{
+    match alternative(alloc, top, &*scope, alt) {
         Ok(n) => Ok(n),
         Err(flawed) => Err(deeper(flawed, part)),
     }
 }
 
-/// Enters the scope of a binder, whose word comes behind those before it.
-fn enter_binder(
-    alloc: Global,
-    scope: &mut Scope,
-    earlier: &mut WordSet,
-    binder: &Binder,
-) -> Result<(), Memory>
-    ensures scope { OnOk result (scope_of (words_in scope.new) ≡ enter (binder_of binder.now) (scope_of (words_in scope.old))) }
-    ensures outside { OnOk result (drop 1 (words_in scope.new) ≡ words_in scope.old) }
-    ensures behind { OnOk result (terms_alone (set_of earlier.new) ≡ with_binder (binder_of binder.now) (terms_alone (set_of earlier.old))) }
-{
-    match binder {
-        Binder::Value(word, _) => {
-            scope.enter(alloc, word)?;
-            earlier.add(alloc, word)?;
-            Ok(())
-        }
-        Binder::OfType(_, _) => Err(Memory),
-        Binder::OfCo(_, _, _, _) => Err(Memory),
-    }
-}
-
-/// The binders of an alternative, each in the scope of those before it. Where there is an answer, their scopes are entered.
-#[tactic(auto, using(crate::proofs::Building::building_rules, std::proofs::lemmas::Grind::common_steps))]
-pub fn entered_binders(
+/// An alternative: what it is for, its binders, and below them what it answers.
+#[cycle(resolve)]
+fn alternative<'x>(
     alloc: Global,
     top: &Declared,
-    scope: &mut Scope,
-    binders: &[Binder],
-) -> Result<Seq<NBinder>, Flawed>
-    ensures says { Says nbinders_of result (binders_resolved (top_by top.now) (scope_of (words_in scope.old)) no_words 0 (binders_of binders.now)) }
-    ensures scope { OnOk result (scope_of (words_in scope.new) ≡ enter_all (binders_of binders.now) (scope_of (words_in scope.old))) }
-    ensures outside { OnOk result (drop (length binders.now) (words_in scope.new) ≡ words_in scope.old) }
+    scope: &'x Scope<'x>,
+    alt: &Alt,
+) -> Result<NAlt, Flawed>
+    ensures form { Says nalt_of result (alt_resolved (top_by top.now) (locals_of scope.now) (alt_of alt.now)) }
+    ensures words { IfOk result (λ n. kept.alt_hints (alt_of n) ≡ kept.alt_hints (alt_of alt.now)) }
 {
-    let mut out = Seq::new(alloc);
-    let mut earlier = WordSet::new(alloc);
-    let mut at = 0u32;
-    for binder in binders {
-        let next = binder_part(alloc, top, &earlier, binder, at)?;
-        enter_binder(alloc, scope, &mut earlier, binder)?;
-        out.push(next)?;
-        at = next_part(at)?;
+    let head = resolved_head(alloc, top, &alt.head)?;
+    let group = alt.binders.as_slice();
+    let Entered { binders, names } = resolved_binders(alloc, top, &*scope, group)?;
+    let body = below_binders(alloc, top, &*scope, &alt.body, group, &names)?;
+    Ok(NAlt {
+        head,
+        binders,
+        body,
+    })
+}
+
+/// What stands below binders, which is the part behind them.
+#[cycle(resolve)]
+pub fn below_binders<'x>(
+    alloc: Global,
+    top: &Declared,
+    scope: &'x Scope<'x>,
+    e: &Expr,
+    binders: &[Binder],
+    names: &'x Binders,
+) -> Result<NExpr, Flawed>
+    requires { with_binders names.now (locals_of scope.now) ≡ enter_all (binders_of binders.now) (locals_of scope.now) }
+    ensures form { Says nexpr_of result (under (length (binders_of binders.now)) (expr_resolved (top_by top.now) (enter_all (binders_of binders.now) (locals_of scope.now)) (expr_of e.now))) }
+    ensures words { IfOk result (λ n. kept.expr_hints (expr_of n) ≡ kept.expr_hints (expr_of e.now)) }
+{
+    let inner = Scope::Binders(&*names, &*scope);
+    match u32::try_from(binders.len()) {
+        Ok(part) => expr_part(alloc, top, &inner, e, part),
+        Err(_) => Err(Flawed::Memory),
     }
-    Ok(out)
 }

@@ -1,133 +1,173 @@
 //! Declarations, each behind the words of those before.
-ghost use Rattle.std.specs.Prelude.{◌≡◌, [], not, Ok, OnOk};
-ghost use Rattle.fc_syntax.specs.declared.fault.FaultKind.TheVariants.{Duplicate};
-ghost use Rattle.fc_syntax.specs.Tree.{DData, DDef};
-ghost use Rattle.fc_syntax.specs.View.{ty_of, expr_of, con_of, cons_of, decl_of, decls_of};
-ghost use Rattle.fc_model.specs.Faulting.{need, under, within};
-ghost use Rattle.fc_model.specs.NamelessView.{ncon_of, ncons_of, ndecl_of, ndecls_of};
-ghost use Rattle.fc_model.specs.Resolution.{behind, con_words, no_locals, plus_all, resolved_expr as expr_resolved, resolved_con as con_resolved, resolved_cons as cons_resolved, resolved_decl as decl_resolved, resolved_decls as decls_resolved, decl_word};
+ghost use Rattle.std.specs.Prelude.{◌≡◌, [], ◌++◌, Ok, OnOk, IfOk, flat_map, map};
+ghost use Rattle.fc_syntax.specs.Tree.{DAxiom, DData, DDef, DFamily, DNew, DWrap};
+ghost use Rattle.fc_syntax.specs.Hints as kept;
+ghost use Rattle.fc_syntax.specs.View.{cons_of, decl_of, decls_of, expr_of, kind_of, params_of, plains_of, ty_of};
+ghost use Rattle.fc_model.specs.Faulting.{under, within};
+ghost use Rattle.fc_model.specs.NamelessView.{ndecl_of, ndecls_of, nty_of};
+ghost use Rattle.fc_model.specs.Resolution.{behind, resolved_decl as decl_resolved, resolved_decls as decls_resolved, decl_word, resolved_ty as ty_resolved};
 ghost use Rattle.fc_model.specs.Says.{Says};
-ghost use Rattle.fc_model.specs.WordSets.{set_of};
 ghost use Rattle.fc_resolve.specs.DeclaredWords.{top_by, words_by_space};
 
+use crate::constructors::constructors_in_params;
 use crate::declared::{Declared, Spaces};
 use crate::expressions::right_side;
-use crate::types::{resolved_tys, ty_part};
-use fc_model::{Flawed, NConDecl, NDecl, WordSet, deeper, flaw_here, in_declaration, next_part};
-use fc_syntax::{ConDecl, Decl, Expr, FaultKind, Memory, Seq, Text, Ty};
+use crate::params::{copied_params, copied_plains, param_names, plain_names, ty_in_params};
+use crate::types::ty_part;
+use fc_model::{Flawed, flaw_here, in_declaration, next_part};
+use fc_scope::Scope;
+use fc_syntax::{
+    ConDecl, Decl, Expr, FaultKind, Kind, Memory, NDecl, NTy, Param, Plain, Seq, Text, Ty,
+};
 use std::alloc::Global;
 
-/// A constructor without binders of its own.
-fn constructor(alloc: Global, top: &Declared, con: &ConDecl) -> Result<NConDecl, Flawed>
-    ensures { Says ncon_of result (con_resolved (top_by top.now) no_locals (con_of con.now)) }
-{
-    match con.binders.as_slice() {
-        [] => {
-            let fields = resolved_tys(alloc, top, con.fields.as_slice())?;
-            let name = con.name.copy(alloc)?;
-            Ok(NConDecl {
-                name,
-                binders: Seq::new(alloc),
-                fields,
-            })
-        }
-        _ => Err(Flawed::Memory),
-    }
-}
-
-/// A constructor behind the words of terms before.
-fn new_constructor(
-    alloc: Global,
-    top: &Declared,
-    earlier: &WordSet,
-    con: &ConDecl,
-) -> Result<NConDecl, Flawed>
-    ensures { Says ncon_of result (need (not (set_of earlier.now con.now.name)) Duplicate (con_resolved (top_by top.now) no_locals (con_of con.now))) }
-{
-    if earlier.has(&con.name) {
-        return Err(flaw_here(alloc, FaultKind::Duplicate));
-    }
-    constructor(alloc, top, con)
-}
-
-fn constructor_part(
-    alloc: Global,
-    top: &Declared,
-    earlier: &WordSet,
-    con: &ConDecl,
-    part: u32,
-) -> Result<NConDecl, Flawed>
-    ensures { Says ncon_of result (under part (need (not (set_of earlier.now con.now.name)) Duplicate (con_resolved (top_by top.now) no_locals (con_of con.now)))) }
-{
-    match new_constructor(alloc, top, earlier, con) {
-        Ok(n) => Ok(n),
-        Err(flawed) => Err(deeper(flawed, part)),
-    }
-}
-
-/// The constructors of a data type, whose words come behind those of terms before.
-#[tactic(auto, using(crate::proofs::Building::building_rules, std::proofs::lemmas::Grind::common_steps))]
-fn constructors(
-    alloc: Global,
-    top: &Declared,
-    earlier: &mut WordSet,
-    cons: &[ConDecl],
-) -> Result<Seq<NConDecl>, Flawed>
-    ensures says { Says ncons_of result (cons_resolved (top_by top.now) no_locals (set_of earlier.old) 0 (cons_of cons.now)) }
-    ensures behind { OnOk result (set_of earlier.new ≡ plus_all (con_words (cons_of cons.now)) (set_of earlier.old)) }
-{
-    let mut out = Seq::new(alloc);
-    let mut at = 0u32;
-    for con in cons {
-        let next = constructor_part(alloc, top, earlier, con, at)?;
-        earlier.add(alloc, &con.name)?;
-        out.push(next)?;
-        at = next_part(at)?;
-    }
-    Ok(out)
-}
-
-/// A data type without parameters.
+/// A data type, whose words come behind those of declarations before.
 #[tactic(auto, unfolding(crate::specs::DeclaredWords::words_by_space))]
 fn data_type(
     alloc: Global,
     top: &Declared,
     earlier: &mut Spaces,
     name: &Text,
+    params: &[Param],
     cons: &[ConDecl],
 ) -> Result<NDecl, Flawed>
-    ensures says { Says ndecl_of result (decl_resolved (top_by top.now) (words_by_space earlier.old) (DData name.now [] (cons_of cons.now))) }
-    ensures behind { OnOk result (words_by_space earlier.new ≡ behind (DData name.now [] (cons_of cons.now)) (words_by_space earlier.old)) }
+    ensures form { Says ndecl_of result (decl_resolved (top_by top.now) (words_by_space earlier.old) (DData name.now (params_of params.now) (cons_of cons.now))) }
+    ensures words { IfOk result (λ n. kept.decl_hints (decl_of n) ≡ map kept.param_hint (params_of params.now) ++ flat_map kept.con_hints (cons_of cons.now)) }
+    ensures behind { OnOk result (words_by_space earlier.new ≡ behind (DData name.now (params_of params.now) (cons_of cons.now)) (words_by_space earlier.old)) }
 {
     if earlier.types.has(name) {
         return Err(flaw_here(alloc, FaultKind::Duplicate));
     }
-    let cons = constructors(alloc, top, &mut earlier.terms, cons)?;
+    let names = param_names(alloc, params)?;
+    let cons = constructors_in_params(alloc, top, &names, cons, &mut earlier.terms)?;
     earlier.types.add(alloc, name)?;
     let name = name.copy(alloc)?;
-    Ok(NDecl::DataType(name, Seq::new(alloc), cons))
+    let params = copied_params(alloc, params)?;
+    Ok(NDecl::DataType(name, params, cons))
+}
+
+#[tactic(auto, unfolding(crate::specs::DeclaredWords::words_by_space))]
+fn new_type(
+    alloc: Global,
+    top: &Declared,
+    earlier: &Spaces,
+    name: &Text,
+    params: &[Param],
+    t: &Ty,
+    coercion: &Text,
+) -> Result<NDecl, Flawed>
+    ensures form { Says ndecl_of result (decl_resolved (top_by top.now) (words_by_space earlier.now) (DNew name.now (params_of params.now) (ty_of t.now) coercion.now)) }
+    ensures words { IfOk result (λ n. kept.decl_hints (decl_of n) ≡ map kept.param_hint (params_of params.now) ++ kept.ty_hints (ty_of t.now)) }
+{
+    if earlier.types.has(name) {
+        return Err(flaw_here(alloc, FaultKind::Duplicate));
+    }
+    let names = param_names(alloc, params)?;
+    let t = ty_in_params(alloc, top, &names, t, names.len())?;
+    if earlier.coercions.has(coercion) {
+        return Err(flaw_here(alloc, FaultKind::Duplicate));
+    }
+    let name = name.copy(alloc)?;
+    let params = copied_params(alloc, params)?;
+    let coercion = coercion.copy(alloc)?;
+    Ok(NDecl::NewType(name, params, t, coercion))
+}
+
+#[tactic(auto, unfolding(crate::specs::DeclaredWords::words_by_space))]
+fn family(
+    alloc: Global,
+    top: &Declared,
+    earlier: &Spaces,
+    name: &Text,
+    params: &[Plain],
+    kind: &Kind,
+) -> Result<NDecl, Flawed>
+    ensures form { Says ndecl_of result (decl_resolved (top_by top.now) (words_by_space earlier.now) (DFamily name.now (plains_of params.now) (kind_of kind.now))) }
+    ensures words { IfOk result (λ n. kept.decl_hints (decl_of n) ≡ map kept.plain_hint (plains_of params.now)) }
+{
+    if earlier.types.has(name) {
+        return Err(flaw_here(alloc, FaultKind::Duplicate));
+    }
+    let _names = plain_names(alloc, params)?;
+    let name = name.copy(alloc)?;
+    let params = copied_plains(alloc, params)?;
+    let kind = kind.copy(alloc)?;
+    Ok(NDecl::Family(name, params, kind))
+}
+
+#[tactic(auto, unfolding(crate::specs::DeclaredWords::words_by_space))]
+fn equation(
+    alloc: Global,
+    top: &Declared,
+    earlier: &Spaces,
+    name: &Text,
+    params: &[Plain],
+    left: &Ty,
+    right: &Ty,
+) -> Result<NDecl, Flawed>
+    ensures form { Says ndecl_of result (decl_resolved (top_by top.now) (words_by_space earlier.now) (DAxiom name.now (plains_of params.now) (ty_of left.now) (ty_of right.now))) }
+    ensures words { IfOk result (λ n. kept.decl_hints (decl_of n) ≡ map kept.plain_hint (plains_of params.now) ++ (kept.ty_hints (ty_of left.now) ++ kept.ty_hints (ty_of right.now))) }
+{
+    if earlier.coercions.has(name) {
+        return Err(flaw_here(alloc, FaultKind::Duplicate));
+    }
+    let names = plain_names(alloc, params)?;
+    let left = ty_in_params(alloc, top, &names, left, names.len())?;
+    let right = ty_in_params(alloc, top, &names, right, next_part(names.len())?)?;
+    let name = name.copy(alloc)?;
+    let params = copied_plains(alloc, params)?;
+    Ok(NDecl::Axiom(name, params, left, right))
+}
+
+/// The type of a definition, which is part 0 and in which nothing is bound.
+fn definition_type(alloc: Global, top: &Declared, t: &Ty) -> Result<NTy, Flawed>
+    ensures form { Says nty_of result (under 0 (ty_resolved (top_by top.now) [] (ty_of t.now))) }
+    ensures words { IfOk result (λ n. kept.ty_hints (ty_of n) ≡ kept.ty_hints (ty_of t.now)) }
+{
+    let scope = Scope::End;
+    ty_part(alloc, top, &scope, t, 0)
 }
 
 #[tactic(auto, unfolding(crate::specs::DeclaredWords::words_by_space))]
 fn definition(
     alloc: Global,
     top: &Declared,
-    earlier: &mut Spaces,
+    earlier: &Spaces,
     name: &Text,
     t: &Ty,
     e: &Expr,
 ) -> Result<NDecl, Flawed>
-    ensures says { Says ndecl_of result (decl_resolved (top_by top.now) (words_by_space earlier.old) (DDef name.now (ty_of t.now) (expr_of e.now))) }
-    ensures behind { OnOk result (words_by_space earlier.new ≡ behind (DDef name.now (ty_of t.now) (expr_of e.now)) (words_by_space earlier.old)) }
+    ensures form { Says ndecl_of result (decl_resolved (top_by top.now) (words_by_space earlier.now) (DDef name.now (ty_of t.now) (expr_of e.now))) }
+    ensures words { IfOk result (λ n. kept.decl_hints (decl_of n) ≡ kept.ty_hints (ty_of t.now) ++ kept.expr_hints (expr_of e.now)) }
 {
     if earlier.terms.has(name) {
         return Err(flaw_here(alloc, FaultKind::Duplicate));
     }
-    let t = ty_part(alloc, top, t, 0)?;
+    let t = definition_type(alloc, top, t)?;
     let e = right_side(alloc, top, e)?;
-    earlier.terms.add(alloc, name)?;
     let name = name.copy(alloc)?;
     Ok(NDecl::Def(name, t, e))
+}
+
+#[tactic(auto, unfolding(crate::specs::DeclaredWords::words_by_space))]
+fn wrapper(
+    alloc: Global,
+    top: &Declared,
+    earlier: &Spaces,
+    name: &Text,
+    t: &Ty,
+    e: &Expr,
+) -> Result<NDecl, Flawed>
+    ensures form { Says ndecl_of result (decl_resolved (top_by top.now) (words_by_space earlier.now) (DWrap name.now (ty_of t.now) (expr_of e.now))) }
+    ensures words { IfOk result (λ n. kept.decl_hints (decl_of n) ≡ kept.ty_hints (ty_of t.now) ++ kept.expr_hints (expr_of e.now)) }
+{
+    if earlier.terms.has(name) {
+        return Err(flaw_here(alloc, FaultKind::Duplicate));
+    }
+    let t = definition_type(alloc, top, t)?;
+    let e = right_side(alloc, top, e)?;
+    let name = name.copy(alloc)?;
+    Ok(NDecl::Wrap(name, t, e))
 }
 
 /// A declaration behind the words of those before, to which it adds its own.
@@ -137,19 +177,46 @@ fn declaration(
     earlier: &mut Spaces,
     decl: &Decl,
 ) -> Result<NDecl, Flawed>
-    ensures says { Says ndecl_of result (decl_resolved (top_by top.now) (words_by_space earlier.old) (decl_of decl.now)) }
+    ensures form { Says ndecl_of result (decl_resolved (top_by top.now) (words_by_space earlier.old) (decl_of decl.now)) }
+    ensures words { IfOk result (λ n. kept.decl_hints (decl_of n) ≡ kept.decl_hints (decl_of decl.now)) }
     ensures behind { OnOk result (words_by_space earlier.new ≡ behind (decl_of decl.now) (words_by_space earlier.old)) }
 {
     match decl {
-        Decl::DataType(name, params, cons) => match params.as_slice() {
-            [] => data_type(alloc, top, earlier, name, cons.as_slice()),
-            _ => Err(Flawed::Memory),
-        },
-        Decl::Def(name, t, e) => definition(alloc, top, earlier, name, t, e),
-        Decl::NewType(_, _, _, _) => Err(Flawed::Memory),
-        Decl::Family(_, _, _) => Err(Flawed::Memory),
-        Decl::Axiom(_, _, _, _) => Err(Flawed::Memory),
-        Decl::Wrap(_, _, _) => Err(Flawed::Memory),
+        Decl::DataType(name, params, cons) => {
+            data_type(
+                alloc,
+                top,
+                earlier,
+                name,
+                params.as_slice(),
+                cons.as_slice(),
+            )
+        }
+        Decl::NewType(name, params, t, con) => {
+            let n = new_type(alloc, top, earlier, name, params.as_slice(), t, con)?;
+            earlier.add(alloc, decl)?;
+            Ok(n)
+        }
+        Decl::Family(name, params, kind) => {
+            let n = family(alloc, top, earlier, name, params.as_slice(), kind)?;
+            earlier.add(alloc, decl)?;
+            Ok(n)
+        }
+        Decl::Axiom(name, params, left, right) => {
+            let n = equation(alloc, top, earlier, name, params.as_slice(), left, right)?;
+            earlier.add(alloc, decl)?;
+            Ok(n)
+        }
+        Decl::Def(name, t, e) => {
+            let n = definition(alloc, top, earlier, name, t, e)?;
+            earlier.add(alloc, decl)?;
+            Ok(n)
+        }
+        Decl::Wrap(name, t, e) => {
+            let n = wrapper(alloc, top, earlier, name, t, e)?;
+            earlier.add(alloc, decl)?;
+            Ok(n)
+        }
     }
 }
 
@@ -166,13 +233,15 @@ fn word_of(decl: &Decl) -> &Text
     }
 }
 
+/// The same, where its word is told of a fault.
 fn declaration_within(
     alloc: Global,
     top: &Declared,
     earlier: &mut Spaces,
     decl: &Decl,
 ) -> Result<NDecl, Flawed>
-    ensures says { Says ndecl_of result (within (decl_word (decl_of decl.now)) (decl_resolved (top_by top.now) (words_by_space earlier.old) (decl_of decl.now))) }
+    ensures form { Says ndecl_of result (within (decl_word (decl_of decl.now)) (decl_resolved (top_by top.now) (words_by_space earlier.old) (decl_of decl.now))) }
+    ensures words { IfOk result (λ n. kept.decl_hints (decl_of n) ≡ kept.decl_hints (decl_of decl.now)) }
     ensures behind { OnOk result (words_by_space earlier.new ≡ behind (decl_of decl.now) (words_by_space earlier.old)) }
 {
     match declaration(alloc, top, earlier, decl) {
@@ -182,14 +251,15 @@ fn declaration_within(
 }
 
 /// Declarations behind the words of those before, to which they add their own.
-#[tactic(auto, using(crate::proofs::Building::building_rules, std::proofs::lemmas::Grind::common_steps))]
+#[tactic(auto, using(crate::proofs::Building::building_rules, crate::proofs::WordSteps::word_rules, std::proofs::lemmas::Grind::common_steps))]
 pub fn resolved_decls(
     alloc: Global,
     top: &Declared,
     earlier: &mut Spaces,
     decls: &[Decl],
 ) -> Result<Seq<NDecl>, Flawed>
-    ensures { Says ndecls_of result (decls_resolved (top_by top.now) (words_by_space earlier.old) (decls_of decls.now)) }
+    ensures form { Says ndecls_of result (decls_resolved (top_by top.now) (words_by_space earlier.old) (decls_of decls.now)) }
+    ensures words { IfOk result (λ n. kept.decls_hints (decls_of n) ≡ kept.decls_hints (decls_of decls.now)) }
 {
     let mut out = Seq::new(alloc);
     for decl in decls {

@@ -1,375 +1,261 @@
 //! Expressions, from words to distances.
-ghost use Rattle.std.specs.Prelude.{◌≡◌, ◌∷◌, [], Ok, OnOk, IfOk};
-ghost use Rattle.fc_syntax.specs.Tree.{ELam};
-ghost use Rattle.fc_syntax.specs.View.{alt_of, alts_of, bind_of, binder_of, ty_of, expr_of, arg_of, args_of};
-ghost use Rattle.fc_resolve.specs.Building.{case_resolved};
+ghost use Rattle.std.specs.Prelude.{◌≡◌, Ok, [], IfOk};
+ghost use Rattle.fc_syntax.specs.Hints as kept;
+ghost use Rattle.fc_syntax.specs.View.{arg_of, args_of, binder_of, expr_of, exprs_of};
 ghost use Rattle.fc_model.specs.Faulting.{under};
-ghost use Rattle.fc_model.specs.NamelessView.{nalt_of, nalts_of, nbind_of, nty_of, nexpr_of, narg_of, nargs_of};
-ghost use Rattle.fc_model.specs.Resolution.{no_locals, resolved_ty as ty_resolved, resolved_var, resolved_expr as expr_resolved, resolved_arg as arg_resolved, resolved_bind as bind_resolved, resolved_args as args_resolved, resolved_alt as alt_resolved, resolved_alts as alts_resolved};
+ghost use Rattle.fc_model.specs.NamelessView.{narg_of, nargs_of, nexpr_of, nexprs_of};
+ghost use Rattle.fc_model.specs.Resolution.{enter, found_term, join_index, no_locals, resolved_var, resolved_expr as expr_resolved, resolved_exprs as exprs_resolved, resolved_arg as arg_resolved, resolved_args as args_resolved};
 ghost use Rattle.fc_model.specs.Says.{Says};
-ghost use Rattle.fc_model.specs.Scopes.{scope_of};
-ghost use Rattle.fc_resolve.specs.ScopeWords.{LocalIs, words_in};
+ghost use Rattle.fc_scope.specs.ScopeWords.{locals_of};
 ghost use Rattle.fc_resolve.specs.DeclaredWords.{top_by};
 
-use crate::alternatives::{entered_binders, resolved_head};
+use crate::alternatives::alternatives_below;
+use crate::binders::first_binder;
+use crate::coercions::{co_part, resolved_co};
 use crate::declared::Declared;
-use crate::scope::Scope;
-use crate::types::{declared, ty_part};
-use fc_model::{Flawed, NAlt, NArg, NBind, NBinder, NExpr, NTy, deeper, next_part};
-use fc_syntax::{Alt, Arg, Bind, Binder, Expr, Memory, Name, Seq, Text, Ty, boxed};
+use crate::groups::{below_joins, below_values, bind_names, group, join_group, join_names};
+use crate::names::declared;
+use crate::types::{resolved_ty, ty_part};
+use fc_model::{Flawed, deeper, flaw_here, next_part};
+use fc_scope::{Found, Scope};
+use fc_syntax::{Arg, Binder, Expr, FaultKind, Memory, NArg, NExpr, Name, Ref, Seq, Text, boxed};
 use std::alloc::Global;
 
-/// A variable: the innermost binder of its word, else a definition.
-#[tactic(auto, using(fc_model::proofs::NamelessView::nview_rules, crate::proofs::Variables::variable_rules))]
+/// A variable: the innermost binder of its word where it has no module, else a definition. The word of a join point is `Unbound`.
+#[tactic(auto, using(fc_syntax::proofs::View::view_rules))]
 fn variable(alloc: Global, top: &Declared, scope: &Scope, name: &Name) -> Result<NExpr, Flawed>
-    ensures { Says nexpr_of result (resolved_var (top_by top.now) (scope_of (words_in scope.now)) name.now.module name.now.text) }
-{
-    match local(scope, name) {
-        Some(distance) => match u32::try_from(distance) {
-            Ok(distance) => Ok(NExpr::Local(distance)),
-            Err(_) => Err(Flawed::Memory),
-        },
-        None => {
-            let name = declared(alloc, top, &top.spaces.terms, name)?;
-            Ok(NExpr::Var(name))
-        }
-    }
-}
-
-/// The distance to the binder of a name without a module, where there is one.
-fn local(scope: &Scope, name: &Name) -> Option<usize>
-    ensures { LocalIs (words_in scope.now) name.now.module name.now.text result }
+    ensures form { Says nexpr_of result (resolved_var (top_by top.now) (locals_of scope.now) name.now.module name.now.text) }
+    ensures words { IfOk result (λ n. kept.expr_hints (expr_of n) ≡ []) }
 {
     match &name.module {
-        None => scope.distance(&name.text),
-        Some(_) => None,
+        None => match scope.term(&name.text)? {
+            Found::Value(distance) => Ok(NExpr::Var(Ref::Local(distance))),
+            Found::Join(_) => Err(flaw_here(alloc, FaultKind::Unbound)),
+            Found::Nowhere => {
+                let name = declared(alloc, top, &top.spaces.terms, name)?;
+                Ok(NExpr::Var(Ref::Top(name)))
+            }
+        },
+        Some(_) => {
+            let name = declared(alloc, top, &top.spaces.terms, name)?;
+            Ok(NExpr::Var(Ref::Top(name)))
+        }
     }
 }
 
-/// An expression in a scope, which is as before where there is an answer.
+/// The distance of the join point that a jump names. Another word is `Unbound`.
+fn join_point(alloc: Global, scope: &Scope, word: &Text) -> Result<u32, Flawed>
+    ensures form { Says (λ i. i) result (join_index (found_term (locals_of scope.now).terms word.now)) }
+{
+    match scope.term(word)? {
+        Found::Join(distance) => Ok(distance),
+        Found::Value(_) => Err(flaw_here(alloc, FaultKind::Unbound)),
+        Found::Nowhere => Err(flaw_here(alloc, FaultKind::Unbound)),
+    }
+}
+
+/// An expression in a scope.
 #[cycle(resolve)]
-#[tactic(auto, using(fc_syntax::proofs::View::view_rules, fc_model::proofs::NamelessView::nview_rules))]
-fn resolved_expr(
+#[tactic(auto, using(fc_syntax::proofs::View::view_rules))]
+fn resolved_expr<'x>(
     alloc: Global,
     top: &Declared,
-    scope: &mut Scope,
+    scope: &'x Scope<'x>,
     e: &Expr,
 ) -> Result<NExpr, Flawed>
-    ensures says { Says nexpr_of result (expr_resolved (top_by top.now) (scope_of (words_in scope.old)) (expr_of e.now)) }
-    ensures scope { OnOk result (words_in scope.new ≡ words_in scope.old) }
+    ensures form { Says nexpr_of result (expr_resolved (top_by top.now) (locals_of scope.now) (expr_of e.now)) }
+    ensures words { IfOk result (λ n. kept.expr_hints (expr_of n) ≡ kept.expr_hints (expr_of e.now)) }
 {
     match e {
-        Expr::Var(name) => variable(alloc, top, scope, name),
+        Expr::Var(name) => variable(alloc, top, &*scope, name),
         Expr::Lit(n) => Ok(NExpr::Lit(*n)),
-        Expr::Con(name, args) => {
-            let name = declared(alloc, top, &top.spaces.terms, name)?;
-            let args = resolved_args(alloc, top, scope, args.as_slice())?;
-            Ok(NExpr::Con(name, args))
-        }
         Expr::App(f, a) => {
-            let f = expr_part(alloc, top, scope, f, 0)?;
-            let a = arg_part(alloc, top, scope, a, 1)?;
+            let f = expr_part(alloc, top, &*scope, f, 0)?;
+            let a = arg_part(alloc, top, &*scope, a, 1)?;
             Ok(NExpr::App(boxed(alloc, f)?, boxed(alloc, a)?))
         }
-        Expr::Lam(binder, e) => lambda(alloc, top, scope, binder, e),
+        Expr::Lam(binder, e) => {
+            let b = first_binder(alloc, top, &*scope, binder)?;
+            let e = below(alloc, top, &*scope, e, binder)?;
+            Ok(NExpr::Lam(boxed(alloc, b)?, boxed(alloc, e)?))
+        }
         Expr::Let(recursive, binds, e) => {
-            if *recursive || binds.len() != 1 {
-                return Err(Flawed::Memory);
-            }
-            let bind = match resolved_bind(alloc, top, scope, binds.at(0)) {
-                Ok(bind) => bind,
-                Err(flawed) => return Err(flawed),
-            };
-            let e = match body(alloc, top, scope, &binds.at(0).name, e, 1) {
-                Ok(e) => e,
-                Err(flawed) => return Err(flawed),
-            };
-            Ok(NExpr::Let(false, only(alloc, bind)?, boxed(alloc, e)?))
+            let binds = binds.as_slice();
+            let names = bind_names(alloc, binds)?;
+            let members = group(alloc, top, &*scope, binds, *recursive, &names)?;
+            let e = below_values(alloc, top, &*scope, e, binds, &names)?;
+            Ok(NExpr::Let(*recursive, members, boxed(alloc, e)?))
         }
         Expr::Case(e, word, t, u, alts) => {
-            let e = expr_part(alloc, top, scope, e, 0)?;
-            case(alloc, top, scope, alts.as_slice(), word, t, u, e)
+            let e = expr_part(alloc, top, &*scope, e, 0)?;
+            let t = ty_part(alloc, top, &*scope, t, 1)?;
+            let u = ty_part(alloc, top, &*scope, u, 2)?;
+            let alts = alternatives_below(alloc, top, &*scope, alts.as_slice(), word)?;
+            let word = word.copy(alloc)?;
+            Ok(NExpr::Case(boxed(alloc, e)?, word, t, u, alts))
         }
-        Expr::Cast(_, _) => Err(Flawed::Memory),
-        Expr::Prim(_, _) => Err(Flawed::Memory),
-        Expr::Fail(_) => Err(Flawed::Memory),
-        Expr::Join(_, _, _, _) => Err(Flawed::Memory),
-        Expr::Jump(_, _) => Err(Flawed::Memory),
+        Expr::Cast(e, g) => {
+            let e = expr_part(alloc, top, &*scope, e, 0)?;
+            let g = co_part(alloc, top, &*scope, g, 1)?;
+            Ok(NExpr::Cast(boxed(alloc, e)?, g))
+        }
+        Expr::Con(name, args) => {
+            let name = declared(alloc, top, &top.spaces.terms, name)?;
+            let args = resolved_args(alloc, top, &*scope, args.as_slice())?;
+            Ok(NExpr::Con(name, args))
+        }
+        Expr::Prim(op, operands) => {
+            let operands = resolved_exprs(alloc, top, &*scope, operands.as_slice())?;
+            Ok(NExpr::Prim(*op, operands))
+        }
+        Expr::Fail(t) => Ok(NExpr::Fail(ty_part(alloc, top, &*scope, t, 0)?)),
+        Expr::Join(recursive, t, joins, e) => {
+            let t = ty_part(alloc, top, &*scope, t, 0)?;
+            let joins = joins.as_slice();
+            let names = join_names(alloc, joins)?;
+            let members = join_group(alloc, top, &*scope, joins, *recursive, &names)?;
+            let e = below_joins(alloc, top, &*scope, e, joins, &names)?;
+            Ok(NExpr::Join(*recursive, t, members, boxed(alloc, e)?))
+        }
+        Expr::Jump(word, args) => {
+            let distance = join_point(alloc, &*scope, word)?;
+            let args = resolved_args(alloc, top, &*scope, args.as_slice())?;
+            Ok(NExpr::Jump(distance, args))
+        }
     }
 }
 
+/// An expression that is the part of this number.
 #[cycle(resolve)]
-fn expr_part(
+pub fn expr_part<'x>(
     alloc: Global,
     top: &Declared,
-    scope: &mut Scope,
+    scope: &'x Scope<'x>,
     e: &Expr,
     part: u32,
 ) -> Result<NExpr, Flawed>
-    ensures says { Says nexpr_of result (under part (expr_resolved (top_by top.now) (scope_of (words_in scope.old)) (expr_of e.now))) }
-    ensures scope { OnOk result (words_in scope.new ≡ words_in scope.old) }
+    ensures form { Says nexpr_of result (under part (expr_resolved (top_by top.now) (locals_of scope.now) (expr_of e.now))) }
+    ensures words { IfOk result (λ n. kept.expr_hints (expr_of n) ≡ kept.expr_hints (expr_of e.now)) }
 {
-    match resolved_expr(alloc, top, scope, e) {
+    match resolved_expr(alloc, top, &*scope, e) {
         Ok(n) => Ok(n),
         Err(flawed) => Err(deeper(flawed, part)),
     }
 }
 
-/// The type of a binder, which is its part 0 and stands in part 0 of what it binds for.
-fn binder_type(alloc: Global, top: &Declared, t: &Ty) -> Result<NTy, Flawed>
-    ensures { Says nty_of result (under 0 (under 0 (ty_resolved (top_by top.now) [] (ty_of t.now)))) }
-{
-    match ty_part(alloc, top, t, 0) {
-        Ok(n) => Ok(n),
-        Err(flawed) => Err(deeper(flawed, 0)),
-    }
-}
-
-/// An expression below the binder of a value.
+/// The body of a lambda, which is part 1, in the scope of its binder.
 #[cycle(resolve)]
-fn body(
+fn below<'x>(
     alloc: Global,
     top: &Declared,
-    scope: &mut Scope,
-    word: &Text,
+    scope: &'x Scope<'x>,
     e: &Expr,
-    part: u32,
+    binder: &'x Binder,
 ) -> Result<NExpr, Flawed>
-    ensures says { Says nexpr_of result (under part (expr_resolved (top_by top.now) (scope_of (word.now ∷ words_in scope.old)) (expr_of e.now))) }
-    ensures scope { OnOk result (words_in scope.new ≡ words_in scope.old) }
-{
-    scope.enter(alloc, word)?;
-    let e = expr_part(alloc, top, scope, e, part)?;
-    scope.leave();
-    Ok(e)
-}
-
-/// A lambda over one binder.
-#[cycle(resolve)]
-#[tactic(auto, using(fc_syntax::proofs::View::view_rules, fc_model::proofs::NamelessView::nview_rules))]
-fn lambda(
-    alloc: Global,
-    top: &Declared,
-    scope: &mut Scope,
-    binder: &Binder,
-    e: &Expr,
-) -> Result<NExpr, Flawed>
-    ensures says { Says nexpr_of result (expr_resolved (top_by top.now) (scope_of (words_in scope.old)) (ELam (binder_of binder.now) (expr_of e.now))) }
-    ensures scope { OnOk result (words_in scope.new ≡ words_in scope.old) }
+    ensures form { Says nexpr_of result (under 1 (expr_resolved (top_by top.now) (enter (binder_of binder.now) (locals_of scope.now)) (expr_of e.now))) }
+    ensures words { IfOk result (λ n. kept.expr_hints (expr_of n) ≡ kept.expr_hints (expr_of e.now)) }
 {
     match binder {
-        Binder::Value(word, t) => {
-            let t = binder_type(alloc, top, t)?;
-            let e = body(alloc, top, scope, word, e, 1)?;
-            let binder = NBinder::Value(word.copy(alloc)?, t);
-            Ok(NExpr::Lam(boxed(alloc, binder)?, boxed(alloc, e)?))
+        Binder::Value(word, _) => {
+            let inner = Scope::Value(&*word, &*scope);
+            expr_part(alloc, top, &inner, e, 1)
         }
-        Binder::OfType(_, _) => Err(Flawed::Memory),
-        Binder::OfCo(_, _, _, _) => Err(Flawed::Memory),
+        Binder::OfType(word, _) => {
+            let inner = Scope::Type(&*word, &*scope);
+            expr_part(alloc, top, &inner, e, 1)
+        }
+        Binder::OfCo(word, _, _, _) => {
+            let inner = Scope::Coercion(&*word, &*scope);
+            expr_part(alloc, top, &inner, e, 1)
+        }
     }
 }
 
-/// A list of one bind.
-fn only(alloc: Global, bind: NBind) -> Result<Seq<NBind>, Memory>
-    ensures { IfOk result (λ binds. binds ≡ bind ∷ []) }
-{
-    let mut binds = Seq::new(alloc);
-    binds.push(bind)?;
-    Ok(binds)
-}
-
-/// A bind, which is part 0 of its let.
+/// An argument in a scope.
 #[cycle(resolve)]
-fn resolved_bind(
+fn resolved_arg<'x>(
     alloc: Global,
     top: &Declared,
-    scope: &mut Scope,
-    bind: &Bind,
-) -> Result<NBind, Flawed>
-    ensures says { Says nbind_of result (under 0 (bind_resolved (top_by top.now) (scope_of (words_in scope.old)) (bind_of bind.now))) }
-    ensures scope { OnOk result (words_in scope.new ≡ words_in scope.old) }
-{
-    let ty = binder_type(alloc, top, &bind.ty)?;
-    let rhs = match expr_part(alloc, top, scope, &bind.rhs, 1) {
-        Ok(rhs) => rhs,
-        Err(flawed) => return Err(deeper(flawed, 0)),
-    };
-    let hint = bind.name.copy(alloc)?;
-    Ok(NBind { hint, ty, rhs })
-}
-
-#[cycle(resolve)]
-fn resolved_arg(alloc: Global, top: &Declared, scope: &mut Scope, arg: &Arg) -> Result<NArg, Flawed>
-    ensures says { Says narg_of result (arg_resolved (top_by top.now) (scope_of (words_in scope.old)) (arg_of arg.now)) }
-    ensures scope { OnOk result (words_in scope.new ≡ words_in scope.old) }
+    scope: &'x Scope<'x>,
+    arg: &Arg,
+) -> Result<NArg, Flawed>
+    ensures form { Says narg_of result (arg_resolved (top_by top.now) (locals_of scope.now) (arg_of arg.now)) }
+    ensures words { IfOk result (λ n. kept.arg_hints (arg_of n) ≡ kept.arg_hints (arg_of arg.now)) }
 {
     match arg {
-        Arg::Term(e) => {
-            let e = resolved_expr(alloc, top, scope, e)?;
-            Ok(NArg::Term(e))
-        }
-        Arg::OfType(_) => Err(Flawed::Memory),
-        Arg::OfCo(_) => Err(Flawed::Memory),
+        Arg::Term(e) => Ok(NArg::Term(resolved_expr(alloc, top, &*scope, e)?)),
+        Arg::OfType(t) => Ok(NArg::OfType(resolved_ty(alloc, top, &*scope, t)?)),
+        Arg::OfCo(g) => Ok(NArg::OfCo(resolved_co(alloc, top, &*scope, g)?)),
     }
 }
 
+/// An argument that is the part of this number.
 #[cycle(resolve)]
-fn arg_part(
+fn arg_part<'x>(
     alloc: Global,
     top: &Declared,
-    scope: &mut Scope,
+    scope: &'x Scope<'x>,
     arg: &Arg,
     part: u32,
 ) -> Result<NArg, Flawed>
-    ensures says { Says narg_of result (under part (arg_resolved (top_by top.now) (scope_of (words_in scope.old)) (arg_of arg.now))) }
-    ensures scope { OnOk result (words_in scope.new ≡ words_in scope.old) }
+    ensures form { Says narg_of result (under part (arg_resolved (top_by top.now) (locals_of scope.now) (arg_of arg.now))) }
+    ensures words { IfOk result (λ n. kept.arg_hints (arg_of n) ≡ kept.arg_hints (arg_of arg.now)) }
 {
-    match resolved_arg(alloc, top, scope, arg) {
+    match resolved_arg(alloc, top, &*scope, arg) {
         Ok(n) => Ok(n),
         Err(flawed) => Err(deeper(flawed, part)),
     }
 }
 
+/// Arguments, which are the parts from 0 on.
 #[cycle(resolve)]
-#[tactic(auto, using(crate::proofs::Building::building_rules, std::proofs::lemmas::Grind::common_steps))]
-fn resolved_args(
+#[tactic(auto, using(crate::proofs::Building::building_rules, crate::proofs::WordSteps::word_rules, std::proofs::lemmas::Grind::common_steps))]
+fn resolved_args<'x>(
     alloc: Global,
     top: &Declared,
-    scope: &mut Scope,
+    scope: &'x Scope<'x>,
     args: &[Arg],
 ) -> Result<Seq<NArg>, Flawed>
-    ensures says { Says nargs_of result (args_resolved (top_by top.now) (scope_of (words_in scope.old)) 0 (args_of args.now)) }
-    ensures scope { OnOk result (words_in scope.new ≡ words_in scope.old) }
+    ensures form { Says nargs_of result (args_resolved (top_by top.now) (locals_of scope.now) 0 (args_of args.now)) }
+    ensures words { IfOk result (λ n. kept.args_hints (args_of n) ≡ kept.args_hints (args_of args.now)) }
 {
     let mut out = Seq::new(alloc);
     let mut at = 0u32;
     for a in args {
-        let next = arg_part(alloc, top, scope, a, at)?;
+        let next = arg_part(alloc, top, &*scope, a, at)?;
         out.push(next)?;
         at = next_part(at)?;
     }
     Ok(out)
 }
 
-/// A case behind its scrutinee: the types of the binder and of the answer, and the alternatives, which stand below the binder.
+/// Operands, which are the parts from 0 on.
 #[cycle(resolve)]
-#[tactic(auto, using(fc_model::proofs::NamelessView::nview_rules))]
-fn case(
+#[tactic(auto, using(crate::proofs::Building::building_rules, crate::proofs::WordSteps::word_rules, std::proofs::lemmas::Grind::common_steps))]
+fn resolved_exprs<'x>(
     alloc: Global,
     top: &Declared,
-    scope: &mut Scope,
-    alts: &[Alt],
-    word: &Text,
-    t: &Ty,
-    u: &Ty,
-    scrutinee: NExpr,
-) -> Result<NExpr, Flawed>
-    ensures says { Says nexpr_of result (case_resolved (top_by top.now) (scope_of (words_in scope.old)) (nexpr_of scrutinee) word.now (ty_of t.now) (ty_of u.now) (alts_of alts.now)) }
-    ensures scope { OnOk result (words_in scope.new ≡ words_in scope.old) }
-{
-    let t = ty_part(alloc, top, t, 1)?;
-    let u = ty_part(alloc, top, u, 2)?;
-    let alts = alternatives_below(alloc, top, scope, word, alts)?;
-    let hint = word.copy(alloc)?;
-    Ok(NExpr::Case(boxed(alloc, scrutinee)?, hint, t, u, alts))
-}
-
-/// The alternatives of a case below its binder.
-#[cycle(resolve)]
-fn alternatives_below(
-    alloc: Global,
-    top: &Declared,
-    scope: &mut Scope,
-    word: &Text,
-    alts: &[Alt],
-) -> Result<Seq<NAlt>, Flawed>
-    ensures says { Says nalts_of result (alts_resolved (top_by top.now) (scope_of (word.now ∷ words_in scope.old)) 3 (alts_of alts.now)) }
-    ensures scope { OnOk result (words_in scope.new ≡ words_in scope.old) }
-{
-    scope.enter(alloc, word)?;
-    let alts = alternatives(alloc, top, scope, alts)?;
-    scope.leave();
-    Ok(alts)
-}
-
-/// The alternatives of a case, which are its parts from 3 on.
-#[cycle(resolve)]
-#[tactic(auto, using(crate::proofs::Building::building_rules, std::proofs::lemmas::Grind::common_steps))]
-fn alternatives(
-    alloc: Global,
-    top: &Declared,
-    scope: &mut Scope,
-    alts: &[Alt],
-) -> Result<Seq<NAlt>, Flawed>
-    ensures says { Says nalts_of result (alts_resolved (top_by top.now) (scope_of (words_in scope.old)) 3 (alts_of alts.now)) }
-    ensures scope { OnOk result (words_in scope.new ≡ words_in scope.old) }
+    scope: &'x Scope<'x>,
+    operands: &[Expr],
+) -> Result<Seq<NExpr>, Flawed>
+    ensures form { Says nexprs_of result (exprs_resolved (top_by top.now) (locals_of scope.now) 0 (exprs_of operands.now)) }
+    ensures words { IfOk result (λ n. kept.exprs_hints (exprs_of n) ≡ kept.exprs_hints (exprs_of operands.now)) }
 {
     let mut out = Seq::new(alloc);
-    let mut at = 3u32;
-    for alt in alts {
-        let next = alternative_part(alloc, top, scope, alt, at)?;
+    let mut at = 0u32;
+    for e in operands {
+        let next = expr_part(alloc, top, &*scope, e, at)?;
         out.push(next)?;
         at = next_part(at)?;
     }
     Ok(out)
 }
 
-#[cycle(resolve)]
-fn alternative_part(
-    alloc: Global,
-    top: &Declared,
-    scope: &mut Scope,
-    alt: &Alt,
-    part: u32,
-) -> Result<NAlt, Flawed>
-    ensures says { Says nalt_of result (under part (alt_resolved (top_by top.now) (scope_of (words_in scope.old)) (alt_of alt.now))) }
-    ensures scope { OnOk result (words_in scope.new ≡ words_in scope.old) }
-{
-    match alternative(alloc, top, scope, alt) {
-        Ok(n) => Ok(n),
-        Err(flawed) => Err(deeper(flawed, part)),
-    }
-}
-
-/// An alternative: what it is for, its binders, and below them what it answers.
-#[cycle(resolve)]
-fn alternative(alloc: Global, top: &Declared, scope: &mut Scope, alt: &Alt) -> Result<NAlt, Flawed>
-    ensures says { Says nalt_of result (alt_resolved (top_by top.now) (scope_of (words_in scope.old)) (alt_of alt.now)) }
-    ensures scope { OnOk result (words_in scope.new ≡ words_in scope.old) }
-{
-    let head = resolved_head(alloc, top, &alt.head)?;
-    let binders = entered_binders(alloc, top, scope, alt.binders.as_slice())?;
-    let body = expr_behind(alloc, top, scope, alt.binders.len(), &alt.body)?;
-    scope.leave_all(alt.binders.len());
-    Ok(NAlt {
-        head,
-        binders,
-        body,
-    })
-}
-
-/// An expression behind so many other parts.
-#[cycle(resolve)]
-fn expr_behind(
-    alloc: Global,
-    top: &Declared,
-    scope: &mut Scope,
-    parts: usize,
-    e: &Expr,
-) -> Result<NExpr, Flawed>
-    ensures says { Says nexpr_of result (under parts (expr_resolved (top_by top.now) (scope_of (words_in scope.old)) (expr_of e.now))) }
-    ensures scope { OnOk result (words_in scope.new ≡ words_in scope.old) }
-{
-    match u32::try_from(parts) {
-        Ok(part) => expr_part(alloc, top, scope, e, part),
-        Err(_) => Err(Flawed::Memory),
-    }
-}
-
-/// The right side of a definition, in which nothing is bound yet.
+/// The right side of a definition, which is part 1 and in which nothing is bound yet.
 pub fn right_side(alloc: Global, top: &Declared, e: &Expr) -> Result<NExpr, Flawed>
-    ensures { Says nexpr_of result (under 1 (expr_resolved (top_by top.now) no_locals (expr_of e.now))) }
+    ensures form { Says nexpr_of result (under 1 (expr_resolved (top_by top.now) no_locals (expr_of e.now))) }
+    ensures words { IfOk result (λ n. kept.expr_hints (expr_of n) ≡ kept.expr_hints (expr_of e.now)) }
 {
-    let mut scope = Scope::new(alloc);
-    expr_part(alloc, top, &mut scope, e, 1)
+    let scope = Scope::End;
+    expr_part(alloc, top, &scope, e, 1)
 }

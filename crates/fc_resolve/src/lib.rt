@@ -1,15 +1,20 @@
-//! From names to distances: the nameless form of a module. Forms that are not built yet never come here, since the reader lets none
-//! through; one of them would be answered with want of memory, which says nothing of the module.
+//! From names to distances: the nameless form of a module.
 #![tactic(auto)]
 
 mod alternatives;
+mod binders;
+mod coercions;
+mod constructors;
 mod declarations;
 mod declared;
 mod expressions;
-mod scope;
+mod groups;
+mod names;
+mod params;
 mod types;
 
 ghost use Rattle.std.specs.Prelude.{◌≡◌, Ok, IfOk};
+ghost use Rattle.fc_syntax.specs.Hints as kept;
 ghost use Rattle.fc_syntax.specs.View.{decls_of, module_of};
 ghost use Rattle.fc_model.specs.Faulting.{and_then};
 ghost use Rattle.fc_model.specs.Nameless.{NModuleOf};
@@ -20,13 +25,14 @@ ghost use Rattle.fc_resolve.specs.DeclaredWords.{top_by, words_by_space};
 
 use crate::declarations::resolved_decls;
 use crate::declared::{Declared, Spaces};
-use fc_model::{Flawed, NDecl, NModule};
-use fc_syntax::{Memory, Module, Seq, copy_words};
+use fc_model::Flawed;
+use fc_syntax::{Memory, Module, NDecl, NModule, Seq, copy_words};
 use std::alloc::Global;
 
 /// A module's header before declarations.
 fn assembled(alloc: Global, m: &Module, decls: Seq<NDecl>) -> Result<NModule, Memory>
-    ensures { IfOk result (λ n. nmodule_of n ≡ NModuleOf m.now.name m.now.imports m.now.exports m.now.hidden (ndecls_of decls)) }
+    ensures form { IfOk result (λ n. nmodule_of n ≡ NModuleOf m.now.name m.now.imports m.now.exports m.now.hidden (ndecls_of decls)) }
+    ensures words { IfOk result (λ n. kept.module_hints (module_of n) ≡ kept.decls_hints (decls_of decls)) }
 {
     let name = m.name.copy(alloc)?;
     let imports = copy_words(alloc, m.imports.as_slice())?;
@@ -48,7 +54,8 @@ fn resolved_over(
     earlier: &mut Spaces,
     m: &Module,
 ) -> Result<NModule, Flawed>
-    ensures { Says nmodule_of result (and_then (decls_resolved (top_by top.now) (words_by_space earlier.old) (decls_of m.now.decls)) (λ ds. Ok (NModuleOf m.now.name m.now.imports m.now.exports m.now.hidden ds))) }
+    ensures form { Says nmodule_of result (and_then (decls_resolved (top_by top.now) (words_by_space earlier.old) (decls_of m.now.decls)) (λ ds. Ok (NModuleOf m.now.name m.now.imports m.now.exports m.now.hidden ds))) }
+    ensures words { IfOk result (λ n. kept.module_hints (module_of n) ≡ kept.decls_hints (decls_of m.now.decls)) }
 {
     let decls = resolved_decls(alloc, top, earlier, m.decls.as_slice())?;
     let whole = assembled(alloc, m, decls)?;
@@ -59,7 +66,8 @@ fn resolved_over(
 /// first of them in the order of the text is answered, with its declaration and the numbers of the parts on the way to it. After
 /// want of memory nothing is known of the module.
 pub fn resolve(alloc: Global, m: &Module) -> Result<NModule, Flawed>
-    ensures { Says nmodule_of result (resolved_or_fault (module_of m.now)) }
+    ensures form { Says nmodule_of result (resolved_or_fault (module_of m.now)) }
+    ensures words { IfOk result (λ n. kept.module_hints (module_of n) ≡ kept.module_hints (module_of m.now)) }
 {
     let top = Declared::of_module(alloc, m)?;
     let mut earlier = Spaces::new(alloc);

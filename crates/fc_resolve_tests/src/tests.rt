@@ -1,8 +1,7 @@
 //! Nameless forms of modules that are read, by hand from the rules of scope. First faults of names stand with those of Lint.
-use fc_model::{NAlt, NDecl, NExpr, NModule, NTy};
 use fc_reader::read_module;
 use fc_resolve::resolve;
-use fc_syntax::Name;
+use fc_syntax::{NAlt, NDecl, NExpr, NModule, NTy, Name, Ref};
 use std::alloc::Global;
 use std::process::Abort;
 use std::test::Fail;
@@ -45,7 +44,7 @@ fn is_by_constructor(decl: Option<&NDecl>) -> bool {
 /// Whether a declaration is by the definition `x`.
 fn is_by_definition(decl: Option<&NDecl>) -> bool {
     match decl {
-        Some(NDecl::Def(_, _, NExpr::Var(name))) => is_in_m(name, "x"),
+        Some(NDecl::Def(_, _, NExpr::Var(Ref::Top(name)))) => is_in_m(name, "x"),
         _ => false,
     }
 }
@@ -64,7 +63,7 @@ fn names_have_their_module(rt: HostRuntime) -> Result<(), Fail> {
 /// of a case.
 fn distance_in(e: &NExpr) -> Option<u32> {
     match e {
-        NExpr::Local(distance) => Some(*distance),
+        NExpr::Var(Ref::Local(distance)) => Some(*distance),
         NExpr::Lam(_, e) => distance_in(e),
         NExpr::Let(_, _, e) => distance_in(e),
         NExpr::Case(_, _, _, _, alts) => distance_in_alternative(alts.as_slice()),
@@ -75,7 +74,7 @@ fn distance_in(e: &NExpr) -> Option<u32> {
 fn distance_in_alternative(alts: &[NAlt]) -> Option<u32> {
     match alts.first() {
         Some(alt) => match &alt.body {
-            NExpr::Local(distance) => Some(*distance),
+            NExpr::Var(Ref::Local(distance)) => Some(*distance),
             _ => None,
         },
         None => None,

@@ -7,7 +7,7 @@ use Rattle.std.proofs.lemmas.Bool.Decides.{nat_tests}
 use Rattle.std.proofs.lemmas.List.Sums.{take_while-cons}
 use Rattle.fc_syntax.specs.declared.fault.FaultKind.TheVariants as fault
 use Rattle.fc_syntax.specs.declared.token.TokenKind.{TokenKind}
-use Rattle.fc_syntax.specs.Tokens.{as_lexeme, word_kind, ByteClass, Blank, LineFeed, Opening, Closing, Semicolon, Plain, Foreign, byte_class, is_plain, ByteFault, Lexeme, then_lexemes, word_lexeme, Before, Between, InWord, Move, Passes, IsBracket, StartsWord, Breaks, move, lexed}
+use Rattle.fc_syntax.specs.Tokens.{as_lexeme, word_kind, ByteClass, Blank, LineFeed, Opening, Closing, Semicolon, Plain, Foreign, byte_class, is_plain, ByteFault, Lexeme, then_lexemes, word_lexeme, Preceding, Between, InWord, Move, Passes, IsBracket, StartsWord, Breaks, move, lexed}
 
 -- what follows a move
 abbrev pub moved : ℕ → ℕ → List ℕ → Move → Result (List Lexeme) ByteFault
@@ -19,7 +19,7 @@ moved at b bs m = elim m [
 ]
 
 -- a text by the class of its first byte
-pub lexed_first : (s : Before) (at b : ℕ) (bs : List ℕ) (c : ByteClass) → byte_class b ≡ c → lexed s at (b ∷ bs) ≡ moved at b bs (move s c)
+pub lexed_first : (s : Preceding) (at b : ℕ) (bs : List ℕ) (c : ByteClass) → byte_class b ≡ c → lexed s at (b ∷ bs) ≡ moved at b bs (move s c)
 lexed_first s at b bs c e = ap (λ c. moved at b bs (move s c)) e
 
 -- plain bytes are of the class of that name

@@ -1,9 +1,11 @@
 pub mod formers
+pub mod GenericTree
 pub mod Tree
 pub mod View
 pub mod Roles
 pub mod Faults
 pub mod Limits
 pub mod Tokens
+pub mod Hints
 pub mod Measures
 pub mod Primitives

@@ -165,14 +165,14 @@ abbrev pub word_lexeme : ℕ → List ℕ → Result Lexeme ByteFault
 word_lexeme at w = as_lexeme at w (word_kind at w)
 
 -- what stands before a byte: nothing that goes on, a word that goes on, or a comment of its line
-pub data Before : Type 0 where
-  Between : Before
-  InWord : Before
-  InComment : Before
+pub data Preceding : Type 0 where
+  Between : Preceding
+  InWord : Preceding
+  InComment : Preceding
 
 -- what a byte does: it is passed over, is a bracket, is the first byte of a word, or may not stand in a text
 pub data Move : Type 0 where
-  Passes : (after : Before) → Move
+  Passes : (after : Preceding) → Move
   IsBracket : (kind : TokenKind) → Move
   StartsWord : Move
   Breaks : Move
@@ -188,7 +188,7 @@ move_outside plain Plain = plain
 move_outside plain Foreign = Breaks
 
 -- a comment goes from a semicolon to the end of its line
-abbrev pub move : Before → ByteClass → Move
+abbrev pub move : Preceding → ByteClass → Move
 move InComment LineFeed = Passes Between
 move InComment Foreign = Breaks
 move InComment c = Passes InComment
@@ -196,7 +196,7 @@ move Between c = move_outside StartsWord c
 move InWord c = move_outside (Passes InWord) c
 
 -- The tokens of a text whose first byte has this number, by what stands before it. A word is the longest run of plain bytes.
-abbrev pub lexed : Before → ℕ → List ℕ → Result (List Lexeme) ByteFault
+abbrev pub lexed : Preceding → ℕ → List ℕ → Result (List Lexeme) ByteFault
 lexed s at [] = Ok []
 lexed s at (b ∷ bs) = elim (move s (byte_class b)) [
   | Passes after ↦ lexed after (at + 1) bs

@@ -1,120 +1,66 @@
--- The named tree, as every definition of the project speaks of it: plain data, without memory.
-use Rattle.std.specs.Prelude.{ℕ, ℤ, Bool, List}
+-- The named tree: local variables and binders are words, variables of terms are names.
 use Rattle.fc_syntax.specs.declared.ty.Name.{Name}
-use Rattle.fc_syntax.specs.declared.ty.Role.{Role}
-use Rattle.fc_syntax.specs.declared.expr.Head.{Head}
-use Rattle.fc_syntax.specs.declared.expr.PrimOp.{PrimOp}
+use Rattle.fc_syntax.specs.GenericTree as tree
+pub use Rattle.fc_syntax.specs.GenericTree.{Word, Kind, KStar, KHash, KArrow, TVar, TCon, TInt, TApp, TFun, TForall, TCoForall}
+pub use Rattle.fc_syntax.specs.GenericTree.{GVar, GRefl, GSym, GTrans, GTc, GCapp, GFun, GAll, GCoAll, GInst, GNth, GLeft, GRight, GSub, GAx, GUniv, NoCos, MoreCos}
+pub use Rattle.fc_syntax.specs.GenericTree.{BValue, BType, BCo, ATerm, AType, ACo, Bound, Joined, Branch}
+pub use Rattle.fc_syntax.specs.GenericTree.{EVar, ELit, EApp, ELam, ELet, ECase, ECast, ECon, EPrim, EFail, EJoin, EJump}
+pub use Rattle.fc_syntax.specs.GenericTree.{NoExprs, MoreExprs, NoArgs, MoreArgs, NoBinds, MoreBinds, NoJoins, MoreJoins, NoAlts, MoreAlts}
+pub use Rattle.fc_syntax.specs.GenericTree.{ParamOf, PlainOf, ConOf, DData, DNew, DFamily, DAxiom, DDef, DWrap, ModuleOf}
 
-abbrev pub Word : Type 0
-Word = List ℕ
+abbrev pub Ty : Type 0
+Ty = tree.Ty Word Word
 
-pub data Kind : Type 0 where
-  KStar : Kind
-  KHash : Kind
-  KArrow : (from to : Kind) → Kind
+abbrev pub Co : Type 0
+Co = tree.Co Word Word
 
-pub data Ty : Type 0 where
-  TVar : (a : Word) → Ty
-  TCon : (n : Name) → Ty
-  TInt : Ty
-  TApp : (t u : Ty) → Ty
-  TFun : (t u : Ty) → Ty
-  TForall : (a : Word) (k : Kind) (t : Ty) → Ty
-  TCoForall : (r : Role) (left right t : Ty) → Ty
+abbrev pub Cos : Type 0
+Cos = tree.Cos Word Word
 
-mutual
-  pub data Co : Type 0 where
-    GVar : (c : Word) → Co
-    GRefl : (r : Role) (t : Ty) → Co
-    GSym : (g : Co) → Co
-    GTrans : (g h : Co) → Co
-    GTc : (r : Role) (n : Name) (gs : Cos) → Co
-    GCapp : (g h : Co) → Co
-    GFun : (g h : Co) → Co
-    GAll : (a : Word) (k : Kind) (g : Co) → Co
-    GCoAll : (r s : Role) (left right g : Co) → Co
-    GInst : (g h : Co) → Co
-    GNth : (n : ℕ) (g : Co) → Co
-    GLeft : (g : Co) → Co
-    GRight : (g : Co) → Co
-    GSub : (g : Co) → Co
-    GAx : (n : Name) (gs : Cos) → Co
-    GUniv : (t u : Ty) → Co
+abbrev pub Binder : Type 0
+Binder = tree.Binder Word Word
 
-  pub data Cos : Type 0 where
-    NoCos : Cos
-    MoreCos : (g : Co) (rest : Cos) → Cos
+abbrev pub Expr : Type 0
+Expr = tree.Expr Word Name Word
 
-pub data Binder : Type 0 where
-  BValue : (x : Word) (t : Ty) → Binder
-  BType : (a : Word) (k : Kind) → Binder
-  BCo : (c : Word) (r : Role) (left right : Ty) → Binder
+abbrev pub Arg : Type 0
+Arg = tree.Arg Word Name Word
 
-mutual
-  pub data Expr : Type 0 where
-    EVar : (n : Name) → Expr
-    ELit : (n : ℤ) → Expr
-    EApp : (f : Expr) (a : Arg) → Expr
-    ELam : (b : Binder) (e : Expr) → Expr
-    ELet : (r : Bool) (bs : Binds) (e : Expr) → Expr
-    ECase : (e : Expr) (x : Word) (xt rt : Ty) (alts : Alts) → Expr
-    ECast : (e : Expr) (g : Co) → Expr
-    ECon : (n : Name) (args : Args) → Expr
-    EPrim : (op : PrimOp) (es : Exprs) → Expr
-    EFail : (t : Ty) → Expr
-    EJoin : (r : Bool) (t : Ty) (js : Joins) (e : Expr) → Expr
-    EJump : (j : Word) (args : Args) → Expr
+abbrev pub Bind : Type 0
+Bind = tree.Bind Word Name Word
 
-  pub data Arg : Type 0 where
-    ATerm : (e : Expr) → Arg
-    AType : (t : Ty) → Arg
-    ACo : (g : Co) → Arg
+abbrev pub JoinBind : Type 0
+JoinBind = tree.JoinBind Word Name Word
 
-  pub data Bind : Type 0 where
-    Bound : (x : Word) (t : Ty) (e : Expr) → Bind
+abbrev pub Alt : Type 0
+Alt = tree.Alt Word Name Word
 
-  pub data JoinBind : Type 0 where
-    Joined : (j : Word) (params : List Binder) (e : Expr) → JoinBind
+abbrev pub Exprs : Type 0
+Exprs = tree.Exprs Word Name Word
 
-  pub data Alt : Type 0 where
-    Branch : (h : Head) (bs : List Binder) (e : Expr) → Alt
+abbrev pub Args : Type 0
+Args = tree.Args Word Name Word
 
-  pub data Exprs : Type 0 where
-    NoExprs : Exprs
-    MoreExprs : (e : Expr) (rest : Exprs) → Exprs
+abbrev pub Binds : Type 0
+Binds = tree.Binds Word Name Word
 
-  pub data Args : Type 0 where
-    NoArgs : Args
-    MoreArgs : (a : Arg) (rest : Args) → Args
+abbrev pub Joins : Type 0
+Joins = tree.Joins Word Name Word
 
-  pub data Binds : Type 0 where
-    NoBinds : Binds
-    MoreBinds : (b : Bind) (rest : Binds) → Binds
+abbrev pub Alts : Type 0
+Alts = tree.Alts Word Name Word
 
-  pub data Joins : Type 0 where
-    NoJoins : Joins
-    MoreJoins : (j : JoinBind) (rest : Joins) → Joins
+abbrev pub Param : Type 0
+Param = tree.Param Word
 
-  pub data Alts : Type 0 where
-    NoAlts : Alts
-    MoreAlts : (a : Alt) (rest : Alts) → Alts
+abbrev pub Plain : Type 0
+Plain = tree.Plain Word
 
-pub data Param : Type 0 where
-  ParamOf : (a : Word) (k : Kind) (r : Role) → Param
+abbrev pub ConDecl : Type 0
+ConDecl = tree.ConDecl Word Word
 
-pub data Plain : Type 0 where
-  PlainOf : (a : Word) (k : Kind) → Plain
+abbrev pub Decl : Type 0
+Decl = tree.Decl Word Name Word
 
-pub data ConDecl : Type 0 where
-  ConOf : (n : Word) (bs : List Binder) (fields : List Ty) → ConDecl
-
-pub data Decl : Type 0 where
-  DData : (n : Word) (ps : List Param) (cs : List ConDecl) → Decl
-  DNew : (n : Word) (ps : List Param) (t : Ty) (con : Word) → Decl
-  DFamily : (n : Word) (ps : List Plain) (k : Kind) → Decl
-  DAxiom : (n : Word) (ps : List Plain) (left right : Ty) → Decl
-  DDef : (n : Word) (t : Ty) (e : Expr) → Decl
-  DWrap : (n : Word) (t : Ty) (e : Expr) → Decl
-
-pub data Module : Type 0 where
-  ModuleOf : (n : Word) (imports exports hidden : List Word) (decls : List Decl) → Module
+abbrev pub Module : Type 0
+Module = tree.Module Word Name Word

@@ -3,44 +3,44 @@ use crate::seq::Seq;
 use crate::text::Text;
 use crate::ty::{Kind, Name, Role, Ty};
 
-/// A coercion (the coercions of core-spec).
+/// A coercion (the coercions of core-spec), whose variables are `L`, as those of a type.
 #[derive(Debug)]
-pub enum Co {
+pub enum Co<L> {
     /// A coercion variable.
-    Var(Text),
+    Var(L),
     /// `(refl role t)`: a type is equal to itself.
-    Refl(Role, Ty),
+    Refl(Role, Ty<L>),
     /// `(sym g)`: the ends swapped.
-    Sym(Box<Co>),
+    Sym(Box<Co<L>>),
     /// `(trans g h)`: one after the other.
-    Trans(Box<Co>, Box<Co>),
+    Trans(Box<Co<L>>, Box<Co<L>>),
     /// `(tc role T g..)`: a type constructor at equal arguments.
-    Tc(Role, Name, Seq<Co>),
+    Tc(Role, Name, Seq<Co<L>>),
     /// `(capp g h)`: an application of equal parts.
-    Capp(Box<Co>, Box<Co>),
+    Capp(Box<Co<L>>, Box<Co<L>>),
     /// `(funco g h)`: functions of equal parts.
-    FunCo(Box<Co>, Box<Co>),
+    FunCo(Box<Co<L>>, Box<Co<L>>),
     /// `(allco (a kind) g)`: equal bodies under a `forall`.
-    AllCo(Text, Kind, Box<Co>),
+    AllCo(Text, Kind, Box<Co<L>>),
     /// `(coallco role role g g g)`: equal ends and bodies under a `coforall`; the second role is that of its ends.
-    CoAllCo(Role, Role, Box<Co>, Box<Co>, Box<Co>),
+    CoAllCo(Role, Role, Box<Co<L>>, Box<Co<L>>, Box<Co<L>>),
     /// `(inst g h)`: equal `forall`s at equal types.
-    Inst(Box<Co>, Box<Co>),
+    Inst(Box<Co<L>>, Box<Co<L>>),
     /// `(nth i g)`: the part number i of both ends.
-    Nth(u32, Box<Co>),
+    Nth(u32, Box<Co<L>>),
     /// `(left g)`: the heads of two applications.
-    Left(Box<Co>),
+    Left(Box<Co<L>>),
     /// `(right g)`: the arguments of two applications.
-    Right(Box<Co>),
+    Right(Box<Co<L>>),
     /// `(sub g)`: from role N to role R.
-    Sub(Box<Co>),
+    Sub(Box<Co<L>>),
     /// `(ax C g..)`: an axiom at equal arguments.
-    Ax(Name, Seq<Co>),
+    Ax(Name, Seq<Co<L>>),
     /// `(univ t u)`: any two types of one kind, at role P.
-    Univ(Ty, Ty),
+    Univ(Ty<L>, Ty<L>),
 }
 
-impl Drop for Co {
+impl<L: Drop> Drop for Co<L> {
     fn drop(self) {
         match self {
             Co::Var(_) => {}

@@ -9,8 +9,15 @@ use crate::expr::{Alt, Arg, Bind, Binder, Expr, Head, JoinBind};
 use crate::fault::Memory;
 use crate::seq::Seq;
 use crate::text::Text;
-use crate::ty::{Kind, Name, Ty};
+use crate::ty::{Kind, Name, Ref, Ty};
 use std::alloc::Global;
+
+/// What a variable of a tree may be.
+pub trait Variable: Drop {
+    /// The same variable again. Fails only where memory is wanting.
+    fn again(&self, alloc: Global) -> Result<Self, Memory>
+        ensures { IfOk result (λ x. x ≡ self.now) };
+}
 
 impl Text {
     /// The same word again. Fails only where memory is wanting.
@@ -37,6 +44,18 @@ impl Name {
     }
 }
 
+impl Ref {
+    /// The same reference again. Fails only where memory is wanting.
+    pub fn copy(&self, alloc: Global) -> Result<Ref, Memory>
+        ensures { IfOk result (λ r. r ≡ self.now) }
+    {
+        match self {
+            Ref::Local(distance) => Ok(Ref::Local(*distance)),
+            Ref::Top(name) => Ok(Ref::Top(name.copy(alloc)?)),
+        }
+    }
+}
+
 impl Kind {
     /// The same kind again. Fails only where memory is wanting.
     #[tactic(auto, using(crate::proofs::View::view_rules))]
@@ -55,14 +74,14 @@ impl Kind {
     }
 }
 
-impl Ty {
+impl<L: Variable> Ty<L> {
     /// The same type again. Fails only where memory is wanting.
     #[tactic(auto, using(crate::proofs::View::view_rules))]
-    pub fn copy(&self, alloc: Global) -> Result<Ty, Memory>
+    pub fn copy(&self, alloc: Global) -> Result<Ty<L>, Memory>
         ensures { IfOk result (λ t. ty_of t ≡ ty_of self.now) }
     {
         match self {
-            Ty::Var(a) => Ok(Ty::Var(a.copy(alloc)?)),
+            Ty::Var(a) => Ok(Ty::Var(a.again(alloc)?)),
             Ty::Con(name) => Ok(Ty::Con(name.copy(alloc)?)),
             Ty::IntHash => Ok(Ty::IntHash),
             Ty::App(t, u) => {
@@ -91,15 +110,15 @@ impl Ty {
     }
 }
 
-impl Co {
+impl<L: Variable> Co<L> {
     /// The same coercion again. Fails only where memory is wanting.
     #[cycle(copy_co)]
     #[tactic(auto, using(crate::proofs::View::view_rules))]
-    pub fn copy(&self, alloc: Global) -> Result<Co, Memory>
+    pub fn copy(&self, alloc: Global) -> Result<Co<L>, Memory>
         ensures { IfOk result (λ g. co_of g ≡ co_of self.now) }
     {
         match self {
-            Co::Var(c) => Ok(Co::Var(c.copy(alloc)?)),
+            Co::Var(c) => Ok(Co::Var(c.again(alloc)?)),
             Co::Refl(role, t) => Ok(Co::Refl(*role, t.copy(alloc)?)),
             Co::Sym(g) => {
                 let g = boxed_copy(alloc, g.copy(alloc))?;
@@ -173,8 +192,8 @@ impl Co {
 }
 
 #[cycle(copy_co)]
-#[tactic(auto, using(crate::proofs::Snoc::cos_more, std::proofs::lemmas::Grind::common_steps))]
-fn copy_all(alloc: Global, cos: &[Co]) -> Result<Seq<Co>, Memory>
+#[tactic(auto, using(crate::proofs::Snoc::cos_step))]
+fn copy_all<L: Variable>(alloc: Global, cos: &[Co<L>]) -> Result<Seq<Co<L>>, Memory>
     ensures { IfOk result (λ s. cos_of s ≡ cos_of cos.now) }
 {
     let mut all = Seq::new(alloc);
@@ -184,10 +203,10 @@ fn copy_all(alloc: Global, cos: &[Co]) -> Result<Seq<Co>, Memory>
     Ok(all)
 }
 
-impl Binder {
+impl<L: Variable> Binder<L> {
     /// The same binder again. Fails only where memory is wanting.
     #[tactic(auto, using(crate::proofs::View::view_rules))]
-    pub fn copy(&self, alloc: Global) -> Result<Binder, Memory>
+    pub fn copy(&self, alloc: Global) -> Result<Binder<L>, Memory>
         ensures { IfOk result (λ b. binder_of b ≡ binder_of self.now) }
     {
         match self {
@@ -222,7 +241,10 @@ impl Head {
 }
 
 #[tactic(auto, using(std::proofs::lemmas::List::map_push, std::proofs::lemmas::Grind::common_steps))]
-pub(crate) fn copy_binders(alloc: Global, items: &[Binder]) -> Result<Seq<Binder>, Memory>
+pub(crate) fn copy_binders<L: Variable>(
+    alloc: Global,
+    items: &[Binder<L>],
+) -> Result<Seq<Binder<L>>, Memory>
     ensures { IfOk result (λ s. binders_of s ≡ binders_of items.now) }
 {
     let mut all = Seq::new(alloc);
@@ -232,15 +254,15 @@ pub(crate) fn copy_binders(alloc: Global, items: &[Binder]) -> Result<Seq<Binder
     Ok(all)
 }
 
-impl Expr {
+impl Expr<Text, Name> {
     /// The same expression again. Fails only where memory is wanting.
     #[cycle(copy_expr)]
     #[tactic(auto, using(crate::proofs::View::view_rules))]
-    pub fn copy(&self, alloc: Global) -> Result<Expr, Memory>
+    pub fn copy(&self, alloc: Global) -> Result<Expr<Text, Name>, Memory>
         ensures { IfOk result (λ e. expr_of e ≡ expr_of self.now) }
     {
         match self {
-            Expr::Var(name) => Ok(Expr::Var(name.copy(alloc)?)),
+            Expr::Var(v) => Ok(Expr::Var(v.copy(alloc)?)),
             Expr::Lit(n) => Ok(Expr::Lit(*n)),
             Expr::App(f, a) => {
                 let f = boxed_copy(alloc, f.copy(alloc))?;
@@ -295,11 +317,11 @@ impl Expr {
     }
 }
 
-impl Arg {
+impl Arg<Text, Name> {
     /// The same argument again. Fails only where memory is wanting.
     #[cycle(copy_expr)]
     #[tactic(auto, using(crate::proofs::View::view_rules))]
-    pub fn copy(&self, alloc: Global) -> Result<Arg, Memory>
+    pub fn copy(&self, alloc: Global) -> Result<Arg<Text, Name>, Memory>
         ensures { IfOk result (λ a. arg_of a ≡ arg_of self.now) }
     {
         match self {
@@ -310,10 +332,10 @@ impl Arg {
     }
 }
 
-impl Bind {
+impl Bind<Text, Name> {
     /// The same binding again. Fails only where memory is wanting.
     #[cycle(copy_expr)]
-    pub fn copy(&self, alloc: Global) -> Result<Bind, Memory>
+    pub fn copy(&self, alloc: Global) -> Result<Bind<Text, Name>, Memory>
         ensures { IfOk result (λ b. bind_of b ≡ bind_of self.now) }
     {
         let name = self.name.copy(alloc)?;
@@ -323,10 +345,10 @@ impl Bind {
     }
 }
 
-impl JoinBind {
+impl JoinBind<Text, Name> {
     /// The same join point again. Fails only where memory is wanting.
     #[cycle(copy_expr)]
-    pub fn copy(&self, alloc: Global) -> Result<JoinBind, Memory>
+    pub fn copy(&self, alloc: Global) -> Result<JoinBind<Text, Name>, Memory>
         ensures { IfOk result (λ b. join_of b ≡ join_of self.now) }
     {
         let name = self.name.copy(alloc)?;
@@ -336,10 +358,10 @@ impl JoinBind {
     }
 }
 
-impl Alt {
+impl Alt<Text, Name> {
     /// The same alternative again. Fails only where memory is wanting.
     #[cycle(copy_expr)]
-    pub fn copy(&self, alloc: Global) -> Result<Alt, Memory>
+    pub fn copy(&self, alloc: Global) -> Result<Alt<Text, Name>, Memory>
         ensures { IfOk result (λ a. alt_of a ≡ alt_of self.now) }
     {
         let head = self.head.copy(alloc)?;
@@ -354,8 +376,8 @@ impl Alt {
 }
 
 #[cycle(copy_expr)]
-#[tactic(auto, using(crate::proofs::Snoc::exprs_more, std::proofs::lemmas::Grind::common_steps))]
-fn copy_exprs(alloc: Global, items: &[Expr]) -> Result<Seq<Expr>, Memory>
+#[tactic(auto, using(crate::proofs::Snoc::exprs_step))]
+fn copy_exprs(alloc: Global, items: &[Expr<Text, Name>]) -> Result<Seq<Expr<Text, Name>>, Memory>
     ensures { IfOk result (λ s. exprs_of s ≡ exprs_of items.now) }
 {
     let mut all = Seq::new(alloc);
@@ -366,8 +388,8 @@ fn copy_exprs(alloc: Global, items: &[Expr]) -> Result<Seq<Expr>, Memory>
 }
 
 #[cycle(copy_expr)]
-#[tactic(auto, using(crate::proofs::Snoc::args_more, std::proofs::lemmas::Grind::common_steps))]
-fn copy_args(alloc: Global, items: &[Arg]) -> Result<Seq<Arg>, Memory>
+#[tactic(auto, using(crate::proofs::Snoc::args_step))]
+fn copy_args(alloc: Global, items: &[Arg<Text, Name>]) -> Result<Seq<Arg<Text, Name>>, Memory>
     ensures { IfOk result (λ s. args_of s ≡ args_of items.now) }
 {
     let mut all = Seq::new(alloc);
@@ -378,8 +400,8 @@ fn copy_args(alloc: Global, items: &[Arg]) -> Result<Seq<Arg>, Memory>
 }
 
 #[cycle(copy_expr)]
-#[tactic(auto, using(crate::proofs::Snoc::binds_more, std::proofs::lemmas::Grind::common_steps))]
-fn copy_binds(alloc: Global, items: &[Bind]) -> Result<Seq<Bind>, Memory>
+#[tactic(auto, using(crate::proofs::Snoc::binds_step))]
+fn copy_binds(alloc: Global, items: &[Bind<Text, Name>]) -> Result<Seq<Bind<Text, Name>>, Memory>
     ensures { IfOk result (λ s. binds_of s ≡ binds_of items.now) }
 {
     let mut all = Seq::new(alloc);
@@ -390,8 +412,11 @@ fn copy_binds(alloc: Global, items: &[Bind]) -> Result<Seq<Bind>, Memory>
 }
 
 #[cycle(copy_expr)]
-#[tactic(auto, using(crate::proofs::Snoc::joins_more, std::proofs::lemmas::Grind::common_steps))]
-fn copy_joins(alloc: Global, items: &[JoinBind]) -> Result<Seq<JoinBind>, Memory>
+#[tactic(auto, using(crate::proofs::Snoc::joins_step))]
+fn copy_joins(
+    alloc: Global,
+    items: &[JoinBind<Text, Name>],
+) -> Result<Seq<JoinBind<Text, Name>>, Memory>
     ensures { IfOk result (λ s. joins_of s ≡ joins_of items.now) }
 {
     let mut all = Seq::new(alloc);
@@ -402,8 +427,8 @@ fn copy_joins(alloc: Global, items: &[JoinBind]) -> Result<Seq<JoinBind>, Memory
 }
 
 #[cycle(copy_expr)]
-#[tactic(auto, using(crate::proofs::Snoc::alts_more, std::proofs::lemmas::Grind::common_steps))]
-fn copy_alts(alloc: Global, items: &[Alt]) -> Result<Seq<Alt>, Memory>
+#[tactic(auto, using(crate::proofs::Snoc::alts_step))]
+fn copy_alts(alloc: Global, items: &[Alt<Text, Name>]) -> Result<Seq<Alt<Text, Name>>, Memory>
     ensures { IfOk result (λ s. alts_of s ≡ alts_of items.now) }
 {
     let mut all = Seq::new(alloc);

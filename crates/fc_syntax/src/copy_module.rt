@@ -2,12 +2,12 @@
 ghost use Rattle.std.specs.Prelude.{◌≡◌, IfOk};
 ghost use Rattle.fc_syntax.specs.View.{tys_of, param_of, params_of, plain_of, plains_of, con_of, cons_of, decl_of, decls_of, module_of};
 
-use crate::copy::copy_binders;
+use crate::copy::{Variable, copy_binders};
 use crate::fault::Memory;
 use crate::module::{ConDecl, Decl, Module, Param, Plain};
 use crate::seq::Seq;
 use crate::text::Text;
-use crate::ty::Ty;
+use crate::ty::{Name, Ty};
 use std::alloc::Global;
 
 impl Param {
@@ -36,9 +36,9 @@ impl Plain {
     }
 }
 
-impl ConDecl {
+impl<L: Variable> ConDecl<L> {
     /// The same constructor again. Fails only where memory is wanting.
-    pub fn copy(&self, alloc: Global) -> Result<ConDecl, Memory>
+    pub fn copy(&self, alloc: Global) -> Result<ConDecl<L>, Memory>
         ensures { IfOk result (λ c. con_of c ≡ con_of self.now) }
     {
         let name = self.name.copy(alloc)?;
@@ -52,9 +52,9 @@ impl ConDecl {
     }
 }
 
-impl Decl {
+impl Decl<Text, Name> {
     /// The same declaration again. Fails only where memory is wanting.
-    pub fn copy(&self, alloc: Global) -> Result<Decl, Memory>
+    pub fn copy(&self, alloc: Global) -> Result<Decl<Text, Name>, Memory>
         ensures { IfOk result (λ d. decl_of d ≡ decl_of self.now) }
     {
         match self {
@@ -100,9 +100,9 @@ impl Decl {
     }
 }
 
-impl Module {
+impl Module<Text, Name> {
     /// The same module again. Fails only where memory is wanting.
-    pub fn copy(&self, alloc: Global) -> Result<Module, Memory>
+    pub fn copy(&self, alloc: Global) -> Result<Module<Text, Name>, Memory>
         ensures { IfOk result (λ m. module_of m ≡ module_of self.now) }
     {
         let name = self.name.copy(alloc)?;
@@ -132,7 +132,7 @@ pub fn copy_words(alloc: Global, items: &[Text]) -> Result<Seq<Text>, Memory>
 }
 
 #[tactic(auto, using(std::proofs::lemmas::List::map_push, std::proofs::lemmas::Grind::common_steps))]
-fn copy_tys(alloc: Global, items: &[Ty]) -> Result<Seq<Ty>, Memory>
+fn copy_tys<L: Variable>(alloc: Global, items: &[Ty<L>]) -> Result<Seq<Ty<L>>, Memory>
     ensures { IfOk result (λ s. tys_of s ≡ tys_of items.now) }
 {
     let mut all = Seq::new(alloc);
@@ -165,7 +165,7 @@ fn copy_plains(alloc: Global, items: &[Plain]) -> Result<Seq<Plain>, Memory>
 }
 
 #[tactic(auto, using(std::proofs::lemmas::List::map_push, std::proofs::lemmas::Grind::common_steps))]
-fn copy_cons(alloc: Global, items: &[ConDecl]) -> Result<Seq<ConDecl>, Memory>
+fn copy_cons<L: Variable>(alloc: Global, items: &[ConDecl<L>]) -> Result<Seq<ConDecl<L>>, Memory>
     ensures { IfOk result (λ s. cons_of s ≡ cons_of items.now) }
 {
     let mut all = Seq::new(alloc);
@@ -176,7 +176,7 @@ fn copy_cons(alloc: Global, items: &[ConDecl]) -> Result<Seq<ConDecl>, Memory>
 }
 
 #[tactic(auto, using(std::proofs::lemmas::List::map_push, std::proofs::lemmas::Grind::common_steps))]
-fn copy_decls(alloc: Global, items: &[Decl]) -> Result<Seq<Decl>, Memory>
+fn copy_decls(alloc: Global, items: &[Decl<Text, Name>]) -> Result<Seq<Decl<Text, Name>>, Memory>
     ensures { IfOk result (λ s. decls_of s ≡ decls_of items.now) }
 {
     let mut all = Seq::new(alloc);

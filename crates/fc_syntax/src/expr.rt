@@ -1,4 +1,4 @@
-//! Expressions and what stands in them.
+//! Expressions and what stands in them. `L` is what a variable of a type, a coercion or a join point is, `V` what a variable of a term is.
 use crate::co::Co;
 use crate::seq::Seq;
 use crate::text::Text;
@@ -33,13 +33,13 @@ pub enum PrimOp {
 
 /// A binder with what it binds.
 #[derive(Debug, Drop)]
-pub enum Binder {
+pub enum Binder<L> {
     /// `(x t)`: a value of a type.
-    Value(Text, Ty),
+    Value(Text, Ty<L>),
     /// `(type a kind)`: a type of a kind.
     OfType(Text, Kind),
     /// `(co c role left right)`: a coercion between two types.
-    OfCo(Text, Role, Ty, Ty),
+    OfCo(Text, Role, Ty<L>, Ty<L>),
 }
 
 /// What an alternative of a case is for.
@@ -56,83 +56,83 @@ pub enum Head {
 /// An argument of an application, a constructor or a jump.
 #[cycle(ast)]
 #[derive(Debug, Drop)]
-pub enum Arg {
+pub enum Arg<L, V> {
     /// A term.
-    Term(Expr),
+    Term(Expr<L, V>),
     /// A type.
-    OfType(Ty),
+    OfType(Ty<L>),
     /// A coercion.
-    OfCo(Co),
+    OfCo(Co<L>),
 }
 
 /// A binding of a let.
 #[cycle(ast)]
 #[derive(Debug, Drop)]
-pub struct Bind {
+pub struct Bind<L, V> {
     /// The word that it binds.
     pub name: Text,
     /// The type of its right side.
-    pub ty: Ty,
+    pub ty: Ty<L>,
     /// Its right side.
-    pub rhs: Expr,
+    pub rhs: Expr<L, V>,
 }
 
 /// A join point ("Compiling without continuations").
 #[cycle(ast)]
 #[derive(Debug, Drop)]
-pub struct JoinBind {
+pub struct JoinBind<L, V> {
     /// The word that jumps name.
     pub name: Text,
     /// Its parameters, the outermost first.
-    pub params: Seq<Binder>,
+    pub params: Seq<Binder<L>>,
     /// Its right side.
-    pub rhs: Expr,
+    pub rhs: Expr<L, V>,
 }
 
 /// An alternative of a case.
 #[cycle(ast)]
 #[derive(Debug, Drop)]
-pub struct Alt {
+pub struct Alt<L, V> {
     /// What it is for.
     pub head: Head,
     /// The binders of a constructor's parts, the outermost first.
-    pub binders: Seq<Binder>,
+    pub binders: Seq<Binder<L>>,
     /// What it answers.
-    pub body: Expr,
+    pub body: Expr<L, V>,
 }
 
 /// An expression.
 #[cycle(ast)]
 #[derive(Debug)]
-pub enum Expr {
+pub enum Expr<L, V> {
     /// A variable.
-    Var(Name),
+    Var(V),
     /// A literal of type `Int#`.
     Lit(i64),
     /// An application to one argument.
-    App(Box<Expr>, Box<Arg>),
+    App(Box<Expr<L, V>>, Box<Arg<L, V>>),
     /// A lambda over one binder.
-    Lam(Box<Binder>, Box<Expr>),
+    Lam(Box<Binder<L>>, Box<Expr<L, V>>),
     /// A let of one binding, or where the truth value is true a recursive group.
-    Let(bool, Seq<Bind>, Box<Expr>),
+    Let(bool, Seq<Bind<L, V>>, Box<Expr<L, V>>),
     /// A case: scrutinee, case binder and its type, type of the result, alternatives.
-    Case(Box<Expr>, Text, Ty, Ty, Seq<Alt>),
+    Case(Box<Expr<L, V>>, Text, Ty<L>, Ty<L>, Seq<Alt<L, V>>),
     /// A cast by a coercion.
-    Cast(Box<Expr>, Co),
+    Cast(Box<Expr<L, V>>, Co<L>),
     /// A constructor with all its arguments: universal types, existential types, coercions, terms.
-    Con(Name, Seq<Arg>),
+    Con(Name, Seq<Arg<L, V>>),
     /// A primitive with its operands.
-    Prim(PrimOp, Seq<Expr>),
+    Prim(PrimOp, Seq<Expr<L, V>>),
     /// An error of a type.
-    Fail(Ty),
+    Fail(Ty<L>),
     /// A join point, or where the truth value is true a recursive group; the type is that of the whole.
-    Join(bool, Ty, Seq<JoinBind>, Box<Expr>),
+    Join(bool, Ty<L>, Seq<JoinBind<L, V>>, Box<Expr<L, V>>),
     /// A jump to a join point.
-    Jump(Text, Seq<Arg>),
+    Jump(L, Seq<Arg<L, V>>),
 }
 
 // An application, a lambda or a chain of lets may have as many parts as a text has, so what they go on with is dropped in a loop.
-impl Drop for Expr {
+impl<L: Drop, V: Drop> Drop for Expr<L, V> {
     #[cycle(ast_drop)]
     fn drop(mut self) {
         loop {

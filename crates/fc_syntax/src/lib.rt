@@ -1,4 +1,5 @@
-//! The named syntax tree of Core (System FC), its faults, limits and tokens.
+//! The syntax trees of Core (System FC), named and nameless, its faults, limits and tokens. Both trees are one, at two kinds of
+//! variables: words and names as they were read, or distances to binders.
 #![tactic(auto)]
 
 mod boxes;
@@ -7,6 +8,8 @@ mod copy;
 mod copy_module;
 mod expr;
 mod fault;
+mod instances;
+mod keyword;
 mod limits;
 mod module;
 mod seq;
@@ -15,13 +18,18 @@ mod token;
 mod ty;
 
 pub use boxes::{boxed, boxed_copy};
-pub use co::Co;
+pub use copy::Variable;
 pub use copy_module::copy_words;
-pub use expr::{Alt, Arg, Bind, Binder, Expr, Head, JoinBind, PrimOp};
+pub use expr::{Head, PrimOp};
 pub use fault::{Fault, FaultKind, Memory, Place, Refusal};
+pub use instances::{
+    Alt, Arg, Bind, Binder, Co, ConDecl, Decl, Expr, JoinBind, Module, NAlt, NArg, NBind, NBinder,
+    NCo, NConDecl, NDecl, NExpr, NJoinBind, NModule, NTy, Ty,
+};
+pub use keyword::Keyword;
 pub use limits::Limits;
-pub use module::{ConDecl, Decl, Module, Param, Plain};
+pub use module::{Param, Plain};
 pub use seq::Seq;
 pub use text::Text;
 pub use token::{Token, TokenKind};
-pub use ty::{Kind, Name, Role, Ty};
+pub use ty::{Kind, Name, Ref, Role};

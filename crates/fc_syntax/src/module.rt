@@ -1,4 +1,4 @@
-//! Modules and what they declare.
+//! Modules and what they declare, with the variables of the trees in them: `L` in types, `V` in terms.
 use crate::expr::{Binder, Expr};
 use crate::seq::Seq;
 use crate::text::Text;
@@ -26,35 +26,35 @@ pub struct Plain {
 
 /// A constructor of a data type.
 #[derive(Debug, Drop)]
-pub struct ConDecl {
+pub struct ConDecl<L> {
     /// Its word.
     pub name: Text,
     /// Its existential types, then its coercions.
-    pub binders: Seq<Binder>,
+    pub binders: Seq<Binder<L>>,
     /// The types of its terms.
-    pub fields: Seq<Ty>,
+    pub fields: Seq<Ty<L>>,
 }
 
 /// A declaration of a module.
 #[derive(Debug, Drop)]
-pub enum Decl {
+pub enum Decl<L, V> {
     /// `(data T (param..) constructor..)`
-    DataType(Text, Seq<Param>, Seq<ConDecl>),
+    DataType(Text, Seq<Param>, Seq<ConDecl<L>>),
     /// `(newtype T (param..) type C)`: `C` is the axiom that relates the newtype to its type.
-    NewType(Text, Seq<Param>, Ty, Text),
+    NewType(Text, Seq<Param>, Ty<L>, Text),
     /// `(family F (param..) kind)`: a type family with the kind of its results.
     Family(Text, Seq<Plain>, Kind),
     /// `(axiom C (param..) left right)`: an equation of a family.
-    Axiom(Text, Seq<Plain>, Ty, Ty),
+    Axiom(Text, Seq<Plain>, Ty<L>, Ty<L>),
     /// `(def x type expr)`
-    Def(Text, Ty, Expr),
+    Def(Text, Ty<L>, Expr<L, V>),
     /// `(wrap x type expr)`: a definition that may always be unfolded.
-    Wrap(Text, Ty, Expr),
+    Wrap(Text, Ty<L>, Expr<L, V>),
 }
 
 /// A module: its header and its declarations in their order.
 #[derive(Debug, Drop)]
-pub struct Module {
+pub struct Module<L, V> {
     /// Its name.
     pub name: Text,
     /// The names of the modules that it imports.
@@ -64,5 +64,5 @@ pub struct Module {
     /// The words that importing modules may use and main expressions may not.
     pub hidden: Seq<Text>,
     /// The declarations.
-    pub decls: Seq<Decl>,
+    pub decls: Seq<Decl<L, V>>,
 }

@@ -13,6 +13,15 @@ pub struct Name {
     pub text: Text,
 }
 
+/// What a variable of a nameless tree refers to.
+#[derive(Debug, Drop)]
+pub enum Ref {
+    /// A binder of a value around it, by its distance: how many binders of values stand between the two.
+    Local(u32),
+    /// A definition; its module is always told.
+    Top(Name),
+}
+
 /// A kind: the type of a type.
 #[derive(Debug, Drop)]
 pub enum Kind {
@@ -50,27 +59,28 @@ impl Role {
     }
 }
 
-/// A type.
+/// A type, whose variables are `L`: their words in a named tree, distances to their binders in a nameless one. A binder keeps its
+/// word in both.
 #[derive(Debug)]
-pub enum Ty {
+pub enum Ty<L> {
     /// A type variable.
-    Var(Text),
+    Var(L),
     /// A data type, newtype or family by its name.
     Con(Name),
     /// `Int#`, the machine integer of 64 bits.
     IntHash,
     /// `(t u)`: a type applied to one type.
-    App(Box<Ty>, Box<Ty>),
+    App(Box<Ty<L>>, Box<Ty<L>>),
     /// `(fun t u)`: functions from the first type to the second.
-    Fun(Box<Ty>, Box<Ty>),
+    Fun(Box<Ty<L>>, Box<Ty<L>>),
     /// `(forall (a kind) t)`.
-    Forall(Text, Kind, Box<Ty>),
+    Forall(Text, Kind, Box<Ty<L>>),
     /// `(coforall role left right t)`: the type of what takes a coercion between the two ends.
-    CoForall(Role, Box<Ty>, Box<Ty>, Box<Ty>),
+    CoForall(Role, Box<Ty<L>>, Box<Ty<L>>, Box<Ty<L>>),
 }
 
 // A function or a forall may have as many parts as a text has, so what they end with is dropped in a loop.
-impl Drop for Ty {
+impl<L: Drop> Drop for Ty<L> {
     fn drop(mut self) {
         loop {
             match self {

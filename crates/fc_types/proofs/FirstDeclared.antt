@@ -3,15 +3,16 @@ use Rattle.std.proofs.Common.{◌≡◌, refl, ap, ℕ, ◌+◌, true, false, Li
 use Rattle.std.specs.Option.{option_map}
 use Rattle.std.specs.Str.{bytes_eq}
 use Rattle.fc_syntax.specs.Tree.{Word}
+use Rattle.fc_syntax.specs.declared.module.ConDecl.{ConDecl}
+use Rattle.fc_syntax.specs.declared.module.Decl.{Decl}
+use Rattle.fc_syntax.specs.declared.module.Decl.TheVariants as D
+use Rattle.fc_syntax.specs.declared.module.Param.{Param}
+use Rattle.fc_syntax.specs.declared.ty.Ref.{Ref}
+use Rattle.fc_syntax.specs.declared.ty.Ty.{Ty}
 use Rattle.fc_model.specs.Kinding.{type_decl}
 use Rattle.fc_model.specs.Nameless as pure
 use Rattle.fc_model.specs.NamelessView.{ncons_of, ndecl_of, ndecls_of, nparams_of, nty_of}
 use Rattle.fc_model.specs.Typing.{con_among, con_decl, def_type, first_of}
-use Rattle.fc_model.specs.declared.nameless.NConDecl.{NConDecl}
-use Rattle.fc_model.specs.declared.nameless.NDecl.{NDecl}
-use Rattle.fc_model.specs.declared.nameless.NDecl.TheVariants as D
-use Rattle.fc_model.specs.declared.nameless.NParam.{NParam}
-use Rattle.fc_model.specs.declared.nameless.NTy.{NTy}
 use Rattle.fc_types.specs.FirstDeclared.{first_constructor, first_definition, first_type_decl, numbered_among}
 use Rattle.fc_types.specs.Tables.{at, found}
 use Rattle.fc_types.specs.TableViews.{HasConstructors, HasDefinitions, HasTypes, constructor_at, constructor_of, numbered}
@@ -23,7 +24,7 @@ mapped : {X Y Z : Type 0} (f : X → Y) (g : Y → Z) (o : Option X) → option_
 mapped f g (Some x) = refl
 mapped f g None = refl
 
-pub types_view : (ds : List NDecl) (w : Word) → option_map ndecl_of (first_type_decl ds w) ≡ type_decl (ndecls_of ds) w
+pub types_view : (ds : List (Decl ℕ Ref)) (w : Word) → option_map ndecl_of (first_type_decl ds w) ≡ type_decl (ndecls_of ds) w
 types_view [] w = refl
 types_view (D.DataType n ps cs ∷ ds) w = elim (bytes_eq n w) as (λ b. option_map ndecl_of (if b then Some (D.DataType n ps cs) else first_type_decl ds w) ≡ (if b then Some (ndecl_of (D.DataType n ps cs)) else type_decl (ndecls_of ds) w)) [ true ↦ refl | false ↦ types_view ds w ]
 types_view (D.NewType n ps t con ∷ ds) w = elim (bytes_eq n w) as (λ b. option_map ndecl_of (if b then Some (D.NewType n ps t con) else first_type_decl ds w) ≡ (if b then Some (ndecl_of (D.NewType n ps t con)) else type_decl (ndecls_of ds) w)) [ true ↦ refl | false ↦ types_view ds w ]
@@ -32,7 +33,7 @@ types_view (D.Axiom n ps t u ∷ ds) w = types_view ds w
 types_view (D.Def n t e ∷ ds) w = types_view ds w
 types_view (D.Wrap n t e ∷ ds) w = types_view ds w
 
-pub definitions_view : (ds : List NDecl) (w : Word) → found (option_map nty_of (first_definition ds w)) ≡ def_type (ndecls_of ds) w
+pub definitions_view : (ds : List (Decl ℕ Ref)) (w : Word) → found (option_map nty_of (first_definition ds w)) ≡ def_type (ndecls_of ds) w
 definitions_view [] w = refl
 definitions_view (D.DataType n ps cs ∷ ds) w = definitions_view ds w
 definitions_view (D.NewType n ps t con ∷ ds) w = definitions_view ds w
@@ -41,7 +42,7 @@ definitions_view (D.Axiom n ps t u ∷ ds) w = definitions_view ds w
 definitions_view (D.Def n t e ∷ ds) w = elim (bytes_eq n w) as (λ b. found (option_map nty_of (if b then Some t else first_definition ds w)) ≡ (if b then Ok (nty_of t) else def_type (ndecls_of ds) w)) [ true ↦ refl | false ↦ definitions_view ds w ]
 definitions_view (D.Wrap n t e ∷ ds) w = elim (bytes_eq n w) as (λ b. found (option_map nty_of (if b then Some t else first_definition ds w)) ≡ (if b then Ok (nty_of t) else def_type (ndecls_of ds) w)) [ true ↦ refl | false ↦ definitions_view ds w ]
 
-numbered_view : (d : Word) (ps : List NParam) (i : ℕ) (cs : List NConDecl) (w : Word) → option_map constructor_at (numbered_among d ps i cs w) ≡ con_among d (nparams_of ps) i (ncons_of cs) w
+numbered_view : (d : Word) (ps : List Param) (i : ℕ) (cs : List (ConDecl ℕ)) (w : Word) → option_map constructor_at (numbered_among d ps i cs w) ≡ con_among d (nparams_of ps) i (ncons_of cs) w
 numbered_view d ps i [] w = refl
 numbered_view d ps i (c ∷ cs) w = elim (bytes_eq c.name w) as (λ b. option_map constructor_at (if b then Some (record { data_word = d; params = ps; number = i; con = c }) else numbered_among d ps (i + 1) cs w) ≡ (if b then Some (constructor_at (record { data_word = d; params = ps; number = i; con = c })) else con_among d (nparams_of ps) (i + 1) (ncons_of cs) w)) [ true ↦ refl | false ↦ numbered_view d ps (i + 1) cs w ]
 
@@ -49,7 +50,7 @@ first_mapped : {X Y : Type 0} (f : X → Y) (o p : Option X) → option_map f (f
 first_mapped f (Some x) p = refl
 first_mapped f None p = refl
 
-pub constructors_view : (ds : List NDecl) (w : Word) → option_map constructor_at (first_constructor ds w) ≡ con_decl (ndecls_of ds) w
+pub constructors_view : (ds : List (Decl ℕ Ref)) (w : Word) → option_map constructor_at (first_constructor ds w) ≡ con_decl (ndecls_of ds) w
 constructors_view [] w = refl
 constructors_view (D.DataType n ps cs ∷ ds) w = rw (first_mapped constructor_at (numbered_among n ps 0 cs w) (first_constructor ds w), numbered_view n ps 0 cs w, constructors_view ds w) refl
 constructors_view (D.NewType n ps t con ∷ ds) w = constructors_view ds w
@@ -59,14 +60,14 @@ constructors_view (D.Def n t e ∷ ds) w = constructors_view ds w
 constructors_view (D.Wrap n t e ∷ ds) w = constructors_view ds w
 
 -- what a table with the first declarations has at the bytes v of a word w
-pub type_found : {S : Type 0} (table : IndexMap (Bor (List ℕ)) (Bor NDecl) S) (ds : List NDecl) (p : List pure.NDecl) (w v : Word) (o : Option (Bor NDecl))
+pub type_found : {S : Type 0} (table : IndexMap (Bor (List ℕ)) (Bor (Decl ℕ Ref)) S) (ds : List (Decl ℕ Ref)) (p : List pure.NDecl) (w v : Word) (o : Option (Bor (Decl ℕ Ref)))
     → o ≡ at table v → v ≡ w → HasTypes ds table → p ≡ ndecls_of ds → option_map (λ d. ndecl_of d.now) o ≡ type_decl p w
 type_found table ds p w v o found_at same has e = rw (e, found_at, same, ← types_view ds w, ← has w) (mapped (λ d. d.now) ndecl_of (at table w))
 
-pub definition_found : {S : Type 0} (table : IndexMap (Bor (List ℕ)) (Bor NTy) S) (ds : List NDecl) (p : List pure.NDecl) (w v : Word) (o : Option (Bor NTy))
+pub definition_found : {S : Type 0} (table : IndexMap (Bor (List ℕ)) (Bor (Ty ℕ)) S) (ds : List (Decl ℕ Ref)) (p : List pure.NDecl) (w v : Word) (o : Option (Bor (Ty ℕ)))
     → o ≡ at table v → v ≡ w → HasDefinitions ds table → p ≡ ndecls_of ds → found (option_map (λ t. nty_of t.now) o) ≡ def_type p w
 definition_found table ds p w v o found_at same has e = rw (e, found_at, same, ← definitions_view ds w, ← has w) (ap found (mapped (λ t. t.now) nty_of (at table w)))
 
-pub constructor_found : {S : Type 0} (table : IndexMap (Bor (List ℕ)) DeclaredCon S) (ds : List NDecl) (p : List pure.NDecl) (w v : Word) (o : Option DeclaredCon)
+pub constructor_found : {S : Type 0} (table : IndexMap (Bor (List ℕ)) DeclaredCon S) (ds : List (Decl ℕ Ref)) (p : List pure.NDecl) (w v : Word) (o : Option DeclaredCon)
     → o ≡ at table v → v ≡ w → HasConstructors ds table → p ≡ ndecls_of ds → option_map constructor_of o ≡ con_decl p w
 constructor_found table ds p w v o found_at same has e = rw (e, found_at, same, ← constructors_view ds w, ← has w) (mapped numbered constructor_at (at table w))

@@ -1,5 +1,6 @@
 pub mod Codes
 pub mod FirstDeclared
+pub mod KindViews
 pub mod ModuleViews
 pub mod TableViews
 pub mod Tables

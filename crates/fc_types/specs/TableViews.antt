@@ -3,10 +3,11 @@ use Rattle.std.specs.Prelude.{◌≡◌, ℕ, List, Option}
 use Rattle.std.specs.Option.{option_map}
 use Rattle.indexmap.specs.IndexMap.{IndexMap}
 use Rattle.fc_syntax.specs.Tree.{Word}
+use Rattle.fc_syntax.specs.declared.module.Decl.{Decl}
+use Rattle.fc_syntax.specs.declared.ty.Ref.{Ref}
+use Rattle.fc_syntax.specs.declared.ty.Ty.{Ty}
 use Rattle.fc_model.specs.NamelessView.{nbinders_of, nparams_of, ntys_of}
 use Rattle.fc_model.specs.Typing.{Constructor}
-use Rattle.fc_model.specs.declared.nameless.NDecl.{NDecl}
-use Rattle.fc_model.specs.declared.nameless.NTy.{NTy}
 use Rattle.fc_types.specs.FirstDeclared.{Numbered, first_constructor, first_definition, first_type_decl}
 use Rattle.fc_types.specs.Tables.{at}
 use Rattle.fc_types.specs.declared.tables.DeclaredCon.{DeclaredCon}
@@ -23,23 +24,23 @@ numbered c = record { data_word = c.data_word.now; params = c.params.now; number
 abbrev pub constructor_of : DeclaredCon → Constructor
 constructor_of c = constructor_at (numbered c)
 
-abbrev pub type_at : {S : Type 0} → IndexMap (Bor (List ℕ)) (Bor NDecl) S → Word → Option NDecl
+abbrev pub type_at : {S : Type 0} → IndexMap (Bor (List ℕ)) (Bor (Decl ℕ Ref)) S → Word → Option (Decl ℕ Ref)
 type_at table w = option_map (λ d. d.now) (at table w)
 
-abbrev pub definition_at : {S : Type 0} → IndexMap (Bor (List ℕ)) (Bor NTy) S → Word → Option NTy
+abbrev pub definition_at : {S : Type 0} → IndexMap (Bor (List ℕ)) (Bor (Ty ℕ)) S → Word → Option (Ty ℕ)
 definition_at table w = option_map (λ t. t.now) (at table w)
 
 abbrev pub numbered_at : {S : Type 0} → IndexMap (Bor (List ℕ)) DeclaredCon S → Word → Option Numbered
 numbered_at table w = option_map numbered (at table w)
 
 -- the table has the first type of each word
-abbrev pub HasTypes : {S : Type 0} → List NDecl → IndexMap (Bor (List ℕ)) (Bor NDecl) S → Type 0
+abbrev pub HasTypes : {S : Type 0} → List (Decl ℕ Ref) → IndexMap (Bor (List ℕ)) (Bor (Decl ℕ Ref)) S → Type 0
 HasTypes ds table = (w : Word) → type_at table w ≡ first_type_decl ds w
 
 -- the table has the type of the first definition of each word
-abbrev pub HasDefinitions : {S : Type 0} → List NDecl → IndexMap (Bor (List ℕ)) (Bor NTy) S → Type 0
+abbrev pub HasDefinitions : {S : Type 0} → List (Decl ℕ Ref) → IndexMap (Bor (List ℕ)) (Bor (Ty ℕ)) S → Type 0
 HasDefinitions ds table = (w : Word) → definition_at table w ≡ first_definition ds w
 
 -- the table has the first constructor of each word
-abbrev pub HasConstructors : {S : Type 0} → List NDecl → IndexMap (Bor (List ℕ)) DeclaredCon S → Type 0
+abbrev pub HasConstructors : {S : Type 0} → List (Decl ℕ Ref) → IndexMap (Bor (List ℕ)) DeclaredCon S → Type 0
 HasConstructors ds table = (w : Word) → numbered_at table w ≡ first_constructor ds w

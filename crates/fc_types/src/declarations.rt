@@ -9,8 +9,7 @@ ghost use Rattle.fc_types.specs.Tables.{found};
 ghost use Rattle.fc_types.specs.TableViews.{HasConstructors, HasDefinitions, HasTypes, constructor_of};
 
 use crate::tables::{DeclaredCon, constructors_by_word, definitions_by_word, types_by_word};
-use fc_model::{NDecl, NModule, NTy};
-use fc_syntax::{Memory, Name};
+use fc_syntax::{Memory, NDecl, NModule, NTy, Name};
 use indexmap::IndexMap;
 use std::alloc::Global;
 

@@ -1,14 +1,15 @@
-//! Types of nameless modules: whether two are the same, copies of them, the declarations that they name, and their kinds.
+//! Types of nameless modules: whether two are the same, the declarations that they name, and their kinds.
 #![tactic(auto)]
 
-mod copies;
 mod declarations;
+mod declared_kinds;
+mod kind_scope;
 mod kinds;
 mod sameness;
 mod tables;
 
-pub use copies::copy_type;
 pub use declarations::Declarations;
+pub use kind_scope::Kinds;
 pub use kinds::{is_value_kind, kind, kind_of_part};
 pub use sameness::{same_kind, same_name, same_type, same_word};
 pub use tables::DeclaredCon;

@@ -4,8 +4,7 @@ ghost use Rattle.fc_syntax.specs.View.{kind_of};
 ghost use Rattle.fc_model.specs.Kinding as words;
 ghost use Rattle.fc_model.specs.NamelessView.{nty_of};
 
-use fc_model::NTy;
-use fc_syntax::{Kind, Name, Role, Text};
+use fc_syntax::{Kind, NTy, Name, Role, Text};
 
 /// Whether both are the same word, or both are none. Takes no memory.
 pub fn same_word(left: &Option<Text>, right: &Option<Text>) -> bool
@@ -47,7 +46,7 @@ fn same_role(left: Role, right: Role) -> bool
 }
 
 /// Whether two types are the same, up to the words of their binders. Takes no memory.
-#[tactic(auto, using(fc_model::proofs::NamelessView::nview_rules))]
+#[tactic(auto, using(fc_syntax::proofs::View::view_rules), unfolding(fc_syntax::specs::View::ty_of))]
 pub fn same_type(left: &NTy, right: &NTy) -> bool
     ensures { result ≡ words.same_type (nty_of left.now) (nty_of right.now) }
 {

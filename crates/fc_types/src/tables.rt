@@ -1,15 +1,15 @@
 //! Tables from words to the first of what they declare.
-ghost use Rattle.std.specs.Prelude.{◌≡◌, List, ◌∷◌, Option, Some, None, OnOk, IfOk, if◌then◌else◌};
+ghost use Rattle.std.specs.Prelude.{◌≡◌, ℕ, List, ◌∷◌, Option, Some, None, OnOk, IfOk, if◌then◌else◌};
 ghost use Rattle.std.specs.Str.{bytes_eq};
 ghost use Rattle.fc_syntax.specs.Tree.{Word};
+ghost use Rattle.fc_syntax.specs.declared.module.Decl.{Decl};
+ghost use Rattle.fc_syntax.specs.declared.ty.Ref.{Ref};
 ghost use Rattle.fc_model.specs.Typing.{first_of};
-ghost use Rattle.fc_model.specs.declared.nameless.NDecl as declared;
 ghost use Rattle.fc_types.specs.FirstDeclared.{Numbered, first_constructor, first_definition, first_type_decl, numbered_among};
 ghost use Rattle.fc_types.specs.Tables.{at};
 ghost use Rattle.fc_types.specs.TableViews.{HasConstructors, HasDefinitions, HasTypes, definition_at, numbered_at, type_at};
 
-use fc_model::{NConDecl, NDecl, NParam, NTy};
-use fc_syntax::{Memory, Seq, Text};
+use fc_syntax::{Memory, NConDecl, NDecl, NTy, Param, Seq, Text};
 use indexmap::IndexMap;
 use std::alloc::Global;
 
@@ -19,7 +19,7 @@ pub struct DeclaredCon<'a> {
     /// The word of its data type.
     pub data_word: &'a Text,
     /// The parameters of its data type.
-    pub params: &'a Seq<NParam>,
+    pub params: &'a Seq<Param>,
     /// Its number among the constructors there, counted from 0.
     pub number: usize,
     /// What it declares.
@@ -45,7 +45,7 @@ fn put_first<'a, V: Drop>(
 /// Puts a declaration in, where it is the first type of its word.
 #[tactic(auto, using(crate::proofs::FirstPuts::put_seen))]
 fn add_type<'a>(types: &mut IndexMap<&'a str, &'a NDecl>, decl: &'a NDecl) -> Result<(), Memory>
-    ensures { OnOk result ((w : Word) (rest : List declared.NDecl) → first_of (type_at types.new w) (first_type_decl rest w) ≡ first_of (type_at types.old w) (first_type_decl (decl.now ∷ rest) w)) }
+    ensures { OnOk result ((w : Word) (rest : List (Decl ℕ Ref)) → first_of (type_at types.new w) (first_type_decl rest w) ≡ first_of (type_at types.old w) (first_type_decl (decl.now ∷ rest) w)) }
 {
     match decl {
         NDecl::DataType(word, _, _) => put_first(types, word.as_str(), decl),
@@ -77,7 +77,7 @@ fn add_definition<'a>(
     definitions: &mut IndexMap<&'a str, &'a NTy>,
     decl: &'a NDecl,
 ) -> Result<(), Memory>
-    ensures { OnOk result ((w : Word) (rest : List declared.NDecl) → first_of (definition_at definitions.new w) (first_definition rest w) ≡ first_of (definition_at definitions.old w) (first_definition (decl.now ∷ rest) w)) }
+    ensures { OnOk result ((w : Word) (rest : List (Decl ℕ Ref)) → first_of (definition_at definitions.new w) (first_definition rest w) ≡ first_of (definition_at definitions.old w) (first_definition (decl.now ∷ rest) w)) }
 {
     match decl {
         NDecl::DataType(_, _, _) => Ok(()),
@@ -108,7 +108,7 @@ pub fn definitions_by_word<'a>(
 fn add_constructors<'a>(
     constructors: &mut IndexMap<&'a str, DeclaredCon<'a>>,
     data_word: &'a Text,
-    params: &'a Seq<NParam>,
+    params: &'a Seq<Param>,
     cons: &'a [NConDecl],
 ) -> Result<(), Memory>
     ensures { OnOk result ((w : Word) (rest : Option Numbered) → first_of (numbered_at constructors.new w) rest ≡ first_of (numbered_at constructors.old w) (first_of (numbered_among data_word.now params.now 0 cons.now w) rest)) }
@@ -130,7 +130,7 @@ fn add_declared<'a>(
     constructors: &mut IndexMap<&'a str, DeclaredCon<'a>>,
     decl: &'a NDecl,
 ) -> Result<(), Memory>
-    ensures { OnOk result ((w : Word) (rest : List declared.NDecl) → first_of (numbered_at constructors.new w) (first_constructor rest w) ≡ first_of (numbered_at constructors.old w) (first_constructor (decl.now ∷ rest) w)) }
+    ensures { OnOk result ((w : Word) (rest : List (Decl ℕ Ref)) → first_of (numbered_at constructors.new w) (first_constructor rest w) ≡ first_of (numbered_at constructors.old w) (first_constructor (decl.now ∷ rest) w)) }
 {
     match decl {
         NDecl::DataType(word, params, cons) => {

@@ -1,10 +1,10 @@
 //! Types and declarations of modules that are read: which types are the same, and what the tables of names and kinds answer, by hand
 //! from the rules of the language.
-use fc_model::{Flaw, Flawed, NDecl, NModule, NTy};
+use fc_model::{Flaw, Flawed};
 use fc_reader::read_module;
 use fc_resolve::resolve;
-use fc_syntax::{FaultKind, Kind, Memory, Name, Text};
-use fc_types::{Declarations, copy_type, kind, kind_of_part, same_type};
+use fc_syntax::{FaultKind, Kind, Memory, NDecl, NModule, NTy, Name, Param, Role, Seq, Text};
+use fc_types::{Declarations, Kinds, kind, kind_of_part, same_type};
 use std::alloc::Global;
 use std::process::Abort;
 use std::test::Fail;
@@ -47,7 +47,7 @@ fn type_of<'a>(
 
 /// Whether two types are the same, and a copy of the first and the second.
 fn are_same(alloc: Global, t: &NTy, u: &NTy) -> Result<(bool, bool), Memory> {
-    let copy = copy_type(alloc, t)?;
+    let copy = t.copy(alloc)?;
     Ok((same_type(t, u), same_type(&copy, u)))
 }
 
@@ -108,12 +108,12 @@ fn has_word(t: &NTy, word: &str) -> bool {
     }
 }
 
-/// No clause sees the words at binders.
+/// A copy has the words of its binders too.
 #[test]
 fn copies_keep_the_words_at_binders(rt: HostRuntime) -> Result<(), Fail> {
     let alloc = rt.alloc();
     let t = of_all(alloc, "a")?;
-    let copy = copy_type(alloc, &t)?;
+    let copy = t.copy(alloc)?;
     assert!(rt; has_word(&copy, "a"));
     Ok(())
 }
@@ -191,8 +191,8 @@ fn is_unbound_at(flaw: &Flaw, path: &[u32]) -> bool {
 fn is_told(alloc: Global, t: &NTy, declared: &Declarations, row: &Row<'_>) -> bool {
     let (_, part, told, path) = row;
     let judged = match part {
-        None => kind(alloc, t, declared),
-        Some(part) => kind_of_part(alloc, t, declared, *part),
+        None => kind(alloc, t, declared, &Kinds::End),
+        Some(part) => kind_of_part(alloc, t, declared, &Kinds::End, *part),
     };
     match judged {
         Ok(Kind::Star) => *told == "*",
@@ -261,4 +261,66 @@ fn kinds_of_types(rt: HostRuntime) -> Result<(), Fail> {
         (b"(fun (fun T V) W)", Some(7), "20", &[1, 0, 7]),
     ];
     are_told(&rt, rt.alloc(), rows.as_slice())
+}
+
+/// A data type `T`, and a data type `L` with one parameter of kind `*`, which no text gives yet.
+fn with_parameter(alloc: Global) -> Result<NModule, Fail> {
+    let mut m = nameless(alloc, b"(module M (imports) (exports) (data T ()))")?;
+    let name = Text::from_str(alloc, "a")?;
+    let mut params = Seq::new(alloc);
+    params.push(Param {
+        name,
+        kind: Kind::Star,
+        role: Role::R,
+    })?;
+    let word = Text::from_str(alloc, "L")?;
+    m.decls
+        .push(NDecl::DataType(word, params, Seq::new(alloc)))?;
+    Ok(m)
+}
+
+fn named(alloc: Global, word: &str) -> Result<NTy, Memory> {
+    Ok(NTy::Con(name(alloc, "M", word)?))
+}
+
+fn applied(alloc: Global, t: NTy, u: NTy) -> Result<NTy, Memory> {
+    let t = Box::new(alloc, t)?;
+    let u = Box::new(alloc, u)?;
+    Ok(NTy::App(t, u))
+}
+
+fn for_all(alloc: Global, kind: Kind, body: NTy) -> Result<NTy, Memory> {
+    let word = Text::from_str(alloc, "a")?;
+    Ok(NTy::Forall(word, kind, Box::new(alloc, body)?))
+}
+
+/// The kind of a type, or the word of its first fault.
+fn kind_word(alloc: Global, t: &NTy, declared: &Declarations) -> &'static str {
+    match kind(alloc, t, declared, &Kinds::End) {
+        Ok(Kind::Star) => "*",
+        Ok(Kind::Hash) => "#",
+        Ok(Kind::Arrow(_, _)) => "->",
+        Err(Flawed::Flaw(flaw)) => flaw.kind.word(),
+        Err(Flawed::Memory) => "out of memory",
+    }
+}
+
+#[test]
+fn kinds_of_applications_and_foralls(rt: HostRuntime) -> Result<(), Fail> {
+    let alloc = rt.alloc();
+    let m = with_parameter(alloc)?;
+    let declared = Declarations::new(alloc, &m)?;
+    let list = named(alloc, "L")?;
+    let of_t = applied(alloc, named(alloc, "L")?, named(alloc, "T")?)?;
+    let of_int = applied(alloc, named(alloc, "L")?, NTy::IntHash)?;
+    let bound = for_all(alloc, Kind::Star, NTy::Var(0))?;
+    let unbound = for_all(alloc, Kind::Star, NTy::Var(1))?;
+    let unlifted = for_all(alloc, Kind::Hash, named(alloc, "T")?)?;
+    assert_eq!(rt; kind_word(alloc, &list, &declared), "->");
+    assert_eq!(rt; kind_word(alloc, &of_t, &declared), "*");
+    assert_eq!(rt; kind_word(alloc, &of_int, &declared), "KindMismatch");
+    assert_eq!(rt; kind_word(alloc, &bound, &declared), "*");
+    assert_eq!(rt; kind_word(alloc, &unbound, &declared), "Unbound");
+    assert_eq!(rt; kind_word(alloc, &unlifted, &declared), "UnliftedVariable");
+    Ok(())
 }

@@ -8,8 +8,8 @@ use Rattle.fc_model.specs.Says.{Says}
 use Rattle.fc_resolve.specs.DeclaredWords.{top_by}
 use Rattle.fc_resolve.proofs.resolve.Goals as goal
 
-pub returns : goal.returns
-returns c =
+pub returns-clause-form : goal.returns-clause-form
+returns-clause-form c =
     let whole = λ (top : Top) (earlier : Words). Says nmodule_of c.resolved_over.result (and_then (resolved_decls top earlier (decls_of c.args.m.now.decls))
     (λ ds. Ok (NModuleOf c.args.m.now.name c.args.m.now.imports c.args.m.now.exports c.args.m.now.hidden ds))) in
-    subst (λ top. whole top no_words) c.in_ok-top.ensures (subst (λ earlier. whole (top_by c.in_ok-top.top) earlier) c.new-earlier.ensures c.resolved_over.ensures)
+    subst (λ top. whole top no_words) c.in_ok-top.ensures (subst (λ earlier. whole (top_by c.in_ok-top.top) earlier) c.new-earlier.ensures c.resolved_over.ensures.form)

@@ -1,6 +1,6 @@
 use Rattle.std.proofs.Common.{◌≡◌, drop}
-use Rattle.fc_model.specs.NamelessView.{nalts_of, nty_of}
-use Rattle.fc_model.specs.Typing.{Start, alts_judged, with_value}
+use Rattle.fc_model.specs.NamelessView.{nalts_of, nbinds_of, nty_of}
+use Rattle.fc_model.specs.Typing.{Start, alts_judged, binds_judged, with_value}
 use Rattle.fc_types.specs.ModuleViews.{modules_of}
 use Rattle.fc_lint_expr.specs.AltViews.{before_of}
 use Rattle.fc_lint_expr.specs.GivenViews.{args_from, with_givens}
@@ -16,3 +16,7 @@ abbrev pub invariant-alternatives_fit-loop-alternative : goal.invariant-alternat
 invariant-alternatives_fit-loop-alternative l =
     alts_judged (modules_of l.declared) (with_value (nty_of l.of) (context_of l.locals)) (nty_of l.wanted.scrutinee.now) (nty_of l.wanted.answer.now) 3 Start (nalts_of l.alternatives)
     ≡ alts_judged (modules_of l.declared) (with_value (nty_of l.of) (context_of l.locals)) (nty_of l.wanted.scrutinee.now) (nty_of l.wanted.answer.now) l.part (before_of l.before) (nalts_of (drop l.alternative-index l.alternatives))
+
+abbrev pub invariant-each_bind_fits-loop-bind : goal.invariant-each_bind_fits-loop-bind
+invariant-each_bind_fits-loop-bind l =
+    binds_judged (modules_of l.declared) (context_of l.locals) l.recursive 0 (nbinds_of l.binds) ≡ binds_judged (modules_of l.declared) (context_of l.locals) l.recursive l.part (nbinds_of (drop l.bind-index l.binds))

@@ -1,8 +1,15 @@
 use Rattle.fc_model.proofs.KindedIs.{kind_is, kind_is_one}
+use Rattle.fc_model.proofs.ResolvedModulesAre.{a_module_has_one_nameless_form, resolves_iff}
 use Rattle.fc_model.proofs.Sameness.{same_type_is}
 use Rattle.fc_model.proofs.TypedIs.{type_is, type_is_one}
 use Rattle.fc_model.proofs.TypesRead.{type_is_read_off}
 use Rattle.fc_model.proofs.laws.judgements_agree.Goals as goal
+
+pub returns-clause-nameless_forms : goal.returns-clause-nameless_forms
+returns-clause-nameless_forms c = resolves_iff
+
+pub returns-clause-one_nameless_form : goal.returns-clause-one_nameless_form
+returns-clause-one_nameless_form c = a_module_has_one_nameless_form
 
 pub returns-clause-sameness : goal.returns-clause-sameness
 returns-clause-sameness c = same_type_is

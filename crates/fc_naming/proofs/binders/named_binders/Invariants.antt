@@ -1,12 +1,11 @@
-use Rattle.std.proofs.Common.{◌≡◌, drop}
-use Rattle.fc_naming.specs.HintedView.{hbinders_of, hexpr_of}
-use Rattle.fc_naming.specs.Naming.{below}
-use Rattle.fc_naming.specs.Scopes.{words_of}
-use Rattle.fc_naming.proofs.Built.{BindersSoFar}
+use Rattle.std.proofs.Common.{take}
+use Rattle.fc_syntax.specs.View.{binders_of}
+use Rattle.fc_model.specs.NamelessView.{nbinders_of}
+use Rattle.fc_scope.specs.ScopeWords.{locals_of, with_binders}
+use Rattle.fc_naming.specs.Known.{top_by, words_by}
+use Rattle.fc_naming.specs.Named.{TakeWords}
 use Rattle.fc_naming.proofs.binders.named_binders.Given as goal
 
 abbrev pub invariant-loop-binder : goal.invariant-loop-binder
-invariant-loop-binder l = record {
-  so_far : BindersSoFar l.own (words_of l.scope) (hbinders_of l.binders) (hexpr_of l.e) (hbinders_of (drop l.binder-index l.binders)) l.words l.out;
-  counted : l.inside ≡ below (hbinders_of (drop l.binder-index l.binders)) 0;
-}
+invariant-loop-binder l =
+    TakeWords (top_by l.top) (locals_of l.scope) (words_by l.fn.taken) (nbinders_of (take l.binder-index l.binders)) (binders_of l.out) (with_binders l.words (locals_of l.scope)) (words_by l.taken)

@@ -1,9 +1,11 @@
-use Rattle.std.proofs.Common.{drop}
-use Rattle.fc_syntax.specs.View.{cons_of}
-use Rattle.fc_model.specs.NamelessView.{ncons_of}
-use Rattle.fc_naming.specs.Naming.{IsNamedCon}
-use Rattle.fc_naming.proofs.Built.{EachSoFar}
+use Rattle.std.proofs.Common.{take}
+use Rattle.fc_syntax.specs.View.{con_of}
+use Rattle.fc_model.specs.NamelessView.{ncon_of}
+use Rattle.fc_scope.specs.ScopeWords.{locals_of}
+use Rattle.fc_naming.specs.Known.{top_by}
+use Rattle.fc_naming.specs.Named.{AreEach}
+use Rattle.fc_naming.specs.Declarations.{IsNamedCon}
 use Rattle.fc_naming.proofs.declarations.named_cons.Given as goal
 
 abbrev pub invariant-loop-con : goal.invariant-loop-con
-invariant-loop-con l = EachSoFar (IsNamedCon l.own) (ncons_of l.cons) (ncons_of (drop l.con-index l.cons)) (cons_of l.out)
+invariant-loop-con l = AreEach (λ x y. IsNamedCon (top_by l.top) (locals_of l.scope) (ncon_of x) (con_of y)) (take l.con-index l.cons) l.out

@@ -1,15 +1,21 @@
-use Rattle.std.proofs.Common.{rules, ◌≡◌, []}
-use Rattle.fc_syntax.specs.View.{cons_of, expr_of, ty_of}
-use Rattle.fc_naming.proofs.Written.{data_written, definition_written}
+use Rattle.std.proofs.Common.{rules}
+use Rattle.fc_naming.proofs.NamedDeclarations.{named_data, named_def, named_equation, named_family, named_newtype, named_wrap}
 use Rattle.fc_naming.proofs.declarations.named_decl.Goals as goal
 
-pub returns-in_ok-cons-in-DataType : goal.returns-in_ok-cons-in-DataType
-returns-in_ok-cons-in-DataType c =
-    let none : c.in-DataType.params ≡ [] = search rules in
-    data_written c.args.own.now c.args.decl.now c.in-DataType.name c.in_ok-name-in-DataType.name c.in-DataType.params c.new.result c.in-DataType.cons (cons_of c.in_ok-cons-in-DataType.cons)
-    c.in-DataType.is none c.new.ensures c.in_ok-name-in-DataType.ensures (search rules)
+pub returns-in_ok-name-in-DataType : goal.returns-in_ok-name-in-DataType
+returns-in_ok-name-in-DataType c = named_data c.in_ok-own-in-DataType.ensures c.in_ok-cons-in-DataType.ensures (search rules)
 
-pub returns-in_ok-e-in-Def : goal.returns-in_ok-e-in-Def
-returns-in_ok-e-in-Def c =
-    definition_written c.args.own.now c.args.decl.now c.in-Def.name c.in_ok-name-in-Def.name c.in-Def.t c.in-Def.e (ty_of c.in_ok-t-in-Def.t) (expr_of c.in_ok-e-in-Def.e)
-    c.in-Def.is c.in_ok-name-in-Def.ensures c.in_ok-t-in-Def.ensures c.in_ok-e-in-Def.ensures
+pub returns-in_ok-con-in-NewType : goal.returns-in_ok-con-in-NewType
+returns-in_ok-con-in-NewType c = named_newtype c.in_ok-own-in-NewType.ensures c.in_ok-t-in-NewType.ensures (search rules)
+
+pub returns-in_ok-kind-in-Family : goal.returns-in_ok-kind-in-Family
+returns-in_ok-kind-in-Family c = named_family c.in_ok-own-in-Family.ensures (search rules)
+
+pub returns-in_ok-name-in-Axiom : goal.returns-in_ok-name-in-Axiom
+returns-in_ok-name-in-Axiom c = named_equation c.in_ok-own-in-Axiom.ensures c.in_ok-t-in-Axiom.ensures c.in_ok-u-in-Axiom.ensures (search rules)
+
+pub returns-in_ok-name-in-Def : goal.returns-in_ok-name-in-Def
+returns-in_ok-name-in-Def c = named_def c.in_ok-t-in-Def.ensures c.in_ok-e-in-Def.ensures (search rules)
+
+pub returns-in_ok-name-in-Wrap : goal.returns-in_ok-name-in-Wrap
+returns-in_ok-name-in-Wrap c = named_wrap c.in_ok-t-in-Wrap.ensures c.in_ok-e-in-Wrap.ensures (search rules)

@@ -1,9 +1,10 @@
-use Rattle.std.proofs.Common.{drop}
-use Rattle.fc_syntax.specs.View.{decls_of}
-use Rattle.fc_naming.specs.HintedView.{hdecls_of}
-use Rattle.fc_naming.specs.Naming.{IsNamedDecl}
-use Rattle.fc_naming.proofs.Built.{EachSoFar}
+use Rattle.std.proofs.Common.{take}
+use Rattle.fc_syntax.specs.View.{decl_of}
+use Rattle.fc_model.specs.NamelessView.{ndecl_of}
+use Rattle.fc_naming.specs.Known.{top_by}
+use Rattle.fc_naming.specs.Named.{AreEach}
+use Rattle.fc_naming.specs.Declarations.{IsNamedDecl}
 use Rattle.fc_naming.proofs.declarations.named_decls.Given as goal
 
 abbrev pub invariant-loop-decl : goal.invariant-loop-decl
-invariant-loop-decl l = EachSoFar (IsNamedDecl l.own) (hdecls_of l.decls) (hdecls_of (drop l.decl-index l.decls)) (decls_of l.out)
+invariant-loop-decl l = AreEach (λ x y. IsNamedDecl (top_by l.top) (ndecl_of x) (decl_of y)) (take l.decl-index l.decls) l.out

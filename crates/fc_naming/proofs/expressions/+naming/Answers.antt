@@ -1,111 +1,117 @@
-use Rattle.std.proofs.Common.{arith, rules, ◌≡◌, ◌∙◌, IfOk, false, sym, subst}
-use Rattle.fc_syntax.specs.View.{alts_of, arg_of, args_of, binders_of, expr_of, ty_of}
+use Rattle.std.proofs.Common.{arith, rules, ◌≡◌, ◌<◌, ◌∙◌, ap, length}
+use Rattle.fc_syntax.specs.View.{binder_of, binds_of, joins_of}
 use Rattle.fc_syntax.proofs.View.{view_rules}
-use Rattle.fc_model.specs.Nameless.{NLet}
-use Rattle.fc_model.specs.NamelessView.{nbinds_of, nexpr_of, nty_of}
-use Rattle.fc_model.proofs.NamelessView.{nview_rules}
-use Rattle.fc_naming.specs.Hinted.{HApp, HCase, HCon, HLam, HLit, HLocal, HVar, HTerm}
-use Rattle.fc_naming.specs.HintedView.{halts_of, harg_of, hargs_of, hbinders_of, hexpr_of, lambda_of, let_of, only_of}
-use Rattle.fc_naming.specs.Naming.{IsNamed}
-use Rattle.fc_naming.specs.Scopes.{GoesOn, onto, words_of}
-use Rattle.fc_naming.proofs.Built.{alts_step, alts_whole, args_step, args_whole}
-use Rattle.fc_naming.proofs.HintedView.{hexpr_out}
-use Rattle.fc_naming.proofs.Written.{alternative_written, application_written, case_goes_on, case_written, constructor_written, lambda_written, let_hinted, let_written, literal_written, local_written, term_written, variable_written}
+use Rattle.fc_model.specs.Resolution.{bind_words, enter, join_words}
+use Rattle.fc_scope.specs.ScopeWords.{locals_of, with_binders, with_joins, with_values}
+use Rattle.fc_naming.proofs.NamedExpressions.{bind_words_step, expr_as, expr_in, join_words_step, literal_as, named_alts, named_args, named_binds, named_exprs, named_joins}
+use Rattle.fc_naming.proofs.Groups.{named_below, named_lambda}
+use Rattle.fc_naming.proofs.NamedGroups.{below_in, binds_else, binds_then, joins_else, joins_then}
+use Rattle.fc_naming.proofs.NamedTypes.{each_all, each_start, each_step}
 use Rattle.fc_naming.proofs.expressions.+naming.Goals as goal
+use Rattle.fc_naming.proofs.expressions.+naming.Goals.{let_binds-then-recursive+in_ok-binds, let_binds-else-recursive+in_ok-binds-2, join_members-then-recursive+in_ok-joins, join_members-else-recursive+in_ok-joins-2}
 
-pub named-returns-in_ok-local-in-Local : goal.named-returns-in_ok-local-in-Local
-named-returns-in_ok-local-in-Local t c =
-    let is : hexpr_of c.args.e.now ≡ HLocal c.in-Local.distance = search (rules, nview_rules, hexpr_out) in
-    local_written c.args.own.now (words_of c.args.scope.now) (hexpr_of c.args.e.now) _ c.in-Local.distance c.in_ok-local-in-Local.field-0 is (search (rules, view_rules))
-    c.in_ok-local-in-Local.ensures.alone c.in_ok-local-in-Local.ensures.word
+pub named_args-loop-arg-init : goal.named_args-loop-arg-init
+named_args-loop-arg-init t c = each_start c.args.args.now c.new-out.result c.new-out.ensures
 
-pub named-returns-in_ok-short_name-in-Var : goal.named-returns-in_ok-short_name-in-Var
-named-returns-in_ok-short_name-in-Var t c =
-    let is : hexpr_of c.args.e.now ≡ HVar c.in-Var.name = search (rules, nview_rules, hexpr_out) in
-    variable_written c.args.own.now (words_of c.args.scope.now) (hexpr_of c.args.e.now) _ c.in-Var.name c.in_ok-short_name-in-Var.field-0 is (search (rules, view_rules))
-    c.in_ok-short_name-in-Var.ensures
-
-pub named-returns-in-Lit : goal.named-returns-in-Lit
-named-returns-in-Lit t c =
-    let is : hexpr_of c.args.e.now ≡ HLit c.in-Lit.n = search (rules, nview_rules, hexpr_out) in
-    literal_written c.args.own.now (words_of c.args.scope.now) (hexpr_of c.args.e.now) _ c.in-Lit.n is (search (rules, view_rules))
-
-pub named-returns-in_ok-boxed-in-App-2 : goal.named-returns-in_ok-boxed-in-App-2
-named-returns-in_ok-boxed-in-App-2 t c =
-    let is : hexpr_of c.args.e.now ≡ HApp (hexpr_of c.deref.result.now) (harg_of c.deref-in-App.result.now) = search (rules, nview_rules, hexpr_out) in
-    application_written c.args.own.now (words_of c.args.scope.now) (hexpr_of c.args.e.now) _ (hexpr_of c.deref.result.now) (harg_of c.deref-in-App.result.now) (expr_of c.in_ok-f-in-App.f)
-    (arg_of c.in_ok-a-in-App.a) is (search (rules, view_rules)) c.in_ok-f-in-App.ensures c.in_ok-a-in-App.ensures
-
-pub named-returns-in-Lam : goal.named-returns-in-Lam
-named-returns-in-Lam t c =
-    let is : hexpr_of c.args.e.now ≡ lambda_of c.deref-in-Lam-2.result.now (hexpr_of c.deref-in-Lam.result.now) (nexpr_of c.deref-in-Lam.result.now) = search (rules, nview_rules, hexpr_out) in
-    subst (λ h. IfOk c.lambda.result (λ r. IsNamed c.args.own.now (words_of c.args.scope.now) h (expr_of r))) (sym is) c.lambda.ensures
-
-pub named-returns-in_ok-below-in-len1 : goal.named-returns-in_ok-below-in-len1
-named-returns-in_ok-below-in-len1 t c =
-    let bs = c.as_slice.result.now in
-    let b = c.bind-item.result in
-    let e = c.deref-in-len1.result.now in
-    let rest = NLet c.in-Let.recursive (nbinds_of bs) (nexpr_of e) in
-    let here : hexpr_of c.args.e.now ≡ let_of c.in-Let.recursive (only_of bs) (hexpr_of e) rest = search (rules, nview_rules, hexpr_out) in
-    let plain : c.in-Let.recursive ≡ false = search rules in
-    let_written c.args.own.now (words_of c.args.scope.now) (hexpr_of c.args.e.now) c.let_of.result b.hint (nty_of b.ty) (hexpr_of b.rhs) (hexpr_of e)
-    (record { name = c.in_ok-below-in-len1.below.word; ty = c.in_ok-ty-in-len1.ty; rhs = c.in_ok-rhs-in-len1.rhs }) (expr_of c.in_ok-below-in-len1.below.body)
-    (here ∙ let_hinted c.in-Let.recursive bs b (hexpr_of e) rest plain c.in-len1.len_at_least c.in-len1.len_below c.bind-item.is)
-    c.in_ok-ty-in-len1.ensures c.in_ok-rhs-in-len1.ensures c.in_ok-below-in-len1.ensures.chosen c.in_ok-below-in-len1.ensures.named c.let_of.ensures
-
-pub named-returns-in_ok-args-in-Con : goal.named-returns-in_ok-args-in-Con
-named-returns-in_ok-args-in-Con t c =
-    let is : hexpr_of c.args.e.now ≡ HCon c.in-Con.name (hargs_of c.in-Con.args) = search (rules, nview_rules, hexpr_out) in
-    constructor_written c.args.own.now (words_of c.args.scope.now) (hexpr_of c.args.e.now) _ c.in-Con.name c.in_ok-name-in-Con.name (hargs_of c.in-Con.args) (args_of c.in_ok-args-in-Con.args) is
-    (search (rules, view_rules)) c.in_ok-name-in-Con.ensures (search rules)
-
-pub lambda-returns-in_ok-boxed-in-Value-2 : goal.lambda-returns-in_ok-boxed-in-Value-2
-lambda-returns-in_ok-boxed-in-Value-2 t c =
-    let is : lambda_of c.args.binder.now (hexpr_of c.args.e.now) (nexpr_of c.args.e.now) ≡ HLam c.in-Value.hint (nty_of c.in-Value.t) (hexpr_of c.args.e.now) = search rules in
-    lambda_written c.args.own.now (words_of c.args.scope.now) _ _ c.in-Value.hint c.in_ok-below-in-Value.below.word (nty_of c.in-Value.t) (ty_of c.in_ok-t-in-Value.t) (hexpr_of c.args.e.now)
-    (expr_of c.in_ok-below-in-Value.below.body) is (search (rules, view_rules)) c.in_ok-t-in-Value.ensures c.in_ok-below-in-Value.ensures.chosen c.in_ok-below-in-Value.ensures.named
-
-pub named_arg-returns-in_ok-e-in-Term : goal.named_arg-returns-in_ok-e-in-Term
-named_arg-returns-in_ok-e-in-Term t c =
-    let is : harg_of c.args.arg.now ≡ HTerm (hexpr_of c.in-Term.e) = search rules in
-    term_written c.args.own.now (words_of c.args.scope.now) (harg_of c.args.arg.now) _ (hexpr_of c.in-Term.e) (expr_of c.in_ok-e-in-Term.e) is (search rules) c.in_ok-e-in-Term.ensures
+pub named_args-returns : goal.named_args-returns
+named_args-returns t c = named_args c.args.args.now c.loop-arg.out (each_all c.args.args.now c.loop-arg.arg-index c.loop-arg.out c.loop-arg-test.false c.loop-arg.invariant)
 
 pub named_args-loop-arg-preserved : goal.named_args-loop-arg-preserved
 named_args-loop-arg-preserved t c =
-    args_step c.args.own.now (words_of c.args.scope.now) (hargs_of c.args.args.now) c.args.args.now c.loop-arg.arg-index c.arg-item.result c.loop-arg.out c.push.new.self c.in_ok-next.next
-    (omega arith) c.arg-item.is c.loop-arg.invariant c.in_ok-next.ensures (search rules)
+    each_step _ c.args.args.now c.loop-arg.arg-index c.arg-item.result c.loop-arg.out c.push.new.self c.in_ok-next.next (omega arith) c.arg-item.is c.loop-arg.invariant c.in_ok-next.ensures (search rules)
 
-pub named_args-returns : goal.named_args-returns
-named_args-returns t c =
-    args_whole c.args.own.now (words_of c.args.scope.now) (hargs_of c.args.args.now) c.args.args.now c.loop-arg.arg-index c.loop-arg.out (omega arith) c.loop-arg.invariant
+pub named_exprs-loop-e-init : goal.named_exprs-loop-e-init
+named_exprs-loop-e-init t c = each_start c.args.es.now c.new-out.result c.new-out.ensures
 
-pub named-returns-in_ok-e-in-Case : goal.named-returns-in_ok-e-in-Case
-named-returns-in_ok-e-in-Case t c =
-    let h = hexpr_of c.deref-in-Case.result.now in
-    let is : hexpr_of c.args.e.now ≡ HCase h c.in-Case.hint (nty_of c.in-Case.t) (nty_of c.in-Case.u) (halts_of c.as_slice-in-Case.result.now) = search (rules, nview_rules, hexpr_out) in
-    case_goes_on c.args.own.now (words_of c.args.scope.now) (hexpr_of c.args.e.now) h (expr_of c.in_ok-e-in-Case.e) c.case_of.result c.in-Case.hint (nty_of c.in-Case.t) (nty_of c.in-Case.u)
-    (halts_of c.as_slice-in-Case.result.now) is c.in_ok-e-in-Case.ensures c.case_of.ensures
+pub named_exprs-returns : goal.named_exprs-returns
+named_exprs-returns t c = named_exprs c.args.es.now c.loop-e.out (each_all c.args.es.now c.loop-e.e-index c.loop-e.out c.loop-e-test.false c.loop-e.invariant)
 
-pub case_of-returns : goal.case_of-returns
-case_of-returns t c =
-    case_written c.args.own.now (words_of c.args.scope.now) _ c.args.hint.now c.in_ok-word.word (nty_of c.args.t.now) (nty_of c.args.u.now) (halts_of c.args.alts.now) (ty_of c.in_ok-t.t)
-    (ty_of c.in_ok-u.u) (expr_of c.args.e) (alts_of c.in_ok-alts.alts) (search (rules, view_rules)) c.in_ok-t.ensures c.in_ok-u.ensures c.in_ok-word.ensures c.in_ok-alts.ensures
+pub named_exprs-loop-e-preserved : goal.named_exprs-loop-e-preserved
+named_exprs-loop-e-preserved t c =
+    each_step _ c.args.es.now c.loop-e.e-index c.e-item.result c.loop-e.out c.push.new.self c.in_ok-next.next (omega arith) c.e-item.is c.loop-e.invariant c.in_ok-next.ensures (search rules)
 
-pub named_alt-returns : goal.named_alt-returns
-named_alt-returns t c =
-    let a = c.args.alt.now in
-    let ws = words_of c.args.scope.now in
-    let binders : GoesOn c.args.own.now ws (hbinders_of a.binders) (hexpr_of a.body) c.in_ok-named.named.words (binders_of c.in_ok-named.named.binders) = search rules in
-    let body : IsNamed c.args.own.now (onto c.in_ok-named.named.words ws) (hexpr_of a.body) (expr_of c.in_ok-body.body) = search rules in
-    alternative_written c.args.own.now ws a.head c.in_ok-head.head (hbinders_of a.binders) (hexpr_of a.body) c.in_ok-named.named.words (binders_of c.in_ok-named.named.binders)
-    (expr_of c.in_ok-body.body) c.in_ok-head.ensures binders body
+pub named_alts-loop-alt-init : goal.named_alts-loop-alt-init
+named_alts-loop-alt-init t c = each_start c.args.alts.now c.new-out.result c.new-out.ensures
+
+pub named_alts-returns : goal.named_alts-returns
+named_alts-returns t c = named_alts c.args.alts.now c.loop-alt.out (each_all c.args.alts.now c.loop-alt.alt-index c.loop-alt.out c.loop-alt-test.false c.loop-alt.invariant)
+
+pub named_expr-returns-in-Lit : goal.named_expr-returns-in-Lit
+named_expr-returns-in-Lit t c = literal_as c.in-Lit.n (search (rules, view_rules)) (search (rules, view_rules))
+
+pub lambda-returns : goal.lambda-returns
+lambda-returns t c =
+    let s = locals_of c.args.scope.now in
+    let b = binder_of c.in_ok-binder.binder in
+    let inner : with_binders c.add_binder.new.words s ≡ enter b s = c.in_ok-add_binder.ensures s ∙ ap (λ w. enter b (with_binders w s)) c.new-words.ensures in
+    expr_as (named_lambda c.in_ok-taken.ensures.body c.in_ok-binder.ensures (expr_in c.in_ok-e.ensures inner)) (search (rules, view_rules))
+
+pub named_below-returns : goal.named_below-returns
+named_below-returns t c = named_below c.in_ok-taken.ensures c.in_ok-named.ensures c.in_ok-body.ensures
 
 pub named_alts-loop-alt-preserved : goal.named_alts-loop-alt-preserved
 named_alts-loop-alt-preserved t c =
-    alts_step c.args.own.now (words_of c.args.scope.now) (halts_of c.args.alts.now) c.args.alts.now c.loop-alt.alt-index c.alt-item.result c.loop-alt.out c.push.new.self c.in_ok-next.next
-    (omega arith) c.alt-item.is c.loop-alt.invariant c.in_ok-next.ensures (search rules)
+    each_step _ c.args.alts.now c.loop-alt.alt-index c.alt-item.result c.loop-alt.out c.push.new.self (record { head = c.in_ok-head.head; binders = c.in_ok-below.below.binders; body = c.in_ok-below.below.body }) (omega arith)
+    c.alt-item.is c.loop-alt.invariant (c.in_ok-head.ensures (locals_of c.args.scope.now), below_in c.as_slice.result.now c.alt-item.result.binders c.as_slice.ensures c.in_ok-below.ensures) (search rules)
 
-pub named_alts-returns : goal.named_alts-returns
-named_alts-returns t c =
-    alts_whole c.args.own.now (words_of c.args.scope.now) (halts_of c.args.alts.now) c.args.alts.now c.loop-alt.alt-index c.loop-alt.out (omega arith) c.loop-alt.invariant
+pub named_binds-loop-i-init : goal.named_binds-loop-i-init
+named_binds-loop-i-init t c = record { each = each_start c.args.binds.now c.new-out.result c.new-out.ensures; words = ap (λ z. bind_words (binds_of z)) c.new-out.ensures }
+
+pub named_binds-loop-i-preserved : goal.named_binds-loop-i-preserved
+named_binds-loop-i-preserved t c =
+    let low : c.loop-i.i < length c.args.binds.now = omega arith in
+    let same : length c.args.words.now ≡ length c.args.binds.now = c.requires in record {
+      each = each_step _ c.args.binds.now c.loop-i.i c.index-binds-i.result c.loop-i.out c.push.new.self (record { name = c.in_ok-name.name; ty = c.in_ok-ty.ty; rhs = c.in_ok-rhs.rhs }) low
+          c.index-binds-i.is c.loop-i.invariant.each (c.in_ok-ty.ensures, c.in_ok-rhs.ensures) (search rules);
+      words = bind_words_step c.args.words.now c.loop-i.i c.index-words-i.result c.loop-i.out c.push.new.self (record { name = c.in_ok-name.name; ty = c.in_ok-ty.ty; rhs = c.in_ok-rhs.rhs }) (omega arith)
+          c.index-words-i.is c.loop-i.invariant.words (search rules) (search rules);
+    }
+
+pub named_binds-returns-clause-named : goal.named_binds-returns-clause-named
+named_binds-returns-clause-named t c = named_binds c.args.binds.now c.loop-i.out (each_all c.args.binds.now c.loop-i.i c.loop-i.out (omega arith) c.loop-i.invariant.each)
+
+pub named_joins-loop-i-init : goal.named_joins-loop-i-init
+named_joins-loop-i-init t c = record { each = each_start c.args.joins.now c.new-out.result c.new-out.ensures; words = ap (λ z. join_words (joins_of z)) c.new-out.ensures }
+
+pub named_joins-loop-i-preserved : goal.named_joins-loop-i-preserved
+named_joins-loop-i-preserved t c =
+    let low : c.loop-i.i < length c.args.joins.now = omega arith in
+    let same : length c.args.words.now ≡ length c.args.joins.now = c.requires in record {
+      each = each_step _ c.args.joins.now c.loop-i.i c.index-joins-i.result c.loop-i.out c.push.new.self (record { name = c.in_ok-name.name; params = c.in_ok-below.below.binders; rhs = c.in_ok-below.below.body }) low
+          c.index-joins-i.is c.loop-i.invariant.each (below_in c.as_slice.result.now c.index-joins-i.result.params c.as_slice.ensures c.in_ok-below.ensures) (search rules);
+      words = join_words_step c.args.words.now c.loop-i.i c.index-words-i.result c.loop-i.out c.push.new.self (record { name = c.in_ok-name.name; params = c.in_ok-below.below.binders; rhs = c.in_ok-below.below.body })
+          (omega arith) c.index-words-i.is c.loop-i.invariant.words (search rules) (search rules);
+    }
+
+pub named_joins-returns-clause-named : goal.named_joins-returns-clause-named
+named_joins-returns-clause-named t c = named_joins c.args.joins.now c.loop-i.out (each_all c.args.joins.now c.loop-i.i c.loop-i.out (omega arith) c.loop-i.invariant.each)
+
+pub let_binds-returns-clause-named : goal.let_binds-returns-clause-named
+let_binds-returns-clause-named t c =
+    let s = locals_of c.args.scope.now in
+    elim c.if-recursive.branch [
+      | let_binds-then-recursive+in_ok-binds w ↦ binds_then (with_values c.args.group.now.names s) s w.if-recursive.true (ap binds_of w.binds-is) w.in_ok-binds.ensures.named
+      | let_binds-else-recursive+in_ok-binds-2 w ↦ binds_else (with_values c.args.group.now.names s) s w.if-recursive.false (ap binds_of w.binds-is) w.in_ok-binds-2.ensures.named
+    ]
+
+pub let_binds-returns-clause-words : goal.let_binds-returns-clause-words
+let_binds-returns-clause-words t c =
+    elim c.if-recursive.branch [
+      | let_binds-then-recursive+in_ok-binds w ↦ ap (λ z. bind_words (binds_of z)) w.binds-is ∙ w.in_ok-binds.ensures.words ∙ c.as_slice-words.ensures
+      | let_binds-else-recursive+in_ok-binds-2 w ↦ ap (λ z. bind_words (binds_of z)) w.binds-is ∙ w.in_ok-binds-2.ensures.words ∙ c.as_slice-words.ensures
+    ]
+
+pub join_members-returns-clause-named : goal.join_members-returns-clause-named
+join_members-returns-clause-named t c =
+    let s = locals_of c.args.scope.now in
+    elim c.if-recursive.branch [
+      | join_members-then-recursive+in_ok-joins w ↦ joins_then (with_joins c.args.group.now.names s) s w.if-recursive.true (ap joins_of w.joins-is) w.in_ok-joins.ensures.named
+      | join_members-else-recursive+in_ok-joins-2 w ↦ joins_else (with_joins c.args.group.now.names s) s w.if-recursive.false (ap joins_of w.joins-is) w.in_ok-joins-2.ensures.named
+    ]
+
+pub join_members-returns-clause-words : goal.join_members-returns-clause-words
+join_members-returns-clause-words t c =
+    elim c.if-recursive.branch [
+      | join_members-then-recursive+in_ok-joins w ↦ ap (λ z. join_words (joins_of z)) w.joins-is ∙ w.in_ok-joins.ensures.words ∙ c.as_slice-words.ensures
+      | join_members-else-recursive+in_ok-joins-2 w ↦ ap (λ z. join_words (joins_of z)) w.joins-is ∙ w.in_ok-joins-2.ensures.words ∙ c.as_slice-words.ensures
+    ]

@@ -3,4 +3,4 @@ use Rattle.fc_syntax.specs.View.{cons_of}
 use Rattle.fc_syntax.proofs.copy_module.copy_cons.Given as goal
 
 abbrev pub invariant-loop-x : goal.invariant-loop-x
-invariant-loop-x l = cons_of l.all ≡ cons_of (take l.x-index l.items)
+invariant-loop-x g l = cons_of l.all ≡ cons_of (take l.x-index l.items)

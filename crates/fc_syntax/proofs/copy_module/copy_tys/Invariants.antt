@@ -3,4 +3,4 @@ use Rattle.fc_syntax.specs.View.{tys_of}
 use Rattle.fc_syntax.proofs.copy_module.copy_tys.Given as goal
 
 abbrev pub invariant-loop-x : goal.invariant-loop-x
-invariant-loop-x l = tys_of l.all ≡ tys_of (take l.x-index l.items)
+invariant-loop-x g l = tys_of l.all ≡ tys_of (take l.x-index l.items)

@@ -1,0 +1,284 @@
+-- Constructors, parameters and declarations that are named: one step a form.
+use Rattle.std.proofs.Common.{◌≡◌, ◌<◌, ◌≤◌, ◌+◌, ◌++◌, ℕ, true, false, List, [], ◌∷◌, take, map, reverse, length, get_or, refl, sym, ap, ◌∙◌, subst}
+use Rattle.std.proofs.lemmas.List.{append-nil, append_assoc, map-append, reverse-append, take_all}
+use Rattle.fc_syntax.specs.declared.ty.Ty as T
+use Rattle.fc_syntax.specs.declared.module.ConDecl as RustConDecl
+use Rattle.fc_syntax.specs.declared.module.Decl as RustDecl
+use Rattle.fc_syntax.specs.declared.ty.Ref.{Ref}
+use Rattle.fc_syntax.specs.View.{con_of, cons_of, decl_of, decls_of}
+use Rattle.fc_syntax.specs.declared.ty.Name.{Name}
+use Rattle.fc_syntax.specs.Tree.{Word, Kind, Ty, Binder, Expr, Param, Plain, ConDecl, ConOf, Decl, DData, DNew, DFamily, DAxiom, DDef, DWrap}
+use Rattle.fc_model.specs.Nameless.{NTy, NBinder, NExpr, NParam, NConDecl, NConOf, NDecl, NData, NNew, NFamily, NAxiom, NDef, NWrap}
+use Rattle.fc_model.specs.NamelessView.{nty_of, ntys_of, ncon_of, ncons_of, ndecl_of, ndecls_of}
+use Rattle.fc_model.specs.Resolution.{Top, Locals, Words, WordSet, no_locals, no_word, no_words, plus, plus_all, with_type, in_params, nparam, param_word, plain_kind, plain_word, words_by, type_words, term_words, coercion_words, behind}
+use Rattle.fc_model.specs.ResolutionRules.{AreDistinct, no_words_left, one_word_more, ResolvesTys, ResolvesTy, ResolvesCons}
+use Rattle.fc_model.specs.ResolutionRules.{resolves_no_constructors, resolves_constructors, resolves_data, resolves_newtype, resolves_family, resolves_equation, resolves_def, resolves_wrap, resolves_no_decls, resolves_decls}
+use Rattle.fc_model.proofs.Sameness.{false_true}
+use Rattle.fc_scope.specs.ScopeWords.{with_types}
+use Rattle.fc_naming.specs.Scoped.{Counts, Saying, HoldsTy, HoldsTys, HoldsBinders, HoldsCons, HoldsExpr, in_binders, in_parameters, in_type, nothing_around, is_meant}
+use Rattle.fc_naming.specs.Standing.{AreWithin, is_found, is_found_by, is_kept, more_types}
+use Rattle.fc_naming.specs.Used.{AddsTy, AddsTys, AddsBinders}
+use Rattle.fc_naming.specs.Named.{AreEach, each_none, each_more, IsNamedTy, IsNamedTys, IsNamedExpr, TakeWords}
+use Rattle.fc_naming.specs.Declarations.{FieldsUse, IsNamedCon, con_named, IsNamedCons, HaveWords, IsNamedDecl, IsNamedDecls}
+use Rattle.fc_naming.proofs.Both.{Follows, both_binders, both_cons, both_expr, both_ty, both_tys}
+use Rattle.fc_naming.proofs.Collecting.{take_item, within_same, within_both}
+use Rattle.fc_naming.proofs.Groups.{words_enter, words_resolve, words_tys}
+use Rattle.fc_naming.proofs.Naming.{By, Same, below_same, beyond_meant, found_by, found_kept, found_meant, is_declared, kept_within, takes_type}
+
+-- WORDS OF THE FIELDS
+
+tys_end : (P : Saying) (k : Counts) (items : List (T.Ty ℕ)) (x : T.Ty ℕ) → HoldsTys P k (ntys_of items) → HoldsTy P k (nty_of x) → HoldsTys P k (ntys_of (items ++ x ∷ []))
+tys_end P k [] x h g = (g, tt)
+tys_end P k (y ∷ items) x h g = (h.0, tys_end P k items x h.1 g)
+
+pub adds_no_tys : (own : Word) (s : Locals) (k : Counts) (items : List (T.Ty ℕ)) (ws : Words) → AddsTys own s k (ntys_of (take 0 items)) ws ws
+adds_no_tys own s k items ws = record { kept = tt; within = within_same _ }
+
+pub adds_tys : (own : Word) (s : Locals) (k : Counts) (items : List (T.Ty ℕ)) (i : ℕ) (x : T.Ty ℕ) (ws mid more : Words) → i < length items → x ≡ get_or items i x
+    → AddsTys own s k (ntys_of (take i items)) ws mid → AddsTy own s k (nty_of x) mid more → AddsTys own s k (ntys_of (take (i + 1) items)) ws more
+adds_tys own s k items i x ws mid more low is a b = record {
+  kept = subst (λ (l : List (T.Ty ℕ)). HoldsTys (is_kept own more s) k (ntys_of l)) (sym (take_item items i x low is))
+      (tys_end (is_kept own more s) k (take i items) x (both_tys _ _ _ _ (kept_within own mid more s b.within) k k refl (ntys_of (take i items)) a.kept a.kept) b.kept);
+  within = within_both _ _ _ a.within b.within;
+}
+
+pub fields_use : {own : Word} {s : Locals} {k l : Counts} {ns ms : List NBinder} {ts us : List NTy} {ws mid more : Words} → AddsBinders own s k ns ws mid → k ≡ nothing_around → l ≡ in_binders ns k
+    → AddsTys own s l ts mid more → ns ≡ ms → ts ≡ us → FieldsUse own s ms us more
+fields_use {own = own} {s = s} {k = k} {l = l} {ns = ns} {ts = ts} {us = us} {mid = mid} {more = more} a none below b e f =
+    subst (λ (xs : List NBinder). FieldsUse own s xs us more) e (subst (λ (xs : List NTy). FieldsUse own s ns xs more) f (record {
+      binders = subst (λ (c : Counts). HoldsBinders (is_kept own more s) c ns) none (both_binders _ _ _ _ (kept_within own mid more s b.within) k k refl ns a.kept a.kept);
+      fields = subst (λ (c : Counts). HoldsTys (is_kept own more s) c ts) (below ∙ ap (in_binders ns) none) b.kept;
+    }))
+
+-- CONSTRUCTORS
+
+none_within : (ws : Words) → AreWithin no_words ws
+none_within ws = record { types = λ w h. false_true h; terms = λ w h. false_true h; coercions = λ w h. false_true h }
+
+con_from : {top : Top} {s t : Locals} {taken more : Words} (n : Word) {cs : List NBinder} {bs : List Binder} {ts : List NTy} {fields : List Ty} → FieldsUse top.own s cs ts taken → TakeWords top s taken cs bs t more
+    → IsNamedTys top t ts fields → IsNamedCon top s (NConOf n cs ts) (ConOf n bs fields)
+con_from {top = top} {s = s} {t = t} {taken = taken} {more = more} n {cs = cs} {bs = bs} {ts = ts} {fields = fields} u d p = con_named
+    (λ h g. words_resolve top s t taken more cs bs d no_words (none_within taken) (both_binders _ _ _ _ (found_kept top taken s) nothing_around nothing_around refl cs h u.binders))
+    (λ h g. subst (λ (z : Locals). ResolvesTys top z.types fields ts) (sym (words_enter top s t taken more cs bs d))
+    (p.resolves (words_tys top s t taken more cs bs d ts (both_tys _ _ _ _ (found_kept top taken s) _ _ refl ts g u.fields))))
+
+pub named_con : {top : Top} {s t : Locals} {taken more : Words} {n m : Word} {cs ds : List NBinder} {bs : List Binder} {ts us : List NTy} {fields : List Ty} → FieldsUse top.own s cs ts taken
+    → TakeWords top s taken ds bs t more → IsNamedTys top t us fields → ds ≡ cs → us ≡ ts → n ≡ m → IsNamedCon top s (NConOf m cs ts) (ConOf n bs fields)
+named_con {top = top} {s = s} {t = t} {taken = taken} {more = more} {n = n} {cs = cs} {bs = bs} {ts = ts} {fields = fields} u d p e f is =
+    subst (λ (w : Word). IsNamedCon top s (NConOf w cs ts) (ConOf n bs fields)) is
+    (con_from n u (subst (λ (xs : List NBinder). TakeWords top s taken xs bs t more) e d) (subst (λ (xs : List NTy). IsNamedTys top t xs fields) f p))
+
+first_new : {earlier : WordSet} {w : Word} {ws : List Word} → AreDistinct earlier (w ∷ ws) → earlier w ≡ false
+first_new (one_word_more new rest) = new
+
+others_new : {earlier : WordSet} {w : Word} {ws : List Word} → AreDistinct earlier (w ∷ ws) → AreDistinct (plus w earlier) ws
+others_new (one_word_more new rest) = rest
+
+con_first : {top : Top} {s : Locals} {n : NConDecl} {c : ConDecl} {ns : List NConDecl} {cs : List ConDecl} → IsNamedCon top s n c → IsNamedCons top s ns cs → IsNamedCons top s (n ∷ ns) (c ∷ cs)
+con_first (con_named {n = n} f g) rest = record {
+  words = ap (λ (ws : List Word). n ∷ ws) rest.words;
+  resolves = λ earlier d h. resolves_constructors (first_new d) (f h.0.0 h.0.1) (g h.0.0 h.0.1) (rest.resolves (plus n earlier) (others_new d) h.1);
+}
+
+pub named_cons : {top : Top} {s : Locals} (items : List (RustConDecl.ConDecl ℕ)) (out : List (RustConDecl.ConDecl Word)) → AreEach (λ x y. IsNamedCon top s (ncon_of x) (con_of y)) items out
+    → IsNamedCons top s (ncons_of items) (cons_of out)
+named_cons _ _ each_none = record { words = refl; resolves = λ earlier d h. resolves_no_constructors }
+named_cons _ _ (each_more p rest) = con_first p (named_cons _ _ rest)
+
+-- PARAMETERS
+
+distinct_end : (taken : WordSet) (ws : List Word) (v : Word) → AreDistinct taken ws → plus_all ws taken v ≡ false → AreDistinct taken (ws ++ v ∷ [])
+distinct_end taken [] v no_words_left free = one_word_more free no_words_left
+distinct_end taken (w ∷ ws) v (one_word_more new rest) free = one_word_more new (distinct_end (plus w taken) ws v rest free)
+
+plus_all_end : (taken : WordSet) (ws : List Word) (v : Word) → plus_all (ws ++ v ∷ []) taken ≡ plus v (plus_all ws taken)
+plus_all_end taken [] v = refl
+plus_all_end taken (w ∷ ws) v = plus_all_end (plus w taken) ws v
+
+-- parameters that are gone through, and the words that they took
+pub record TookWords {I X Y : Type 0} (of : I → Y) (word : Y → Word) (bare nbare : Y → X) (items out : List I) (names : List Word) (taken : WordSet) : Type 0 where
+  pub own : HaveWords word bare (map nbare (map of items)) (map of out) names
+  pub taken_then : taken ≡ plus_all (map word (map of out)) no_word
+
+pub took_start : {I X Y : Type 0} (of : I → Y) (word : Y → Word) (bare nbare : Y → X) (items out : List I) (names : List Word) (taken : WordSet) → out ≡ [] → names ≡ [] → taken ≡ no_word
+    → TookWords of word bare nbare (take 0 items) out names taken
+took_start of word bare nbare items out names taken e f g =
+    subst (λ (o : List _). TookWords of word bare nbare [] o names taken) (sym e) (record { own = record { distinct = no_words_left; same = refl; reversed = f }; taken_then = g })
+
+pub took_step : {I X Y : Type 0} (of : I → Y) (word : Y → Word) (bare nbare : Y → X) (items : List I) (i : ℕ) (x : I) (out longer : List I) (y : I) (names further : List Word) (mid more : WordSet)
+    → i < length items → x ≡ get_or items i x → TookWords of word bare nbare (take i items) out names mid → bare (of y) ≡ nbare (of x) → mid (word (of y)) ≡ false → more ≡ plus (word (of y)) mid
+    → longer ≡ out ++ y ∷ [] → further ≡ word (of y) ∷ names → TookWords of word bare nbare (take (i + 1) items) longer further more
+took_step of word bare nbare items i x out longer y names further mid more low is a same free grown pushed added =
+    let v = word (of y) in
+    let here : map word (map of longer) ≡ map word (map of out) ++ v ∷ [] = ap (λ o. map word (map of o)) pushed ∙ ap (map word) (map-append of out (y ∷ [])) ∙ map-append word (map of out) (of y ∷ []) in
+    let bares : map bare (map of longer) ≡ map bare (map of out) ++ bare (of y) ∷ [] = ap (λ o. map bare (map of o)) pushed ∙ ap (map bare) (map-append of out (y ∷ [])) ∙ map-append bare (map of out) (of y ∷ []) in
+    let nbares : map nbare (map of (take (i + 1) items)) ≡ map nbare (map of (take i items)) ++ nbare (of x) ∷ [] =
+    ap (λ o. map nbare (map of o)) (take_item items i x low is) ∙ ap (map nbare) (map-append of (take i items) (x ∷ [])) ∙ map-append nbare (map of (take i items)) (of x ∷ []) in
+    record {
+      own = record {
+        distinct = subst (λ (ws : List Word). AreDistinct no_word ws) (sym here) (distinct_end no_word (map word (map of out)) v a.own.distinct (ap (λ (z : WordSet). z v) (sym a.taken_then) ∙ free));
+        same = bares ∙ ap (λ b. map bare (map of out) ++ b ∷ []) same ∙ ap (λ bs. bs ++ nbare (of x) ∷ []) a.own.same ∙ sym nbares;
+        reversed = added ∙ ap (λ ns. v ∷ ns) a.own.reversed ∙ sym (ap reverse here ∙ reverse-append (map word (map of out)) (v ∷ []));
+      };
+      taken_then = grown ∙ ap (plus v) a.taken_then ∙ sym (ap (λ ws. plus_all ws no_word) here ∙ plus_all_end no_word (map word (map of out)) v);
+    }
+
+pub took_all : {I X Y : Type 0} (of : I → Y) (word : Y → Word) (bare nbare : Y → X) (items : List I) (i : ℕ) (out : List I) (names : List Word) (taken : WordSet) → length items ≤ i
+    → TookWords of word bare nbare (take i items) out names taken → HaveWords word bare (map nbare (map of items)) (map of out) names
+took_all of word bare nbare items i out names taken h a =
+    subst (λ (l : List _). HaveWords word bare (map nbare (map of l)) (map of out) names) (take_all i items h) a.own
+
+-- the scope of the parameters
+names_in : {X Y : Type 0} {word : Y → Word} {bare : Y → X} {n : List X} {t : List Y} {names : List Word} → HaveWords word bare n t names → with_types names no_locals ≡ in_params (map word t)
+names_in {word = word} {t = t} w = ap (λ (ns : List Word). with_types ns no_locals) w.reversed ∙ ap (λ (ts : List Word). record no_locals { types = ts }) (append-nil (reverse (map word t)))
+
+abbrev enter_types : List Word → Locals → Locals
+enter_types [] s = s
+enter_types (w ∷ ws) s = enter_types ws (with_type w s)
+
+types_entered : (ws : List Word) (s : Locals) → enter_types ws s ≡ with_types (reverse ws) s
+types_entered [] s = refl
+types_entered (w ∷ ws) s =
+    types_entered ws (with_type w s) ∙ ap (λ (ts : List Word). record s { types = ts }) (sym (append_assoc (reverse ws) (w ∷ []) s.types)) ∙ ap (λ (ts : List Word). with_types ts s) (sym (reverse-append (w ∷ []) ws))
+
+in_parameters_type : {X : Type 0} (ps : List X) (k : Counts) → in_parameters ps (in_type k) ≡ in_type (in_parameters ps k)
+in_parameters_type [] k = refl
+in_parameters_type (p ∷ ps) k = in_parameters_type ps (in_type k)
+
+-- no word of a type is taken
+abbrev no_types : Words
+no_types = record { types = no_word; terms = λ w. true; coercions = λ w. true }
+
+meant_by : (top : Top) → Follows (is_meant top) (is_meant top) (is_found_by top no_types no_locals) Same
+meant_by top = below_same (is_meant top) (is_meant top) (is_found_by top no_types no_locals) (record {
+  type_at = λ k i a b. beyond_meant _ k i a;
+  value_at = λ k i a b. beyond_meant _ k i a;
+  join_at = λ k i a b. beyond_meant _ k i a;
+  coercion_at = λ k i a b. beyond_meant _ k i a;
+  type_name = λ n a b. is_declared top top.types n a;
+  axiom_name = λ n a b. is_declared top top.coercions n a;
+  constructor = λ n a b. is_declared top top.terms n a;
+  definition = λ n a b. (is_declared top top.terms n a, λ own. (refl, refl));
+})
+
+-- what means something below parameters is found below their words
+module _ (top : Top) (Q : Saying → Counts → Type 0) (move : (A C : Saying) (R : Counts → Counts → Type 0) → Follows A A C R → (k l : Counts) → R k l → Q A k → Q C l) where
+  below_words : {X Y : Type 0} (word : Y → Word) (bare : Y → X) (ps : List Y) (ws : Words) (s : Locals) → AreDistinct ws.types (map word ps)
+      → Q (is_found_by top ws s) (in_parameters (map bare ps) nothing_around) → Q (is_found top (enter_types (map word ps) s)) nothing_around
+  below_words word bare [] ws s d q = move _ _ Same (found_by top ws s) nothing_around nothing_around refl q
+  below_words word bare (p ∷ ps) ws s (one_word_more free rest) q =
+      below_words word bare ps (more_types (word p) ws) (with_type (word p) s) rest
+      (move _ _ (By in_type) (takes_type top ws s (word p) free) (in_parameters (map bare ps) (in_type nothing_around)) (in_parameters (map bare ps) nothing_around)
+      (in_parameters_type (map bare ps) nothing_around) q)
+
+  params_found : {X Y : Type 0} {word : Y → Word} {bare : Y → X} {n : List X} {ps : List Y} {names : List Word} → HaveWords word bare n ps names
+      → Q (is_meant top) (in_parameters (map bare ps) nothing_around) → Q (is_found top (with_types names no_locals)) nothing_around
+  params_found {word = word} {bare = bare} {ps = ps} w q =
+      subst (λ (s : Locals). Q (is_found top s) nothing_around) (types_entered (map word ps) no_locals ∙ ap (λ (ns : List Word). with_types ns no_locals) (sym w.reversed))
+      (below_words word bare ps no_types no_locals w.distinct (move _ _ Same (meant_by top) (in_parameters (map bare ps) nothing_around) (in_parameters (map bare ps) nothing_around) refl q))
+
+cons_found : (top : Top) (cs : List NConDecl) {X Y : Type 0} {word : Y → Word} {bare : Y → X} {n : List X} {ps : List Y} {names : List Word} → HaveWords word bare n ps names
+    → HoldsCons (is_meant top) (in_parameters (map bare ps) nothing_around) cs → HoldsCons (is_found top (with_types names no_locals)) nothing_around cs
+cons_found top cs w h = params_found top (λ P k. HoldsCons P k cs) (λ A C R f k l r q. both_cons A A C R f k l r cs q q) w h
+
+ty_found : (top : Top) (t : NTy) {X Y : Type 0} {word : Y → Word} {bare : Y → X} {n : List X} {ps : List Y} {names : List Word} → HaveWords word bare n ps names
+    → HoldsTy (is_meant top) (in_parameters (map bare ps) nothing_around) t → HoldsTy (is_found top (with_types names no_locals)) nothing_around t
+ty_found top t w h = params_found top (λ P k. HoldsTy P k t) (λ A C R f k l r q. both_ty A A C R f k l r t q q) w h
+
+-- DECLARATIONS
+
+pub named_data : {top : Top} {n : Word} {ns : List NParam} {ps : List Param} {names : List Word} {ncs : List NConDecl} {cs : List ConDecl} → HaveWords param_word nparam ns ps names
+    → IsNamedCons top (with_types names no_locals) ncs cs → {d : NDecl} → d ≡ NData n ns ncs → IsNamedDecl top d (DData n ps cs)
+named_data {top = top} {n = n} {ns = ns} {ps = ps} {names = names} {ncs = ncs} {cs = cs} w c is =
+    subst (λ (d : NDecl). IsNamedDecl top d (DData n ps cs)) (sym is) (subst (λ (xs : List NParam). IsNamedDecl top (NData n xs ncs) (DData n ps cs)) w.same (record {
+      types = refl;
+      terms = c.words;
+      coercions = refl;
+      resolves = λ ws a b e h. resolves_data (first_new a) w.distinct
+          (subst (λ (s : Locals). ResolvesCons top s ws.terms cs ncs) (names_in w) (c.resolves ws.terms b (cons_found top ncs w h)));
+    }))
+
+pub named_newtype : {top : Top} {n con : Word} {ns : List NParam} {ps : List Param} {names : List Word} {a : NTy} {t : Ty} → HaveWords param_word nparam ns ps names
+    → IsNamedTy top (with_types names no_locals) a t → {d : NDecl} → d ≡ NNew n ns a con → IsNamedDecl top d (DNew n ps t con)
+named_newtype {top = top} {n = n} {con = con} {ns = ns} {ps = ps} {names = names} {a = a} {t = t} w p is =
+    subst (λ (d : NDecl). IsNamedDecl top d (DNew n ps t con)) (sym is) (subst (λ (xs : List NParam). IsNamedDecl top (NNew n xs a con) (DNew n ps t con)) w.same (record {
+      types = refl;
+      terms = refl;
+      coercions = refl;
+      resolves = λ ws x b e h. resolves_newtype (first_new x) w.distinct
+          (subst (λ (s : Locals). ResolvesTy top s.types t a) (names_in w) (p.resolves (ty_found top a w h))) (first_new e);
+    }))
+
+pub named_family : {top : Top} {n : Word} {ns : List Kind} {ps : List Plain} {names : List Word} {k : Kind} → HaveWords plain_word plain_kind ns ps names
+    → {d : NDecl} → d ≡ NFamily n ns k → IsNamedDecl top d (DFamily n ps k)
+named_family {top = top} {n = n} {ns = ns} {ps = ps} {k = k} w is =
+    subst (λ (d : NDecl). IsNamedDecl top d (DFamily n ps k)) (sym is) (subst (λ (xs : List Kind). IsNamedDecl top (NFamily n xs k) (DFamily n ps k)) w.same (record {
+      types = refl;
+      terms = refl;
+      coercions = refl;
+      resolves = λ ws x b e h. resolves_family (first_new x) w.distinct;
+    }))
+
+pub named_equation : {top : Top} {n : Word} {ns : List Kind} {ps : List Plain} {names : List Word} {a b : NTy} {t u : Ty} → HaveWords plain_word plain_kind ns ps names
+    → IsNamedTy top (with_types names no_locals) a t → IsNamedTy top (with_types names no_locals) b u → {d : NDecl} → d ≡ NAxiom n ns a b → IsNamedDecl top d (DAxiom n ps t u)
+named_equation {top = top} {n = n} {ns = ns} {ps = ps} {names = names} {a = a} {b = b} {t = t} {u = u} w p q is =
+    subst (λ (d : NDecl). IsNamedDecl top d (DAxiom n ps t u)) (sym is) (subst (λ (xs : List Kind). IsNamedDecl top (NAxiom n xs a b) (DAxiom n ps t u)) w.same (record {
+      types = refl;
+      terms = refl;
+      coercions = refl;
+      resolves = λ ws x y e h. resolves_equation (first_new e) w.distinct
+          (subst (λ (s : Locals). ResolvesTy top s.types t a) (names_in w) (p.resolves (ty_found top a w h.0)))
+          (subst (λ (s : Locals). ResolvesTy top s.types u b) (names_in w) (q.resolves (ty_found top b w h.1)));
+    }))
+
+ty_meant : (top : Top) (t : NTy) → HoldsTy (is_meant top) nothing_around t → HoldsTy (is_found top no_locals) nothing_around t
+ty_meant top t h = both_ty _ _ _ _ (found_meant top) nothing_around nothing_around refl t h h
+
+expr_meant : (top : Top) (e : NExpr) → HoldsExpr (is_meant top) nothing_around e → HoldsExpr (is_found top no_locals) nothing_around e
+expr_meant top e h = both_expr _ _ _ _ (found_meant top) nothing_around nothing_around refl e h h
+
+pub named_def : {top : Top} {n : Word} {a : NTy} {t : Ty} {e : NExpr} {f : Expr} → IsNamedTy top no_locals a t → IsNamedExpr top no_locals e f → {d : NDecl} → d ≡ NDef n a e → IsNamedDecl top d (DDef n t f)
+named_def {top = top} {n = n} {a = a} {t = t} {e = e} {f = f} p q is = subst (λ (d : NDecl). IsNamedDecl top d (DDef n t f)) (sym is) (record {
+  types = refl;
+  terms = refl;
+  coercions = refl;
+  resolves = λ ws x y z h. resolves_def (first_new y) (p.resolves (ty_meant top a h.0)) (q.resolves (expr_meant top e h.1));
+})
+
+pub named_wrap : {top : Top} {n : Word} {a : NTy} {t : Ty} {e : NExpr} {f : Expr} → IsNamedTy top no_locals a t → IsNamedExpr top no_locals e f → {d : NDecl} → d ≡ NWrap n a e → IsNamedDecl top d (DWrap n t f)
+named_wrap {top = top} {n = n} {a = a} {t = t} {e = e} {f = f} p q is = subst (λ (d : NDecl). IsNamedDecl top d (DWrap n t f)) (sym is) (record {
+  types = refl;
+  terms = refl;
+  coercions = refl;
+  resolves = λ ws x y z h. resolves_wrap (first_new y) (p.resolves (ty_meant top a h.0)) (q.resolves (expr_meant top e h.1));
+})
+
+-- SOME DECLARATIONS
+
+first_distinct : (earlier : WordSet) (vs ws : List Word) → AreDistinct earlier (vs ++ ws) → AreDistinct earlier vs
+first_distinct earlier [] ws d = no_words_left
+first_distinct earlier (v ∷ vs) ws (one_word_more new rest) = one_word_more new (first_distinct (plus v earlier) vs ws rest)
+
+rest_distinct : (earlier : WordSet) (vs ws : List Word) → AreDistinct earlier (vs ++ ws) → AreDistinct (plus_all vs earlier) ws
+rest_distinct earlier [] ws d = d
+rest_distinct earlier (v ∷ vs) ws (one_word_more new rest) = rest_distinct (plus v earlier) vs ws rest
+
+joined : {vs us ws xs : List Word} → vs ≡ us → ws ≡ xs → vs ++ ws ≡ us ++ xs
+joined {us = us} {ws = ws} e f = ap (λ (zs : List Word). zs ++ ws) e ∙ ap (λ (zs : List Word). us ++ zs) f
+
+decl_first : {top : Top} {n : NDecl} {d : Decl} {ns : List NDecl} {ds : List Decl} → IsNamedDecl top n d → IsNamedDecls top ns ds → IsNamedDecls top (n ∷ ns) (d ∷ ds)
+decl_first {d = d} {ds = ds} p rest = record {
+  types = joined p.types rest.types;
+  terms = joined p.terms rest.terms;
+  coercions = joined p.coercions rest.coercions;
+  resolves = λ ws a b c h. resolves_decls
+      (p.resolves ws (first_distinct _ (type_words d) (words_by type_words ds) a) (first_distinct _ (term_words d) (words_by term_words ds) b)
+      (first_distinct _ (coercion_words d) (words_by coercion_words ds) c) h.0)
+      (rest.resolves (behind d ws) (rest_distinct _ (type_words d) (words_by type_words ds) a) (rest_distinct _ (term_words d) (words_by term_words ds) b)
+      (rest_distinct _ (coercion_words d) (words_by coercion_words ds) c) h.1);
+}
+
+pub named_decls : {top : Top} (items : List (RustDecl.Decl ℕ Ref)) (out : List (RustDecl.Decl Word Name)) → AreEach (λ x y. IsNamedDecl top (ndecl_of x) (decl_of y)) items out
+    → IsNamedDecls top (ndecls_of items) (decls_of out)
+named_decls _ _ each_none = record { types = refl; terms = refl; coercions = refl; resolves = λ ws a b c h. resolves_no_decls }
+named_decls _ _ (each_more p rest) = decl_first p (named_decls _ _ rest)

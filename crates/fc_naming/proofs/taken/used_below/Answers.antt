@@ -1,0 +1,6 @@
+use Rattle.std.proofs.Common.{rules}
+use Rattle.fc_naming.proofs.Collecting.{below_uses, binders_below, expr_below}
+use Rattle.fc_naming.proofs.taken.used_below.Goals as goal
+
+pub returns : goal.returns
+returns c = below_uses (binders_below c.in_ok-inside.ensures.adds (search rules)) (expr_below c.in_ok-use_expr.ensures (search rules))

@@ -1,0 +1,11 @@
+use Rattle.std.proofs.Common.{rules}
+use Rattle.fc_naming.proofs.Collecting.{expr_below, join_uses_alone, join_uses_group, joins_below}
+use Rattle.fc_naming.proofs.taken.used_in_join.Goals as goal
+use Rattle.fc_naming.proofs.taken.used_in_join.Goals.{then-recursive+in_ok-use_joins, else-recursive}
+
+pub returns : goal.returns
+returns c =
+    elim c.if-recursive.branch [
+      | then-recursive+in_ok-use_joins w ↦ join_uses_group w.if-recursive.true (joins_below w.in_ok-use_joins.ensures (search rules)) (search rules) (expr_below c.in_ok-use_expr.ensures (search rules))
+      | else-recursive w ↦ join_uses_alone w.if-recursive.false (expr_below c.in_ok-use_expr.ensures (search rules))
+    ]

@@ -1,0 +1,7 @@
+use Rattle.std.proofs.Common.{rules}
+use Rattle.fc_naming.proofs.Collecting.{alts_below}
+use Rattle.fc_naming.proofs.NamedTypes.{may_take_alts}
+use Rattle.fc_naming.proofs.taken.word_around.Goals as goal
+
+pub returns : goal.returns
+returns c = may_take_alts c.in_ok-word.word (alts_below c.in_ok-use_alts.ensures (search rules)) c.in_ok-word.ensures.free

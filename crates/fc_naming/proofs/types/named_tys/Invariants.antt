@@ -1,0 +1,10 @@
+use Rattle.std.proofs.Common.{take}
+use Rattle.fc_syntax.specs.View.{ty_of}
+use Rattle.fc_model.specs.NamelessView.{nty_of}
+use Rattle.fc_scope.specs.ScopeWords.{locals_of}
+use Rattle.fc_naming.specs.Known.{top_by}
+use Rattle.fc_naming.specs.Named.{AreEach, IsNamedTy}
+use Rattle.fc_naming.proofs.types.named_tys.Given as goal
+
+abbrev pub invariant-loop-t : goal.invariant-loop-t
+invariant-loop-t l = AreEach (λ x y. IsNamedTy (top_by l.top) (locals_of l.scope) (nty_of x) (ty_of y)) (take l.t-index l.types) l.out

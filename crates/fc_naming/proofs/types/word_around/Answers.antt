@@ -1,0 +1,7 @@
+use Rattle.std.proofs.Common.{rules}
+use Rattle.fc_naming.proofs.Collecting.{ty_below}
+use Rattle.fc_naming.proofs.NamedTypes.{may_take_ty}
+use Rattle.fc_naming.proofs.types.word_around.Goals as goal
+
+pub returns : goal.returns
+returns c = may_take_ty c.in_ok-word.word (ty_below c.in_ok-use_ty.ensures (search rules)) c.in_ok-word.ensures.free

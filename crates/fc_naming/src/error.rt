@@ -1,0 +1,18 @@
+//! Why names are not put back.
+use fc_syntax::Memory;
+
+/// Why a nameless module is not written with names.
+#[derive(Debug, Drop)]
+pub enum NotNamed {
+    /// A distance reaches no binder, or a name is not known: the module itself does not declare it, or it is of a module that is
+    /// not imported.
+    Unscoped,
+    /// Memory or a count of 32 bits was wanting.
+    Memory,
+}
+
+impl From<Memory> for NotNamed {
+    fn from(_error: Memory) -> NotNamed {
+        NotNamed::Memory
+    }
+}
