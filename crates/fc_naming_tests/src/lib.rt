@@ -2,4 +2,6 @@
 #![tactic(auto)]
 
 #[cfg(test)]
+mod by_hand;
+#[cfg(test)]
 mod tests;
