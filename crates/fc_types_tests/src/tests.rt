@@ -305,22 +305,38 @@ fn kind_word(alloc: Global, t: &NTy, declared: &Declarations) -> &'static str {
     }
 }
 
+/// Whether a type has the kind of this word, or the fault.
+fn has_kind(
+    alloc: Global,
+    declared: &Declarations,
+    t: Result<NTy, Memory>,
+    word: &str,
+) -> Result<bool, Memory> {
+    let t = t?;
+    Ok(kind_word(alloc, &t, declared) == word)
+}
+
+/// `L` applied to a type.
+fn list_of(alloc: Global, t: Result<NTy, Memory>) -> Result<NTy, Memory> {
+    applied(alloc, named(alloc, "L")?, t?)
+}
+
 #[test]
 fn kinds_of_applications_and_foralls(rt: HostRuntime) -> Result<(), Fail> {
     let alloc = rt.alloc();
     let m = with_parameter(alloc)?;
     let declared = Declarations::new(alloc, &m)?;
-    let list = named(alloc, "L")?;
-    let of_t = applied(alloc, named(alloc, "L")?, named(alloc, "T")?)?;
-    let of_int = applied(alloc, named(alloc, "L")?, NTy::IntHash)?;
-    let bound = for_all(alloc, Kind::Star, NTy::Var(0))?;
-    let unbound = for_all(alloc, Kind::Star, NTy::Var(1))?;
-    let unlifted = for_all(alloc, Kind::Hash, named(alloc, "T")?)?;
-    assert_eq!(rt; kind_word(alloc, &list, &declared), "->");
-    assert_eq!(rt; kind_word(alloc, &of_t, &declared), "*");
-    assert_eq!(rt; kind_word(alloc, &of_int, &declared), "KindMismatch");
-    assert_eq!(rt; kind_word(alloc, &bound, &declared), "*");
-    assert_eq!(rt; kind_word(alloc, &unbound, &declared), "Unbound");
-    assert_eq!(rt; kind_word(alloc, &unlifted, &declared), "UnliftedVariable");
+    let bound = for_all(alloc, Kind::Star, NTy::Var(0));
+    assert!(rt; has_kind(alloc, &declared, bound, "*")?);
+    let unbound = for_all(alloc, Kind::Star, NTy::Var(1));
+    assert!(rt; has_kind(alloc, &declared, unbound, "Unbound")?);
+    let unlifted = for_all(alloc, Kind::Hash, NTy::IntHash);
+    assert!(rt; has_kind(alloc, &declared, unlifted, "UnliftedVariable")?);
+    let of_type = list_of(alloc, named(alloc, "T"));
+    assert!(rt; has_kind(alloc, &declared, of_type, "*")?);
+    let of_integer = list_of(alloc, Ok(NTy::IntHash));
+    assert!(rt; has_kind(alloc, &declared, of_integer, "KindMismatch")?);
+    let alone = named(alloc, "L");
+    assert!(rt; has_kind(alloc, &declared, alone, "->")?);
     Ok(())
 }
