@@ -25,7 +25,7 @@ unread_as file bytes r f e short refused = unread_by file bytes f short (subst (
 
 -- the judgement of the module that the bytes spell is one of the bytes
 pub judged_bytes : (file bytes : List ℕ) (m : Module) (j : Judged) → ReadsTo bytes m → JudgesModule m j → JudgesBytes file bytes j
-judged_bytes file bytes m (judged.Accepted n) reads judges = (subst (ReadsTo bytes) (sym judges.0) reads, subst Lints (sym judges.0) judges.1)
+judged_bytes file bytes m (judged.Accepted n nameless) reads judges = (subst (ReadsTo bytes) (sym judges.0) reads, subst Lints (sym judges.0) judges.1)
 judged_bytes file bytes m (judged.Refused f) reads judges = unlinted m judges.0 judges.1 judges.2 reads judges.3 judges.4
 judged_bytes file bytes m judged.ReadFault reads judges = judges
 judged_bytes file bytes m judged.Memory reads judges = tt

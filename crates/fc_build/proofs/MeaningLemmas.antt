@@ -6,8 +6,9 @@ use Rattle.fc_files.specs.Outside.{FileMap}
 use Rattle.fc_syntax.specs.declared.ty.Name.{Name}
 use Rattle.fc_syntax.specs.Tree.{Word, Module, ModuleOf}
 use Rattle.fc_model.specs.Canonical.{canonical}
+use Rattle.fc_model.specs.Declaring.{declared_words}
 use Rattle.fc_model.specs.Faulting.{and_then}
-use Rattle.fc_model.specs.Headers.{declared_words, name_of, others, written_of}
+use Rattle.fc_model.specs.Headers.{name_of, others, written_of}
 use Rattle.fc_model.specs.Linting.{Lints, done, lint_or_fault}
 use Rattle.fc_model.specs.Nameless.{NDecl, NModuleOf}
 use Rattle.fc_model.specs.Observing.{Sees}

@@ -1,5 +1,5 @@
 -- What the judge of a list of files answers.
-use Rattle.std.specs.Prelude.{◌≡◌, ℕ, ⊤, List, Option, IsSomeAnd, Err}
+use Rattle.std.specs.Prelude.{◌≡◌, ℕ, ⊤, List, Option, IsSomeAnd, Ok, Err}
 use Rattle.fc_files.specs.Outside.{FileMap}
 use Rattle.fc_syntax.specs.View.{module_of}
 use Rattle.fc_syntax.specs.Tree.{Word, Module}
@@ -9,12 +9,14 @@ use Rattle.fc_model.specs.Faulting.{At}
 use Rattle.fc_model.specs.ReadFaults.{ReadsTo}
 use Rattle.fc_model.specs.Canonical.{IsBuilt, IsFormed}
 use Rattle.fc_model.specs.Linting.{Lints, module_lint}
+use Rattle.fc_model.specs.NamelessView.{nmodule_of}
+use Rattle.fc_model.specs.Resolution.{resolved_or_fault}
 use Rattle.fc_build.specs.declared.judge.Judged.{Judged}
 use Rattle.fc_build.specs.declared.judge.Judged.TheVariants as judged
 
 -- what the answer says of a module
 abbrev pub JudgesModule : Module → Judged → Type 0
-JudgesModule m (judged.Accepted n) = (module_of n ≡ m) × Lints m
+JudgesModule m (judged.Accepted n nameless) = (module_of n ≡ m) × Lints m
 JudgesModule m (judged.Refused f) =
     (k : FaultKind) × (def : Option Word) × (path : List ℕ) × (module_lint m ≡ Err (At k def path)) × (f ≡ of_module m k def path)
 JudgesModule m judged.ReadFault = ⊥
@@ -22,21 +24,21 @@ JudgesModule m judged.Memory = ⊤
 
 -- of the bytes of a file
 abbrev pub JudgesBytes : List ℕ → List ℕ → Judged → Type 0
-JudgesBytes file bytes (judged.Accepted m) = ReadsTo bytes (module_of m) × Lints (module_of m)
+JudgesBytes file bytes (judged.Accepted m nameless) = ReadsTo bytes (module_of m) × Lints (module_of m)
 JudgesBytes file bytes (judged.Refused f) = FaultOfBytes file bytes f
 JudgesBytes file bytes judged.ReadFault = ⊥
 JudgesBytes file bytes judged.Memory = ⊤
 
 -- of what the name of a file holds
 abbrev pub JudgesEntry : List ℕ → Option (List ℕ) → Judged → Type 0
-JudgesEntry file entry (judged.Accepted m) = IsSomeAnd entry (λ bytes. ReadsTo bytes (module_of m) × Lints (module_of m))
+JudgesEntry file entry (judged.Accepted m nameless) = IsSomeAnd entry (λ bytes. ReadsTo bytes (module_of m) × Lints (module_of m))
 JudgesEntry file entry (judged.Refused f) = FaultOfEntry file entry f
 JudgesEntry file entry judged.ReadFault = ⊤
 JudgesEntry file entry judged.Memory = ⊤
 
 -- of what the names of a list of files hold
 abbrev pub Judges : List (List ℕ) → FileMap → Judged → Type 0
-Judges files held (judged.Accepted m) = Accepted files held (module_of m)
+Judges files held (judged.Accepted m nameless) = Accepted files held (module_of m)
 Judges files held (judged.Refused f) = FirstFault files held f
 Judges files held judged.ReadFault = ⊤
 Judges files held judged.Memory = ⊤
@@ -49,7 +51,14 @@ pub record IsReady (m : Module) : Type 0 where
 
 -- an accepted module is ready
 abbrev pub IsReadyAnswer : Judged → Type 0
-IsReadyAnswer (judged.Accepted m) = IsReady (module_of m)
+IsReadyAnswer (judged.Accepted m nameless) = IsReady (module_of m)
 IsReadyAnswer (judged.Refused f) = ⊤
 IsReadyAnswer judged.ReadFault = ⊤
 IsReadyAnswer judged.Memory = ⊤
+
+-- an accepted module comes with its nameless form
+abbrev pub HasNameless : Judged → Type 0
+HasNameless (judged.Accepted m nameless) = resolved_or_fault (module_of m) ≡ Ok (nmodule_of nameless)
+HasNameless (judged.Refused f) = ⊤
+HasNameless judged.ReadFault = ⊤
+HasNameless judged.Memory = ⊤

@@ -37,7 +37,7 @@ pub record HasFault (words : List (List ℕ)) (held : Option FileMap) (f : Fault
   pub first : IfSome held (λ m. FirstFault (files_in request) m f)
 
 -- the line tells the first fault
-pub record IsRefusal (words : List (List ℕ)) (held : Option FileMap) (line : List ℕ) : Type 0 where
+pub record IsRefusalLine (words : List (List ℕ)) (held : Option FileMap) (line : List ℕ) : Type 0 where
   pub fault : Fault
   pub first : HasFault words held fault
   pub tells : line ≡ refusal_line fault
@@ -58,7 +58,7 @@ StopsAtFault f stop.Memory = ⊤
 
 -- why nothing is to be written
 abbrev pub Stops : List (List ℕ) → Option FileMap → ℕ → ℕ → Stop → Type 0
-Stops words held reads reads' (stop.Refused line) = IsRefusal words held line.items
+Stops words held reads reads' (stop.Refused line) = IsRefusalLine words held line.items
 Stops words held reads reads' stop.Usage = asked words ≡ None
 Stops words held reads reads' (stop.ReadFault name) = FailsToRead words reads reads' name.now
 Stops words held reads reads' stop.Memory = ⊤

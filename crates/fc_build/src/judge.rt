@@ -1,26 +1,28 @@
 //! Reads the files of a set and judges them.
-ghost use Rattle.std.specs.Prelude.{◌≡◌, ◌≤◌, ◌∷◌, [], IfOk, IfErr, IfSome, length, map, reverse};
+ghost use Rattle.std.specs.Prelude.{◌≡◌, ◌≤◌, ◌∷◌, [], Ok, IfOk, IfErr, IfSome, length, map, reverse};
 ghost use Rattle.fc_files.specs.Outside.{Rose};
 ghost use Rattle.fc_syntax.specs.View.{module_of};
 ghost use Rattle.fc_model.specs.Acceptance.{of_file as fault_of_file, of_module as fault_of_module};
 ghost use Rattle.fc_model.specs.Canonical.{IsBuilt};
 ghost use Rattle.fc_model.specs.Linting.{done, module_lint};
+ghost use Rattle.fc_model.specs.NamelessView.{nmodule_of};
+ghost use Rattle.fc_model.specs.Resolution.{resolved_or_fault};
 ghost use Rattle.fc_model.specs.Says.{Says};
-ghost use Rattle.fc_build.specs.Judging.{IsReadyAnswer, Judges, JudgesBytes, JudgesEntry, JudgesModule};
+ghost use Rattle.fc_build.specs.Judging.{HasNameless, IsReadyAnswer, Judges, JudgesBytes, JudgesEntry, JudgesModule};
 
 use fc_files::{Files, MOST, ReadAnswer};
 use fc_lint_set::lint_module;
 use fc_model::{Flaw, Flawed};
 use fc_reader::read_module;
 use fc_resolve::resolve;
-use fc_syntax::{Fault, FaultKind, Memory, Module, Place, Refusal, Seq, Text};
+use fc_syntax::{Fault, FaultKind, Memory, Module, NModule, Place, Refusal, Seq, Text};
 use std::alloc::Global;
 
 /// What the files of a set are.
 #[derive(Debug, Drop)]
 pub enum Judged {
-    /// A module that lints.
-    Accepted(Module),
+    /// A module that lints, and its nameless form.
+    Accepted(Module, NModule),
     /// No accepted set, and its first fault.
     Refused(Fault),
     /// The read of the only file failed.
@@ -87,22 +89,25 @@ fn refused(fault: Result<Fault, Memory>) -> Judged
     }
 }
 
-/// Whether every premise of names, declarations and types holds of a module, or the first that fails.
-fn lint(alloc: Global, m: &Module) -> Result<(), Flawed>
+/// The nameless form of a module, if every premise of names, declarations and types holds of it, or the first that fails.
+fn lint(alloc: Global, m: &Module) -> Result<NModule, Flawed>
     requires { IsBuilt (module_of m.now) }
-    ensures { Says (λ _. done) result (module_lint (module_of m.now)) }
+    ensures lints { Says (λ _. done) result (module_lint (module_of m.now)) }
+    ensures nameless { IfOk result (λ n. resolved_or_fault (module_of m.now) ≡ Ok (nmodule_of n)) }
 {
     let nameless = resolve(alloc, m)?;
-    lint_module(alloc, &nameless)
+    lint_module(alloc, &nameless)?;
+    Ok(nameless)
 }
 
 /// Judges a module that was read.
 fn judge_module(alloc: Global, m: Module) -> Judged
     requires { IsBuilt (module_of m) }
-    ensures { JudgesModule (module_of m) result }
+    ensures judged { JudgesModule (module_of m) result }
+    ensures nameless { HasNameless result }
 {
     match lint(alloc, &m) {
-        Ok(()) => Judged::Accepted(m),
+        Ok(nameless) => Judged::Accepted(m, nameless),
         Err(Flawed::Flaw(flaw)) => refused(of_module(alloc, &m, flaw)),
         Err(Flawed::Memory) => Judged::Memory,
     }
@@ -113,6 +118,7 @@ fn judge_bytes(alloc: Global, file: &str, bytes: &[u8]) -> Judged
     requires { length bytes.now ≤ MOST }
     ensures answer { JudgesBytes file.now bytes.now result }
     ensures ready { IsReadyAnswer result }
+    ensures nameless { HasNameless result }
 {
     match read_module(alloc, file, bytes) {
         Ok(m) => judge_module(alloc, m),
@@ -129,6 +135,7 @@ fn judge_file<F: Files>(alloc: Global, files: &mut F, file: &str) -> Judged
     ensures cause { result ≡ Judged.ReadFault → Rose (F.read_faults files.old) (F.read_faults files.new) }
     ensures answer { IfSome (F.held files.old) (λ m. JudgesEntry file.now (m file.now) result) }
     ensures ready { IsReadyAnswer result }
+    ensures nameless { HasNameless result }
 {
     match files.read(alloc, file, MOST) {
         ReadAnswer::Ok(bytes) => judge_bytes(alloc, file, &bytes),
@@ -151,6 +158,7 @@ pub(crate) fn judge<F: Files>(alloc: Global, files: &mut F, file: &str, others: 
     ensures alone { result ≡ Judged.ReadFault → others.now ≡ [] }
     ensures answer { IfSome (F.held files.old) (λ m. Judges (file.now ∷ map (λ s. s.now) others.now) m result) }
     ensures ready { IsReadyAnswer result }
+    ensures nameless { HasNameless result }
 {
     match others.first() {
         None => judge_file(alloc, files, file),

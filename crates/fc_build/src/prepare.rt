@@ -51,10 +51,12 @@ pub(crate) fn prepare<'a, F: Files>(
         Err(Unasked::Memory) => return Err(Stop::Memory),
     };
     match judge(alloc, files, request.file, request.others.as_slice()) {
-        Judged::Accepted(unit) => match product_of(alloc, request.command, unit) {
-            Ok(product) => Ok(product),
-            Err(_) => Err(Stop::Memory),
-        },
+        Judged::Accepted(unit, nameless) => {
+            match product_of(alloc, request.command, unit, nameless) {
+                Ok(product) => Ok(product),
+                Err(_) => Err(Stop::Memory),
+            }
+        }
         Judged::Refused(fault) => Err(stop_at(alloc, &fault)),
         Judged::ReadFault => Err(Stop::ReadFault(request.file)),
         Judged::Memory => Err(Stop::Memory),

@@ -10,7 +10,7 @@ ghost use Rattle.fc_build.specs.Product.{core_output, done_line, interface_outpu
 use fc_files::{Files, WriteAnswer};
 use fc_iface::print_interface;
 use fc_printer::{print_module, written};
-use fc_syntax::{Memory, Module, Text};
+use fc_syntax::{Memory, Module, NModule, Text};
 use fc_words::Command;
 use std::alloc::{AllocError, Global};
 
@@ -95,12 +95,19 @@ fn line_of(alloc: Global, word: &str, name: &Text) -> Result<Vec<u8>, Memory>
     Ok(line)
 }
 
-/// What is to be written and to be put for a module that lints.
-pub(crate) fn product_of(alloc: Global, command: Command<'_>, m: Module) -> Result<Product, Memory>
+/// What is to be written and to be put for a module that lints. Nothing works on its nameless form yet, so its memory is given back
+/// before any text is made.
+pub(crate) fn product_of(
+    alloc: Global,
+    command: Command<'_>,
+    m: Module,
+    nameless: NModule,
+) -> Result<Product, Memory>
     requires { IsBuilt (module_of m) }
     ensures files { IfOk result (λ p. outputs p.list.items ≡ outputs_of (order_of command.entry) (module_of m)) }
     ensures line { IfOk result (λ p. p.line.items ≡ done_line (order_of command.entry) (module_of m)) }
 {
+    drop(nameless);
     match command {
         Command::Build(_, prefix) => {
             let line = line_of(alloc, "built ", &m.name)?;

@@ -7,16 +7,8 @@ use Rattle.fc_model.specs.Faulting.{F, and_then, under}
 use Rattle.fc_model.specs.Kinding.{kind_or_fault}
 use Rattle.fc_model.specs.Nameless.{NTy, NBinder, NBValue, NBType, NBCo, NModule}
 use Rattle.fc_model.specs.NamelessView.{nbinder_of, nbinders_of, nty_of, ntys_of}
-use Rattle.fc_model.specs.Typing.{binders_fit, binders_judged, no_context}
+use Rattle.fc_model.specs.Typing.{Context, binders_fit, binders_judged}
 use Rattle.fc_lint_expr.specs.AltViews.{binder_judged, binder_takes}
-
--- the kinds of types do not depend on the local variables of values
-pub binders_alone : (ms : List NModule) (values : List NTy) (i : ℕ) (bs : List NBinder)
-    → binders_judged ms (record { kinds = []; values = values }) i bs ≡ binders_judged ms no_context i bs
-binders_alone ms values i [] = refl
-binders_alone ms values i (NBValue t ∷ bs) = ap (λ go. and_then (under i (under 0 (kind_or_fault ms [] t))) (λ _. go)) (binders_alone ms values (i + 1) bs)
-binders_alone ms values i (NBType k ∷ bs) = refl
-binders_alone ms values i (NBCo r t u ∷ bs) = refl
 
 then_ok : {X : Type 0} (r : Result X F) (i j : ℕ) (rest : ℕ → Result ℕ F) → and_then {Y = ℕ} r (λ _. Ok i) ≡ Ok j → and_then r (λ _. rest i) ≡ rest j
 then_ok (Ok t) i j rest h = grind (arith, common_steps)
@@ -27,17 +19,17 @@ then_err (Ok t) i f rest h = grind (arith, common_steps)
 then_err (Err e) i f rest h = grind (arith, common_steps)
 
 -- a binder whose type has a kind stands before those that follow
-pub binders_ok : (ms : List NModule) (i j : ℕ) (b : NBinder) (bs : List NBinder) → binder_judged ms i b ≡ Ok j
-    → binders_judged ms no_context i (b ∷ bs) ≡ binders_judged ms no_context j bs
-binders_ok ms i j (NBValue t) bs h = then_ok (under i (under 0 (kind_or_fault ms [] t))) (i + 1) j (λ k. binders_judged ms no_context k bs) h
-binders_ok ms i j (NBType k) bs h = grind (arith, common_steps)
-binders_ok ms i j (NBCo r t u) bs h = grind (arith, common_steps)
+pub binders_ok : (ms : List NModule) (c : Context) (i j : ℕ) (b : NBinder) (bs : List NBinder) → binder_judged ms c.kinds i b ≡ Ok j
+    → binders_judged ms c i (b ∷ bs) ≡ binders_judged ms c j bs
+binders_ok ms c i j (NBValue t) bs h = then_ok (under i (under 0 (kind_or_fault ms c.kinds t))) (i + 1) j (λ k. binders_judged ms c k bs) h
+binders_ok ms c i j (NBType k) bs h = grind (arith, common_steps)
+binders_ok ms c i j (NBCo r t u) bs h = grind (arith, common_steps)
 
 -- a binder with a fault ends the judgement
-pub binders_err : (ms : List NModule) (i : ℕ) (b : NBinder) (bs : List NBinder) (f : F) → binder_judged ms i b ≡ Err f → binders_judged ms no_context i (b ∷ bs) ≡ Err f
-binders_err ms i (NBValue t) bs f h = then_err (under i (under 0 (kind_or_fault ms [] t))) (i + 1) f (λ k. binders_judged ms no_context k bs) h
-binders_err ms i (NBType k) bs f h = grind (arith, common_steps)
-binders_err ms i (NBCo r t u) bs f h = grind (arith, common_steps)
+pub binders_err : (ms : List NModule) (c : Context) (i : ℕ) (b : NBinder) (bs : List NBinder) (f : F) → binder_judged ms c.kinds i b ≡ Err f → binders_judged ms c i (b ∷ bs) ≡ Err f
+binders_err ms c i (NBValue t) bs f h = then_err (under i (under 0 (kind_or_fault ms c.kinds t))) (i + 1) f (λ k. binders_judged ms c k bs) h
+binders_err ms c i (NBType k) bs f h = grind (arith, common_steps)
+binders_err ms c i (NBCo r t u) bs f h = grind (arith, common_steps)
 
 pub ruleset binder_rules = (binders_ok, binders_err)
 

@@ -1,5 +1,6 @@
 -- What stands before an alternative, and the judgements of an alternative's parts one by one.
 use Rattle.std.specs.Prelude.{ℕ, ◌+◌, Bool, false, List, [], Option, None, Result, Ok, Err}
+use Rattle.fc_syntax.specs.Tree.{Kind}
 use Rattle.fc_syntax.specs.declared.ty.Name.{Name}
 use Rattle.fc_syntax.specs.declared.fault.FaultKind.TheVariants.{BadForm, AltConstructor, AltOrder, ConArity}
 use Rattle.fc_model.specs.Faulting.{F, At, and_then, need, under}
@@ -16,11 +17,11 @@ before_of AfterDefault = words.AfterDefault
 before_of (AfterLit n) = words.AfterLit n
 before_of (AfterCon i) = words.AfterCon i
 
--- the binder of an alternative that is part i, and the number of the part behind it
-abbrev pub binder_judged : List NModule → ℕ → NBinder → Result ℕ F
-binder_judged ms i (NBValue t) = and_then (under i (under 0 (kind_or_fault ms [] t))) (λ _. Ok (i + 1))
-binder_judged ms i (NBType k) = Err (At BadForm None [])
-binder_judged ms i (NBCo r t u) = Err (At BadForm None [])
+-- the binder of an alternative that is part i, among the kinds of the type variables, and the number of the part behind it
+abbrev pub binder_judged : List NModule → List Kind → ℕ → NBinder → Result ℕ F
+binder_judged ms ks i (NBValue t) = and_then (under i (under 0 (kind_or_fault ms ks t))) (λ _. Ok (i + 1))
+binder_judged ms ks i (NBType k) = Err (At BadForm None [])
+binder_judged ms ks i (NBCo r t u) = Err (At BadForm None [])
 
 -- whether a binder stands for a field of this type
 abbrev pub binder_takes : NTy → NBinder → Bool

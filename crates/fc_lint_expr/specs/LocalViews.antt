@@ -5,6 +5,8 @@ use Rattle.fc_model.specs.Faulting.{F}
 use Rattle.fc_model.specs.Nameless.{NTy}
 use Rattle.fc_model.specs.NamelessView.{nbinds_of, nty_of}
 use Rattle.fc_model.specs.Typing.{Context, bind_types, local_value}
+use Rattle.fc_types.specs.KindViews.{kinds_of}
+use Rattle.fc_lint_expr.specs.declared.locals.Context as code
 use Rattle.fc_lint_expr.specs.declared.locals.LocalType.{LocalType}
 use Rattle.fc_lint_expr.specs.declared.locals.Locals.{Locals, End, Value', Binders', Binds'}
 use denote.Ref.{Bor}
@@ -28,6 +30,6 @@ values_of (Value' t p rest) = nty_of t.now ∷ values_of rest
 values_of (Binders' ts p rest) = behind (types_of ts.now) (values_of rest)
 values_of (Binds' bs p rest) = behind (bind_types (nbinds_of bs.now)) (values_of rest)
 
--- no type variable is in scope
-abbrev pub context_of : Locals → Context
-context_of locals = record { kinds = []; values = values_of locals }
+-- the kinds of the type variables and the types of the variables of values
+abbrev pub context_of : code.Context → Context
+context_of c = record { kinds = kinds_of c.kinds.now; values = values_of c.locals.now }

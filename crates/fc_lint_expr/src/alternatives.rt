@@ -1,5 +1,5 @@
 //! The premises of cases and of their alternatives, behind those of their parts.
-ghost use Rattle.std.specs.Prelude.{◌≡◌, [], Ok};
+ghost use Rattle.std.specs.Prelude.{◌≡◌, Ok};
 ghost use Rattle.std.specs.Option.{option_map};
 ghost use Rattle.fc_syntax.specs.View.{kind_of};
 ghost use Rattle.fc_syntax.specs.declared.fault.FaultKind.TheVariants.{AltOrder, AltType, LitAlt, NotAType, ScrutineeType};
@@ -10,18 +10,19 @@ ghost use Rattle.fc_model.specs.Nameless.{NTCon};
 ghost use Rattle.fc_model.specs.NamelessView.{nbinder_of, nbinders_of, nty_of, ntys_of};
 ghost use Rattle.fc_model.specs.Says.{Says};
 ghost use Rattle.fc_model.specs.Typing as words;
-ghost use Rattle.fc_model.specs.Typing.{AfterDefault, AfterLit, binders_fit, binders_judged, constructor_in_order, data_name, is_int, literal_in_order, no_context};
+ghost use Rattle.fc_model.specs.Typing.{AfterDefault, AfterLit, binders_fit, binders_judged, constructor_in_order, data_name, is_int, literal_in_order};
+ghost use Rattle.fc_types.specs.KindViews.{kinds_of};
 ghost use Rattle.fc_types.specs.ModuleViews.{modules_of};
 ghost use Rattle.fc_types.specs.TableViews.{constructor_of};
 ghost use Rattle.fc_lint_expr.specs.AltViews as views;
 ghost use Rattle.fc_lint_expr.specs.AltViews.{before_of, binder_judged, constructor_judged};
+ghost use Rattle.fc_lint_expr.specs.LocalViews.{context_of};
 
 use crate::arguments::is_int_hash;
+use crate::locals::Context;
 use fc_model::{Flawed, deeper, flaw_here, next_part};
 use fc_syntax::{FaultKind, Head, Kind, NBinder, NTy, Name, Text};
-use fc_types::{
-    Declarations, DeclaredCon, Kinds, is_value_kind, kind_of_part, same_type, same_word,
-};
+use fc_types::{Declarations, DeclaredCon, is_value_kind, kind_of_part, same_type, same_word};
 use std::alloc::Global;
 
 /// What stands before an alternative.
@@ -51,11 +52,12 @@ pub fn binder_kind(
     alloc: Global,
     t: &NTy,
     declared: &Declarations,
+    context: &Context,
     part: u32,
 ) -> Result<Kind, Flawed>
-    ensures { Says kind_of result (under part (under 0 (kind_or_fault (modules_of declared.now) [] (nty_of t.now)))) }
+    ensures { Says kind_of result (under part (under 0 (kind_or_fault (modules_of declared.now) (kinds_of context.now.kinds.now) (nty_of t.now)))) }
 {
-    match kind_of_part(alloc, t, declared, &Kinds::End, 0) {
+    match kind_of_part(alloc, t, declared, context.kinds, 0) {
         Ok(k) => Ok(k),
         Err(flawed) => Err(deeper(flawed, part)),
     }
@@ -67,13 +69,14 @@ fn binder_has_kind(
     alloc: Global,
     binder: &NBinder,
     declared: &Declarations,
+    context: &Context,
     part: u32,
 ) -> Result<u32, Flawed>
-    ensures { Says (λ i. i) result (binder_judged (modules_of declared.now) part (nbinder_of binder.now)) }
+    ensures { Says (λ i. i) result (binder_judged (modules_of declared.now) (kinds_of context.now.kinds.now) part (nbinder_of binder.now)) }
 {
     match binder {
         NBinder::Value(_, t) => {
-            binder_kind(alloc, t, declared, part)?;
+            binder_kind(alloc, t, declared, context, part)?;
             next_part(part)
         }
         NBinder::OfType(_, _) => Err(flaw_here(alloc, FaultKind::BadForm)),
@@ -87,12 +90,13 @@ pub fn binders_have_kinds(
     alloc: Global,
     binders: &[NBinder],
     declared: &Declarations,
+    context: &Context,
 ) -> Result<u32, Flawed>
-    ensures { Says (λ i. i) result (binders_judged (modules_of declared.now) no_context 0 (nbinders_of binders.now)) }
+    ensures { Says (λ i. i) result (binders_judged (modules_of declared.now) (context_of context.now) 0 (nbinders_of binders.now)) }
 {
     let mut part = 0u32;
     for binder in binders {
-        part = binder_has_kind(alloc, binder, declared, part)?;
+        part = binder_has_kind(alloc, binder, declared, context, part)?;
     }
     Ok(part)
 }
@@ -265,11 +269,12 @@ pub fn case_kinds(
     of: &NTy,
     answer: &NTy,
     declared: &Declarations,
+    context: &Context,
 ) -> Result<Kind, Flawed>
-    ensures { Says kind_of result (and_then (under 1 (kind_or_fault (modules_of declared.now) [] (nty_of of.now))) (λ _. under 2 (kind_or_fault (modules_of declared.now) [] (nty_of answer.now)))) }
+    ensures { Says kind_of result (and_then (under 1 (kind_or_fault (modules_of declared.now) (kinds_of context.now.kinds.now) (nty_of of.now))) (λ _. under 2 (kind_or_fault (modules_of declared.now) (kinds_of context.now.kinds.now) (nty_of answer.now)))) }
 {
-    kind_of_part(alloc, of, declared, &Kinds::End, 1)?;
-    kind_of_part(alloc, answer, declared, &Kinds::End, 2)
+    kind_of_part(alloc, of, declared, context.kinds, 1)?;
+    kind_of_part(alloc, answer, declared, context.kinds, 2)
 }
 
 /// The type of a case whose scrutinee is of this type, and whose result is of a type of this kind: `ScrutineeType` where the binder

@@ -15,7 +15,7 @@ use crate::alternatives::{
     head_goes,
 };
 use crate::arguments::{TypedArg, constructed_type, is_atom};
-use crate::locals::{Locals, local_type, value_types};
+use crate::locals::{Context, Locals, local_type, value_types};
 use crate::premises::{applied_type, bind_takes, lambda_type};
 use fc_model::{Flawed, deeper, flaw_here, next_part};
 use fc_syntax::{FaultKind, NAlt, NArg, NBind, NBinder, NExpr, NTy, Name, Ref, Seq};
@@ -38,12 +38,12 @@ fn type_of_part(
     alloc: Global,
     e: &NExpr,
     declared: &Declarations,
-    locals: &Locals,
+    context: &Context,
     part: u32,
 ) -> Result<NTy, Flawed>
-    ensures { Says nty_of result (under part (type_or_fault (modules_of declared.now) (context_of locals.now) (nexpr_of e.now))) }
+    ensures { Says nty_of result (under part (type_or_fault (modules_of declared.now) (context_of context.now) (nexpr_of e.now))) }
 {
-    match type_of(alloc, &*e, declared, &*locals) {
+    match type_of(alloc, &*e, declared, &*context) {
         Ok(t) => Ok(t),
         Err(flawed) => Err(deeper(flawed, part)),
     }
@@ -56,14 +56,14 @@ fn given_terms(
     alloc: Global,
     args: &[NArg],
     declared: &Declarations,
-    locals: &Locals,
+    context: &Context,
 ) -> Result<Seq<TypedArg>, Flawed>
-    ensures { Says givens_of result (args_from (modules_of declared.now) (context_of locals.now) 0 args.now) }
+    ensures { Says givens_of result (args_from (modules_of declared.now) (context_of context.now) 0 args.now) }
 {
     let mut given = Seq::new(alloc);
     let mut part = 0u32;
     for arg in args {
-        let next = given_term(alloc, arg, declared, locals, part)?;
+        let next = given_term(alloc, arg, declared, context, part)?;
         given.push(next)?;
         part = next_part(part)?;
     }
@@ -77,14 +77,14 @@ fn given_term(
     alloc: Global,
     arg: &NArg,
     declared: &Declarations,
-    locals: &Locals,
+    context: &Context,
     part: u32,
 ) -> Result<TypedArg, Flawed>
-    ensures { Says given_of result (arg_given (modules_of declared.now) (context_of locals.now) part arg.now) }
+    ensures { Says given_of result (arg_given (modules_of declared.now) (context_of context.now) part arg.now) }
 {
     match arg {
         NArg::Term(e) => {
-            let ty = type_of_part(alloc, e, declared, locals, part)?;
+            let ty = type_of_part(alloc, e, declared, context, part)?;
             Ok(TypedArg {
                 ty,
                 atom: is_atom(e),
@@ -101,14 +101,14 @@ fn type_of_applied(
     alloc: Global,
     arg: &NArg,
     declared: &Declarations,
-    locals: &Locals,
+    context: &Context,
     head: &NTy,
 ) -> Result<NTy, Flawed>
-    ensures { Says nty_of result (argument_applied (modules_of declared.now) (context_of locals.now) (nty_of head.now) (narg_of arg.now)) }
+    ensures { Says nty_of result (argument_applied (modules_of declared.now) (context_of context.now) (nty_of head.now) (narg_of arg.now)) }
 {
     match arg {
         NArg::Term(e) => {
-            let t = type_of_part(alloc, e, declared, locals, 1)?;
+            let t = type_of_part(alloc, e, declared, context, 1)?;
             applied_type(alloc, head, &t, is_atom(e))
         }
         NArg::OfType(_) => Err(flaw_here(alloc, FaultKind::BadForm)),
@@ -123,11 +123,15 @@ fn type_of_body<'x>(
     body: &NExpr,
     t: &'x NTy,
     declared: &Declarations,
-    locals: &'x Locals<'x>,
+    context: &'x Context<'x>,
 ) -> Result<NTy, Flawed>
-    ensures { Says nty_of result (under 1 (type_or_fault (modules_of declared.now) (with_value (nty_of t.now) (context_of locals.now)) (nexpr_of body.now))) }
+    ensures { Says nty_of result (under 1 (type_or_fault (modules_of declared.now) (with_value (nty_of t.now) (context_of context.now)) (nexpr_of body.now))) }
 {
-    let inner = Locals::Value(&*t, &*locals);
+    let locals = Locals::Value(&*t, context.locals);
+    let inner = Context {
+        kinds: context.kinds,
+        locals: &locals,
+    };
     type_of_part(alloc, body, declared, &inner, 1)
 }
 
@@ -138,14 +142,14 @@ fn type_of_lambda<'x>(
     body: &NExpr,
     binder: &'x NBinder,
     declared: &Declarations,
-    locals: &'x Locals<'x>,
+    context: &'x Context<'x>,
 ) -> Result<NTy, Flawed>
-    ensures { Says nty_of result (type_or_fault (modules_of declared.now) (context_of locals.now) (NLam (nbinder_of binder.now) (nexpr_of body.now))) }
+    ensures { Says nty_of result (type_or_fault (modules_of declared.now) (context_of context.now) (NLam (nbinder_of binder.now) (nexpr_of body.now))) }
 {
     match binder {
         NBinder::Value(_, t) => {
-            let k = binder_kind(alloc, t, declared, 0)?;
-            let u = type_of_body(alloc, body, &*t, declared, &*locals)?;
+            let k = binder_kind(alloc, t, declared, context, 0)?;
+            let u = type_of_body(alloc, body, &*t, declared, &*context)?;
             lambda_type(alloc, t, &k, u)
         }
         NBinder::OfType(_, _) => Err(flaw_here(alloc, FaultKind::BadForm)),
@@ -160,12 +164,12 @@ fn bind_fits(
     bind: &NBind,
     recursive: bool,
     declared: &Declarations,
-    locals: &Locals,
+    context: &Context,
 ) -> Result<(), Flawed>
-    ensures { Says (λ _. nty_of bind.now.ty) result (bind_judged (modules_of declared.now) (context_of locals.now) recursive (nbind_of bind.now)) }
+    ensures { Says (λ _. nty_of bind.now.ty) result (bind_judged (modules_of declared.now) (context_of context.now) recursive (nbind_of bind.now)) }
 {
-    let k = kind_of_part(alloc, &bind.ty, declared, &Kinds::End, 0)?;
-    let right = type_of_part(alloc, &bind.rhs, declared, locals, 1)?;
+    let k = kind_of_part(alloc, &bind.ty, declared, context.kinds, 0)?;
+    let right = type_of_part(alloc, &bind.rhs, declared, context, 1)?;
     let atom = !recursive && is_atom(&bind.rhs);
     bind_takes(alloc, &bind.ty, &k, &right, atom)
 }
@@ -177,12 +181,12 @@ fn bind_part_fits(
     bind: &NBind,
     recursive: bool,
     declared: &Declarations,
-    locals: &Locals,
+    context: &Context,
     part: u32,
 ) -> Result<(), Flawed>
-    ensures { Says (λ _. nty_of bind.now.ty) result (under part (bind_judged (modules_of declared.now) (context_of locals.now) recursive (nbind_of bind.now))) }
+    ensures { Says (λ _. nty_of bind.now.ty) result (under part (bind_judged (modules_of declared.now) (context_of context.now) recursive (nbind_of bind.now))) }
 {
-    match bind_fits(alloc, bind, recursive, declared, locals) {
+    match bind_fits(alloc, bind, recursive, declared, context) {
         Ok(()) => Ok(()),
         Err(flawed) => Err(deeper(flawed, part)),
     }
@@ -195,13 +199,13 @@ fn each_bind_fits(
     binds: &[NBind],
     recursive: bool,
     declared: &Declarations,
-    locals: &Locals,
+    context: &Context,
 ) -> Result<u32, Flawed>
-    ensures { Says (λ i. i) result (binds_judged (modules_of declared.now) (context_of locals.now) recursive 0 (nbinds_of binds.now)) }
+    ensures { Says (λ i. i) result (binds_judged (modules_of declared.now) (context_of context.now) recursive 0 (nbinds_of binds.now)) }
 {
     let mut part = 0u32;
     for bind in binds {
-        bind_part_fits(alloc, bind, recursive, declared, locals, part)?;
+        bind_part_fits(alloc, bind, recursive, declared, context, part)?;
         part = next_part(part)?;
     }
     Ok(part)
@@ -214,15 +218,19 @@ fn binds_fit<'x>(
     binds: &'x [NBind],
     recursive: bool,
     declared: &Declarations,
-    locals: &'x Locals<'x>,
+    context: &'x Context<'x>,
 ) -> Result<u32, Flawed>
-    ensures { Says (λ i. i) result (binds_judged (modules_of declared.now) (if recursive then with_binds (nbinds_of binds.now) (context_of locals.now) else context_of locals.now) recursive 0 (nbinds_of binds.now)) }
+    ensures { Says (λ i. i) result (binds_judged (modules_of declared.now) (if recursive then with_binds (nbinds_of binds.now) (context_of context.now) else context_of context.now) recursive 0 (nbinds_of binds.now)) }
 {
     if recursive {
-        let inner = Locals::Binds(binds, &*locals);
+        let locals = Locals::Binds(binds, context.locals);
+        let inner = Context {
+            kinds: context.kinds,
+            locals: &locals,
+        };
         each_bind_fits(alloc, binds, true, declared, &inner)
     } else {
-        each_bind_fits(alloc, binds, false, declared, &*locals)
+        each_bind_fits(alloc, binds, false, declared, &*context)
     }
 }
 
@@ -233,12 +241,16 @@ fn type_behind_binds<'x>(
     body: &NExpr,
     binds: &'x [NBind],
     declared: &Declarations,
-    locals: &'x Locals<'x>,
+    context: &'x Context<'x>,
     part: u32,
 ) -> Result<NTy, Flawed>
-    ensures { Says nty_of result (under part (type_or_fault (modules_of declared.now) (with_binds (nbinds_of binds.now) (context_of locals.now)) (nexpr_of body.now))) }
+    ensures { Says nty_of result (under part (type_or_fault (modules_of declared.now) (with_binds (nbinds_of binds.now) (context_of context.now)) (nexpr_of body.now))) }
 {
-    let inner = Locals::Binds(binds, &*locals);
+    let locals = Locals::Binds(binds, context.locals);
+    let inner = Context {
+        kinds: context.kinds,
+        locals: &locals,
+    };
     type_of_part(alloc, body, declared, &inner, part)
 }
 
@@ -249,32 +261,35 @@ fn type_behind_binders<'x>(
     body: &NExpr,
     binders: &'x [NBinder],
     declared: &Declarations,
-    locals: &'x Locals<'x>,
+    context: &'x Context<'x>,
     part: u32,
 ) -> Result<NTy, Flawed>
-    ensures { Says nty_of result (under part (type_or_fault (modules_of declared.now) (with_binders (nbinders_of binders.now) (context_of locals.now)) (nexpr_of body.now))) }
+    ensures { Says nty_of result (under part (type_or_fault (modules_of declared.now) (with_binders (nbinders_of binders.now) (context_of context.now)) (nexpr_of body.now))) }
 {
     let types = value_types(alloc, binders)?;
-    let inner = Locals::Binders(types.as_slice(), &*locals);
+    let locals = Locals::Binders(types.as_slice(), context.locals);
+    let inner = Context {
+        kinds: context.kinds,
+        locals: &locals,
+    };
     type_of_part(alloc, body, declared, &inner, part)
 }
 
 /// Whether an alternative fits its case; what stands before the next one.
 #[cycle(lint)]
-#[tactic(auto, using(crate::proofs::AlternativeBinders::binders_alone))]
 fn alternative_fits<'x>(
     alloc: Global,
     alternative: &'x NAlt,
     declared: &Declarations,
-    locals: &'x Locals<'x>,
+    context: &'x Context<'x>,
     wanted: Expected,
     before: Before,
 ) -> Result<Before, Flawed>
-    ensures { Says before_of result (alt_judged (modules_of declared.now) (context_of locals.now) (nty_of wanted.entry.scrutinee.now) (nty_of wanted.entry.answer.now) (before_of before) (nalt_of alternative.now)) }
+    ensures { Says before_of result (alt_judged (modules_of declared.now) (context_of context.now) (nty_of wanted.entry.scrutinee.now) (nty_of wanted.entry.answer.now) (before_of before) (nalt_of alternative.now)) }
 {
     let binders = alternative.binders.as_slice();
-    let part = binders_have_kinds(alloc, binders, declared)?;
-    let t = type_behind_binders(alloc, &alternative.body, binders, declared, &*locals, part)?;
+    let part = binders_have_kinds(alloc, binders, declared, context)?;
+    let t = type_behind_binders(alloc, &alternative.body, binders, declared, &*context, part)?;
     let next = head_goes(
         alloc,
         &alternative.head,
@@ -292,14 +307,14 @@ fn alternative_part_fits<'x>(
     alloc: Global,
     alternative: &'x NAlt,
     declared: &Declarations,
-    locals: &'x Locals<'x>,
+    context: &'x Context<'x>,
     wanted: Expected,
     before: Before,
     number: u32,
 ) -> Result<Before, Flawed>
-    ensures { Says before_of result (under number (alt_judged (modules_of declared.now) (context_of locals.now) (nty_of wanted.entry.scrutinee.now) (nty_of wanted.entry.answer.now) (before_of before) (nalt_of alternative.now))) }
+    ensures { Says before_of result (under number (alt_judged (modules_of declared.now) (context_of context.now) (nty_of wanted.entry.scrutinee.now) (nty_of wanted.entry.answer.now) (before_of before) (nalt_of alternative.now))) }
 {
-    match alternative_fits(alloc, &*alternative, declared, &*locals, wanted, before) {
+    match alternative_fits(alloc, &*alternative, declared, &*context, wanted, before) {
         Ok(next) => Ok(next),
         Err(flawed) => Err(deeper(flawed, number)),
     }
@@ -312,12 +327,16 @@ fn alternatives_fit<'x>(
     alternatives: &'x [NAlt],
     of: &'x NTy,
     declared: &Declarations,
-    locals: &'x Locals<'x>,
+    context: &'x Context<'x>,
     wanted: Expected,
 ) -> Result<Before, Flawed>
-    ensures { Says before_of result (alts_judged (modules_of declared.now) (with_value (nty_of of.now) (context_of locals.now)) (nty_of wanted.entry.scrutinee.now) (nty_of wanted.entry.answer.now) 3 Start (nalts_of alternatives.now)) }
+    ensures { Says before_of result (alts_judged (modules_of declared.now) (with_value (nty_of of.now) (context_of context.now)) (nty_of wanted.entry.scrutinee.now) (nty_of wanted.entry.answer.now) 3 Start (nalts_of alternatives.now)) }
 {
-    let inner = Locals::Value(&*of, &*locals);
+    let locals = Locals::Value(&*of, context.locals);
+    let inner = Context {
+        kinds: context.kinds,
+        locals: &locals,
+    };
     let mut before = Before::Start;
     let mut part = 3u32;
     for alternative in alternatives {
@@ -327,34 +346,34 @@ fn alternatives_fit<'x>(
     Ok(before)
 }
 
-/// The type of an expression in a scope.
+/// The type of an expression in a context.
 #[cycle(lint)]
 #[tactic(auto, using(fc_syntax::proofs::View::view_rules, crate::proofs::Givens::from_whole))]
 fn type_of<'x>(
     alloc: Global,
     e: &'x NExpr,
     declared: &Declarations,
-    locals: &'x Locals<'x>,
+    context: &'x Context<'x>,
 ) -> Result<NTy, Flawed>
-    ensures { Says nty_of result (type_or_fault (modules_of declared.now) (context_of locals.now) (nexpr_of e.now)) }
+    ensures { Says nty_of result (type_or_fault (modules_of declared.now) (context_of context.now) (nexpr_of e.now)) }
 {
     match e {
-        NExpr::Var(Ref::Local(distance)) => local_type(alloc, locals, *distance),
+        NExpr::Var(Ref::Local(distance)) => local_type(alloc, context.locals, *distance),
         NExpr::Var(Ref::Top(name)) => definition_type(alloc, name, declared),
         NExpr::Lit(_) => Ok(NTy::IntHash),
         NExpr::App(head, arg) => {
-            let head = type_of_part(alloc, head, declared, locals, 0)?;
-            type_of_applied(alloc, arg, declared, locals, &head)
+            let head = type_of_part(alloc, head, declared, context, 0)?;
+            type_of_applied(alloc, arg, declared, context, &head)
         }
-        NExpr::Lam(binder, body) => type_of_lambda(alloc, body, &*binder, declared, &*locals),
+        NExpr::Lam(binder, body) => type_of_lambda(alloc, body, &*binder, declared, &*context),
         NExpr::Let(recursive, binds, body) => {
             let binds = binds.as_slice();
-            let part = binds_fit(alloc, binds, *recursive, declared, &*locals)?;
-            type_behind_binds(alloc, body, binds, declared, &*locals, part)
+            let part = binds_fit(alloc, binds, *recursive, declared, &*context)?;
+            type_behind_binds(alloc, body, binds, declared, &*context, part)
         }
         NExpr::Case(scrutinee, _, of, answer, alternatives) => {
-            let found = type_of_part(alloc, scrutinee, declared, locals, 0)?;
-            let kind = case_kinds(alloc, of, answer, declared)?;
+            let found = type_of_part(alloc, scrutinee, declared, context, 0)?;
+            let kind = case_kinds(alloc, of, answer, declared, context)?;
             let wanted = Expected {
                 scrutinee: &found,
                 answer,
@@ -364,14 +383,14 @@ fn type_of<'x>(
                 alternatives.as_slice(),
                 of,
                 declared,
-                &*locals,
+                &*context,
                 wanted,
             )?;
             case_type(alloc, of, &found, answer, &kind)
         }
         NExpr::Cast(_, _) => Err(flaw_here(alloc, FaultKind::BadForm)),
         NExpr::Con(name, args) => {
-            let given = given_terms(alloc, args.as_slice(), declared, locals)?;
+            let given = given_terms(alloc, args.as_slice(), declared, context)?;
             let con = declared.constructor_named(name);
             constructed_type(alloc, name, con, given.as_slice())
         }
@@ -382,17 +401,32 @@ fn type_of<'x>(
     }
 }
 
-/// The type of a closed expression among the declarations of its module, or the first premise that fails: the parts from left
-/// to right, before the premises of the piece itself. The faults are those of kinds in each type; `Unbound`; for an application
-/// `NotFunction`, `ArgType` and `UnliftedNotAtom`; for a lambda `NotAType`; for a bind `NotAType`, `LetType` and `UnliftedNotAtom`;
-/// for a constructor `Unbound`, `ConArity`, `ArgType` and `UnliftedNotAtom`; for a case `ScrutineeType` and `NotAType`; for the
-/// default of a case `AltOrder`, for a literal's alternative `LitAlt` and `AltOrder`, for a constructor's `AltConstructor`,
-/// `AltOrder` and `ConArity`, and for each of them then `AltType`; in these orders; each with the part numbers to the piece. A form
-/// that no rule is for is `BadForm`: binders and arguments that are types or coercions, casts, primitives, errors, join points and
-/// jumps.
+/// The type of an expression in this context, among the declarations of its module, or the first premise that fails: the parts
+/// from left to right, before the premises of the piece itself. The faults are those of kinds in each type; `Unbound`; for an
+/// application `NotFunction`, `ArgType` and `UnliftedNotAtom`; for a lambda `NotAType`; for a bind `NotAType`, `LetType` and
+/// `UnliftedNotAtom`; for a constructor `Unbound`, `ConArity`, `ArgType` and `UnliftedNotAtom`; for a case `ScrutineeType` and
+/// `NotAType`; for the default of a case `AltOrder`, for a literal's alternative `LitAlt` and `AltOrder`, for a constructor's
+/// `AltConstructor`, `AltOrder` and `ConArity`, and for each of them then `AltType`; in these orders; each with the part numbers
+/// to the piece. A form that no rule is for is `BadForm`: binders and arguments that are types or coercions, casts, primitives,
+/// errors, join points and jumps.
+pub fn lint_in_context(
+    alloc: Global,
+    e: &NExpr,
+    declared: &Declarations,
+    context: &Context,
+) -> Result<NTy, Flawed>
+    ensures { Says nty_of result (type_or_fault (modules_of declared.now) (context_of context.now) (nexpr_of e.now)) }
+{
+    type_of(alloc, &*e, declared, &*context)
+}
+
+/// The same of a closed expression, in whose context nothing is in scope.
 pub fn lint(alloc: Global, e: &NExpr, declared: &Declarations) -> Result<NTy, Flawed>
     ensures { Says nty_of result (type_or_fault (modules_of declared.now) no_context (nexpr_of e.now)) }
 {
-    let locals = Locals::End;
-    type_of(alloc, &*e, declared, &locals)
+    let context = Context {
+        kinds: &Kinds::End,
+        locals: &Locals::End,
+    };
+    lint_in_context(alloc, &*e, declared, &context)
 }

@@ -7,4 +7,5 @@ mod expressions;
 mod locals;
 mod premises;
 
-pub use expressions::lint;
+pub use expressions::{lint, lint_in_context};
+pub use locals::{Context, LocalType, Locals};

@@ -1,4 +1,4 @@
-//! The types of the local variables in scope.
+//! The kinds and the types of the local variables in scope.
 ghost use Rattle.std.specs.Prelude.{◌≡◌, List, [], ◌∷◌, ◌++◌, IfOk, OnOk};
 ghost use Rattle.fc_model.specs.Nameless as trees;
 ghost use Rattle.fc_model.specs.NamelessView.{nbinder_of, nbinders_of, nbinds_of, nty_of};
@@ -8,6 +8,7 @@ ghost use Rattle.fc_lint_expr.specs.LocalViews.{behind, found_among, types_of, v
 
 use fc_model::{Flawed, flaw_here};
 use fc_syntax::{FaultKind, Memory, NBind, NBinder, NTy, Seq};
+use fc_types::Kinds;
 use std::alloc::Global;
 
 /// The type of a local variable, in a table.
@@ -28,6 +29,15 @@ pub enum Locals<'a> {
     Binders(&'a [LocalType<'a>], &'a Locals<'a>),
     /// Those of a let's binds, the last one the innermost, and those around them.
     Binds(&'a [NBind], &'a Locals<'a>),
+}
+
+/// What is in scope where an expression is judged.
+#[derive(Clone, Copy)]
+pub struct Context<'a> {
+    /// The kinds of the local type variables.
+    pub kinds: &'a Kinds<'a>,
+    /// The local variables of values, by their types.
+    pub locals: &'a Locals<'a>,
 }
 
 /// Puts the type of a binder of values behind the others.

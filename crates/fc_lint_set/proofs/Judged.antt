@@ -46,22 +46,22 @@ kind_err : (k : Result Kind F) (f : F) (r : Result Bool F) → and_then {Y = Boo
 kind_err (Ok j) f r h = grind (arith, common_steps)
 kind_err (Err e) f r h = grind (arith, common_steps)
 
-pub fields_ok : (ms : List NModule) (i : ℕ) (t : Ty ℕ) (ts : List (Ty ℕ)) (all b : Bool) → field_value ms i t ≡ Ok b
-    → and_rest all (fields_from ms i (t ∷ ts)) ≡ and_rest (all && b) (fields_from ms (i + 1) ts)
+pub fields_ok : (ms : List NModule) (ks : List Kind) (i : ℕ) (t : Ty ℕ) (ts : List (Ty ℕ)) (all b : Bool) → field_value ms ks i t ≡ Ok b
+    → and_rest all (fields_from ms ks i (t ∷ ts)) ≡ and_rest (all && b) (fields_from ms ks (i + 1) ts)
 unfolding field_value fields_from
-fields_ok ms i t ts all b h = kind_ok all (under i (kind_or_fault ms [] (nty_of t))) b (fields_judged ms [] (i + 1) (ntys_of ts)) h
+fields_ok ms ks i t ts all b h = kind_ok all (under i (kind_or_fault ms ks (nty_of t))) b (fields_judged ms ks (i + 1) (ntys_of ts)) h
 
-pub fields_err : (ms : List NModule) (i : ℕ) (t : Ty ℕ) (ts : List (Ty ℕ)) (f : F) → field_value ms i t ≡ Err f → fields_from ms i (t ∷ ts) ≡ Err f
+pub fields_err : (ms : List NModule) (ks : List Kind) (i : ℕ) (t : Ty ℕ) (ts : List (Ty ℕ)) (f : F) → field_value ms ks i t ≡ Err f → fields_from ms ks i (t ∷ ts) ≡ Err f
 unfolding field_value fields_from
-fields_err ms i t ts f h = kind_err (under i (kind_or_fault ms [] (nty_of t))) f (fields_judged ms [] (i + 1) (ntys_of ts)) h
+fields_err ms ks i t ts f h = kind_err (under i (kind_or_fault ms ks (nty_of t))) f (fields_judged ms ks (i + 1) (ntys_of ts)) h
 
-pub fields_none : (ms : List NModule) (i : ℕ) → fields_from ms i [] ≡ Ok true
+pub fields_none : (ms : List NModule) (ks : List Kind) (i : ℕ) → fields_from ms ks i [] ≡ Ok true
 unfolding fields_from
-fields_none ms i = refl
+fields_none ms ks i = refl
 
-pub fields_whole : (ms : List NModule) (i : ℕ) (ts : List (Ty ℕ)) → fields_from ms i ts ≡ fields_judged ms [] i (ntys_of ts)
+pub fields_whole : (ms : List NModule) (ks : List Kind) (i : ℕ) (ts : List (Ty ℕ)) → fields_from ms ks i ts ≡ fields_judged ms ks i (ntys_of ts)
 unfolding fields_from
-fields_whole ms i ts = refl
+fields_whole ms ks i ts = refl
 
 pub cons_ok : (ms : List NModule) (i : ℕ) (c : ConDecl ℕ) (cs : List (ConDecl ℕ)) (all b : Bool) → con_value ms i c ≡ Ok b
     → and_rest all (cons_from ms i (c ∷ cs)) ≡ and_rest (all && b) (cons_from ms (i + 1) cs)
@@ -104,11 +104,11 @@ both_else true b new h is = grind arith
 both_else false b new h is = is
 
 -- one turn of the loop over the fields
-pub fields_step : (ms : List NModule) (whole : Result Bool F) (all b new : Bool) (i j k : ℕ) (ts : List (Ty ℕ)) (t : Ty ℕ)
-    → whole ≡ and_rest all (fields_from ms i (drop k ts)) → k < length ts → t ≡ get_or ts k t → field_value ms i t ≡ Ok b → new ≡ (all && b) → j ≡ i + 1
-    → whole ≡ and_rest new (fields_from ms j (drop (k + 1) ts))
-fields_step ms whole all b new i j k ts t so_far low is value more next =
-    rw (more, next) (so_far ∙ ap (λ r. and_rest all (fields_from ms i r)) (drop_item ts k t low is) ∙ fields_ok ms i t (drop (k + 1) ts) all b value)
+pub fields_step : (ms : List NModule) (ks : List Kind) (whole : Result Bool F) (all b new : Bool) (i j k : ℕ) (ts : List (Ty ℕ)) (t : Ty ℕ)
+    → whole ≡ and_rest all (fields_from ms ks i (drop k ts)) → k < length ts → t ≡ get_or ts k t → field_value ms ks i t ≡ Ok b → new ≡ (all && b) → j ≡ i + 1
+    → whole ≡ and_rest new (fields_from ms ks j (drop (k + 1) ts))
+fields_step ms ks whole all b new i j k ts t so_far low is value more next =
+    rw (more, next) (so_far ∙ ap (λ r. and_rest all (fields_from ms ks i r)) (drop_item ts k t low is) ∙ fields_ok ms ks i t (drop (k + 1) ts) all b value)
 
 -- one turn of the loop over the constructors
 pub cons_step : (ms : List NModule) (whole : Result Bool F) (all b new : Bool) (i j k : ℕ) (cs : List (ConDecl ℕ)) (c : ConDecl ℕ)
@@ -118,11 +118,11 @@ cons_step ms whole all b new i j k cs c so_far low is value more next =
     rw (more, next) (so_far ∙ ap (λ r. and_rest all (cons_from ms i r)) (drop_item cs k c low is) ∙ cons_ok ms i c (drop (k + 1) cs) all b value)
 
 -- the fields of a constructor are parts after its binders
-con_fields : (ms : List NModule) (part i : ℕ) (c : ConDecl ℕ) → i ≡ length c.binders → con_value ms part c ≡ under part (fields_from ms i c.fields)
+con_fields : (ms : List NModule) (part i : ℕ) (c : ConDecl ℕ) → i ≡ length c.binders → con_value ms part c ≡ under part (fields_from ms [] i c.fields)
 unfolding con_value fields_from
 con_fields ms part i c at = rw (at, length-map (binders_of c.binders) bare_binder, length-map c.binders binder_of) refl
 
-pub con_ok : (ms : List NModule) (part i : ℕ) (c : ConDecl ℕ) (b : Bool) → i ≡ length c.binders → fields_from ms i c.fields ≡ Ok b → con_value ms part c ≡ Ok b
+pub con_ok : (ms : List NModule) (part i : ℕ) (c : ConDecl ℕ) (b : Bool) → i ≡ length c.binders → fields_from ms [] i c.fields ≡ Ok b → con_value ms part c ≡ Ok b
 con_ok ms part i c b at h = con_fields ms part i c at ∙ ap (under part) h
 
 deeper_err : (i : ℕ) (f g : Flawed) (r : Result Bool F) → Refuses f r → Deepens i f g → Refuses g (under i r)
@@ -130,8 +130,8 @@ deeper_err i Memory g r h d = rw d tt
 deeper_err i (OfFlaw f) Memory r h d = tt
 deeper_err i (OfFlaw f) (OfFlaw g) r h d = rw h (ap Err (sym d))
 
-pub con_err : (ms : List NModule) (part i : ℕ) (c : ConDecl ℕ) (f g : Flawed) → i ≡ length c.binders → Refuses f (fields_from ms i c.fields) → Deepens part f g → Refuses g (con_value ms part c)
-con_err ms part i c f g at h d = rw (con_fields ms part i c at) (deeper_err part f g (fields_from ms i c.fields) h d)
+pub con_err : (ms : List NModule) (part i : ℕ) (c : ConDecl ℕ) (f g : Flawed) → i ≡ length c.binders → Refuses f (fields_from ms [] i c.fields) → Deepens part f g → Refuses g (con_value ms part c)
+con_err ms part i c f g at h d = rw (con_fields ms part i c at) (deeper_err part f g (fields_from ms [] i c.fields) h d)
 
 -- the constructors of a data type are parts after its parameters
 data_cons : (ms : List NModule) (i : ℕ) (d : Decl ℕ Ref) (w : Word) (ps : List Param) (cs : List (ConDecl ℕ)) → d ≡ DataType w ps cs → i ≡ length ps

@@ -1,5 +1,6 @@
 -- Judgements of the fields and the constructors of src, of which a part may be done.
-use Rattle.std.specs.Prelude.{ℕ, Bool, ◌&&◌, List, [], Result, Ok, Err}
+use Rattle.std.specs.Prelude.{ℕ, Bool, ◌&&◌, List, Result, Ok, Err}
+use Rattle.fc_syntax.specs.Tree.{Kind}
 use Rattle.fc_syntax.specs.declared.module.ConDecl.{ConDecl}
 use Rattle.fc_syntax.specs.declared.ty.Ty.{Ty}
 use Rattle.fc_model.specs.Faulting.{F, and_then, under}
@@ -13,13 +14,13 @@ unfoldable pub and_rest : Bool → Result Bool F → Result Bool F
 and_rest b (Ok rest) = Ok (b && rest)
 and_rest b (Err f) = Err f
 
--- whether the field that is part i is of a kind of values
-unfoldable pub field_value : List NModule → ℕ → Ty ℕ → Result Bool F
-field_value ms i t = and_then (under i (kind_or_fault ms [] (nty_of t))) (λ k. Ok (is_value_kind k))
+-- whether the field that is part i is of a kind of values, among the kinds of the type variables
+unfoldable pub field_value : List NModule → List Kind → ℕ → Ty ℕ → Result Bool F
+field_value ms ks i t = and_then (under i (kind_or_fault ms ks (nty_of t))) (λ k. Ok (is_value_kind k))
 
 -- the same of fields from part i on
-unfoldable pub fields_from : List NModule → ℕ → List (Ty ℕ) → Result Bool F
-fields_from ms i ts = fields_judged ms [] i (ntys_of ts)
+unfoldable pub fields_from : List NModule → List Kind → ℕ → List (Ty ℕ) → Result Bool F
+fields_from ms ks i ts = fields_judged ms ks i (ntys_of ts)
 
 -- the same of the fields of the constructor that is part i
 unfoldable pub con_value : List NModule → ℕ → ConDecl ℕ → Result Bool F

@@ -1,17 +1,17 @@
 //! The types and the right sides of definitions.
 ghost use Rattle.std.specs.Prelude.{[]};
+ghost use Rattle.fc_model.specs.Declaring.{ndecl_word};
 ghost use Rattle.fc_model.specs.Faulting.{and_then, under, within};
 ghost use Rattle.fc_model.specs.Kinding.{kind_or_fault};
 ghost use Rattle.fc_model.specs.Linting as words;
-ghost use Rattle.fc_model.specs.Linting.{def_type_judged, def_types_judged, done, ndecl_word, right_judged, right_side_judged, rights_judged};
+ghost use Rattle.fc_model.specs.Linting.{def_type_judged, def_types_judged, done, right_judged, right_side_judged, rights_judged};
 ghost use Rattle.fc_model.specs.NamelessView.{ndecl_of, ndecls_of, nexpr_of, nty_of};
 ghost use Rattle.fc_model.specs.Says.{Says};
 ghost use Rattle.fc_syntax.specs.View.{kind_of};
 ghost use Rattle.fc_types.specs.ModuleViews.{modules_of};
 
-use crate::parts::word_of;
 use fc_lint_expr::lint;
-use fc_model::{Flawed, deeper, flaw_here, in_declaration};
+use fc_model::{Flawed, deeper, flaw_here, in_declaration, word_of};
 use fc_syntax::{FaultKind, Kind, NDecl, NExpr, NTy};
 use fc_types::{Declarations, Kinds, kind_of_part, same_type};
 use std::alloc::Global;
@@ -51,6 +51,7 @@ fn lint_definition_type(alloc: Global, decl: &NDecl, declared: &Declarations) ->
 }
 
 /// The same, with the word of the declaration in a flaw.
+#[tactic(auto, using(fc_model::proofs::Declares::bare_decl_word))]
 fn lint_definition_type_within(
     alloc: Global,
     decl: &NDecl,
@@ -108,6 +109,7 @@ fn lint_right(alloc: Global, decl: &NDecl, declared: &Declarations) -> Result<()
 }
 
 /// The same, with the word of the declaration in a flaw.
+#[tactic(auto, using(fc_model::proofs::Declares::bare_decl_word))]
 fn lint_right_within(alloc: Global, decl: &NDecl, declared: &Declarations) -> Result<(), Flawed>
     ensures { Says (λ _. done) result (within (ndecl_word (ndecl_of decl.now)) (right_judged (modules_of declared.now) (ndecl_of decl.now))) }
 {

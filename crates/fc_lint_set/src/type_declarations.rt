@@ -1,28 +1,31 @@
 //! That the fields of type declarations are well kinded.
+ghost use Rattle.fc_model.specs.Declaring.{ndecl_word};
 ghost use Rattle.fc_model.specs.Faulting.{within};
-ghost use Rattle.fc_model.specs.Linting.{done, ndecl_word, type_decl_judged, type_decls_judged};
+ghost use Rattle.fc_model.specs.Linting.{done, type_decl_judged, type_decls_judged};
 ghost use Rattle.fc_model.specs.NamelessView.{ndecl_of, ndecls_of};
 ghost use Rattle.fc_model.specs.Says.{Says};
+ghost use Rattle.fc_types.specs.KindViews.{kinds_of};
 ghost use Rattle.fc_types.specs.ModuleViews.{modules_of};
 ghost use Rattle.fc_lint_set.specs.Judging.{con_value, cons_from, field_value, fields_from};
 
-use crate::parts::{part_after, word_of};
-use fc_model::{Flawed, deeper, flaw_here, in_declaration, next_part};
+use crate::parts::part_after;
+use fc_model::{Flawed, deeper, flaw_here, in_declaration, next_part, word_of};
 use fc_syntax::{FaultKind, NConDecl, NDecl, NTy};
 use fc_types::{Declarations, Kinds, is_value_kind, kind_of_part};
 use std::alloc::Global;
 
-/// Whether the field that is the part of this number is of a kind of values.
+/// Whether the field that is the part of this number is of a kind of values, among the kinds of the type variables in scope.
 #[tactic(auto, unfolding(crate::specs::Judging::field_value))]
 fn field_is_value(
     alloc: Global,
     field: &NTy,
     declared: &Declarations,
+    kinds: &Kinds,
     part: u32,
 ) -> Result<bool, Flawed>
-    ensures { Says (λ b. b) result (field_value (modules_of declared.now) part field.now) }
+    ensures { Says (λ b. b) result (field_value (modules_of declared.now) (kinds_of kinds.now) part field.now) }
 {
-    let k = kind_of_part(alloc, field, declared, &Kinds::End, part)?;
+    let k = kind_of_part(alloc, field, declared, kinds, part)?;
     Ok(is_value_kind(&k))
 }
 
@@ -32,14 +35,15 @@ fn fields_are_values(
     alloc: Global,
     fields: &[NTy],
     declared: &Declarations,
+    kinds: &Kinds,
     first: u32,
 ) -> Result<bool, Flawed>
-    ensures { Says (λ b. b) result (fields_from (modules_of declared.now) first fields.now) }
+    ensures { Says (λ b. b) result (fields_from (modules_of declared.now) (kinds_of kinds.now) first fields.now) }
 {
     let mut part = first;
     let mut all = true;
     for field in fields {
-        let value = field_is_value(alloc, field, declared, part)?;
+        let value = field_is_value(alloc, field, declared, kinds, part)?;
         all = all && value;
         part = next_part(part)?;
     }
@@ -57,7 +61,7 @@ fn constructor_has_values(
     ensures { Says (λ b. b) result (con_value (modules_of declared.now) part con.now) }
 {
     let first = part_after(con.binders.len())?;
-    match fields_are_values(alloc, con.fields.as_slice(), declared, first) {
+    match fields_are_values(alloc, con.fields.as_slice(), declared, &Kinds::End, first) {
         Ok(values) => Ok(values),
         Err(flawed) => Err(deeper(flawed, part)),
     }
@@ -107,6 +111,7 @@ fn lint_type(alloc: Global, decl: &NDecl, declared: &Declarations) -> Result<(),
 }
 
 /// The same, with the word of the declaration in a flaw.
+#[tactic(auto, using(fc_model::proofs::Declares::bare_decl_word))]
 fn lint_type_within(alloc: Global, decl: &NDecl, declared: &Declarations) -> Result<(), Flawed>
     ensures { Says (λ _. done) result (within (ndecl_word (ndecl_of decl.now)) (type_decl_judged (modules_of declared.now) (ndecl_of decl.now))) }
 {

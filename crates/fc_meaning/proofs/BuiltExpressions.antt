@@ -2,6 +2,7 @@
 use Rattle.std.proofs.Common.{◌≡◌, ℕ, ◌+◌, true, false, not, ◌&&◌, List, [], ◌∷◌, map, length, Option, Some, None, Result, Ok, Err, refl, sym, subst}
 use Rattle.std.proofs.lemmas.Bool.{and_parts}
 use Rattle.std.specs.List.{list_all}
+use Rattle.fc_syntax.specs.Hints.{param_hint}
 use Rattle.fc_syntax.specs.declared.fault.FaultKind.TheVariants.{Duplicate}
 use Rattle.fc_syntax.specs.declared.expr.Head.{Head}
 use Rattle.fc_syntax.specs.declared.expr.Head.TheVariants as head
@@ -10,12 +11,13 @@ use Rattle.fc_syntax.specs.Tree.{Branch, Alts, NoAlts, MoreAlts, Decl, DData, DD
 use Rattle.fc_model.specs.Canonical.{are_alts_built, are_alts_formed, is_alt_built, is_alt_formed, is_binder_formed, is_empty_list, is_head_built, is_head_formed}
 use Rattle.fc_model.specs.Canonical.{are_args_built, are_args_formed, are_binds_formed, is_bind_built, is_decl_built, is_decl_formed, is_expr_built, is_expr_formed}
 use Rattle.fc_model.specs.Canonical.{is_lower_word, is_name_built, is_type_built, is_type_formed, is_upper_word}
+use Rattle.fc_model.specs.Declaring.{decl_word}
 use Rattle.fc_model.specs.Faulting.{F, need, within}
 use Rattle.fc_model.specs.Nameless.{NExpr, NLocal, NVar, NLit, NApp, NLam, NLet, NCase, NCon, NATerm, NBinder, NBValue, NBound, NArgs, NoNArgs, MoreNArgs, NBinds, NoNBinds, MoreNBinds}
 use Rattle.fc_model.specs.Nameless.{NAlt, NBranch, NAlts, NoNAlts, MoreNAlts, NDecl, NData, NNew, NFamily, NAxiom, NDef, NWrap}
 use Rattle.fc_model.specs.Resolution.{Value, enter_all, no_words, resolved_alt, resolved_alts, resolved_binders, resolved_head, then_alt, with_term}
-use Rattle.fc_model.specs.Resolution.{Top, Locals, Words, Found, IsValue, IsJoin, Nowhere, behind, bind_words, decl_word, declared_name, distinct_params, enter, enter_values, found_term, in_params}
-use Rattle.fc_model.specs.Resolution.{no_locals, no_word, param_word, resolved_arg, resolved_args, resolved_bind, resolved_binder, resolved_binds, resolved_cons, resolved_decl, resolved_decls}
+use Rattle.fc_model.specs.Resolution.{Top, Locals, Words, Found, IsValue, IsJoin, Nowhere, behind, bind_words, declared_name, distinct_params, enter, enter_values, found_term, in_params}
+use Rattle.fc_model.specs.Resolution.{no_locals, no_word, resolved_arg, resolved_args, resolved_bind, resolved_binder, resolved_binds, resolved_cons, resolved_decl, resolved_decls}
 use Rattle.fc_model.specs.Resolution.{resolved_expr, resolved_ty, resolved_var, variable}
 use Rattle.fc_model.specs.Terms.{InRange}
 use Rattle.fc_model.proofs.Parts.{and_then_inv, err_ok, need_inv, ok_ok, part}
@@ -190,8 +192,8 @@ module _ (top : Top) where
   decl_built : (ws : Words) (d : Decl) (u : NDecl) → is_decl_formed d ≡ true → is_decl_built d ≡ true → resolved_decl top ws d ≡ Ok u → IsBuiltDecl u
   decl_built ws (DData n ps cs) u f b h =
       let p = need_inv (not (ws.types n)) _ _ u h in
-      let q = and_then_inv (distinct_params no_word 0 (map param_word ps)) _ u p.1 in
-      let r = and_then_inv (resolved_cons top (in_params (map param_word ps)) ws.terms q.0 cs) _ u q.2 in
+      let q = and_then_inv (distinct_params no_word 0 (map param_hint ps)) _ u p.1 in
+      let r = and_then_inv (resolved_cons top (in_params (map param_hint ps)) ws.terms q.0 cs) _ u q.2 in
       subst IsBuiltDecl (ok_ok r.2) tt
   decl_built ws (DDef n t e) u f b h =
       let x = and_parts (is_lower_word n) (is_type_formed t && is_expr_formed e) f in

@@ -1,18 +1,21 @@
 -- A renamed module declares the words that it declared, and has the nameless form, or the first fault of names, that it had.
 use Rattle.std.proofs.Common.{◌≡◌, ℕ, ◌+◌, not, List, [], ◌∷◌, map, length, Ok, refl, ap, ◌∙◌}
 use Rattle.std.proofs.lemmas.List.{length-map}
+use Rattle.fc_syntax.specs.Hints.{param_hint, plain_hint}
 use Rattle.fc_syntax.specs.declared.fault.FaultKind.TheVariants.{Duplicate}
 use Rattle.fc_syntax.specs.Tree.{Word, Ty, Param, ParamOf, Plain, PlainOf, ConDecl, ConOf, Decl, DData, DNew, DFamily, DAxiom, DDef, DWrap, Module, ModuleOf}
+use Rattle.fc_model.specs.Declaring.{coercion_words, con_words, decl_word, term_words, type_words, words_by}
 use Rattle.fc_model.specs.Faulting.{need, under, within}
 use Rattle.fc_model.specs.Nameless.{NAxiom, NData, NFamily, NNew}
-use Rattle.fc_model.specs.Resolution.{Top, Locals, WordSet, Words, behind, coercion_words, con_words, decl_word, distinct_params, enter_all, in_params, no_locals, no_word, no_words}
-use Rattle.fc_model.specs.Resolution.{nparam, param_word, plain_kind, plain_word, plus, resolved_con, resolved_cons, resolved_decl, resolved_decls, resolved_or_fault, resolved_ty, resolved_tys}
-use Rattle.fc_model.specs.Resolution.{term_words, then_item, top_of, type_words, words_by}
+use Rattle.fc_model.specs.Resolution.{Top, Locals, WordSet, Words, behind, distinct_params, enter_all, in_params, no_locals, no_word, no_words}
+use Rattle.fc_model.specs.Resolution.{plus, resolved_con, resolved_cons, resolved_decl, resolved_decls, resolved_or_fault, resolved_ty, resolved_tys}
+use Rattle.fc_model.specs.Resolution.{then_item, top_of}
 use Rattle.fc_model.proofs.SameDeclarations.{both_same, under_same}
 use Rattle.fc_meaning.specs.Renaming.{DeclKeepsFree, DeclsKeepFree, IsInjective, ModuleKeepsFree, Renaming, renamed_binder, renamed_con, renamed_decl, renamed_module, renamed_param, renamed_plain, renamed_ty}
 use Rattle.fc_meaning.proofs.RenamingScopes.{Follows, enter_all_renamed, map-reverse, plus_follows, renamed_locals}
 use Rattle.fc_meaning.proofs.RenamingTypes.{binders_same, ty_same, tys_same}
 use Rattle.fc_meaning.proofs.RenamingExpressions.{expr_same, none_follow}
+use Rattle.fc_model.specs.Worded.{bare_param, bare_plain}
 
 module _ (f : Renaming) where
   -- WORDS THAT ARE DECLARED
@@ -66,19 +69,19 @@ module _ (f : Renaming) where
 
   -- PARAMETERS
 
-  param_words : (ps : List Param) → map param_word (map (renamed_param f) ps) ≡ map f (map param_word ps)
+  param_words : (ps : List Param) → map param_hint (map (renamed_param f) ps) ≡ map f (map param_hint ps)
   param_words [] = refl
   param_words (ParamOf a k r ∷ ps) = ap (λ xs. f a ∷ xs) (param_words ps)
 
-  plain_words : (ps : List Plain) → map plain_word (map (renamed_plain f) ps) ≡ map f (map plain_word ps)
+  plain_words : (ps : List Plain) → map plain_hint (map (renamed_plain f) ps) ≡ map f (map plain_hint ps)
   plain_words [] = refl
   plain_words (PlainOf a k ∷ ps) = ap (λ xs. f a ∷ xs) (plain_words ps)
 
-  nparams_same : (ps : List Param) → map nparam (map (renamed_param f) ps) ≡ map nparam ps
+  nparams_same : (ps : List Param) → map bare_param (map (renamed_param f) ps) ≡ map bare_param ps
   nparams_same [] = refl
-  nparams_same (ParamOf a k r ∷ ps) = ap (λ xs. nparam (ParamOf a k r) ∷ xs) (nparams_same ps)
+  nparams_same (ParamOf a k r ∷ ps) = ap (λ xs. bare_param (ParamOf a k r) ∷ xs) (nparams_same ps)
 
-  kinds_same : (ps : List Plain) → map plain_kind (map (renamed_plain f) ps) ≡ map plain_kind ps
+  kinds_same : (ps : List Plain) → map bare_plain (map (renamed_plain f) ps) ≡ map bare_plain ps
   kinds_same [] = refl
   kinds_same (PlainOf a k ∷ ps) = ap (λ xs. k ∷ xs) (kinds_same ps)
 
@@ -92,17 +95,17 @@ module _ (f : Renaming) (inj : IsInjective f) where
       both_same _ _ _ _ (ap (λ x. under i (need (not x) Duplicate (Ok i))) (h a)) (λ j.
       distinct_same (plus (f a) new) (plus a old) (i + 1) ps (plus_follows f inj a new old h))
 
-  params_same : (ps : List Param) → distinct_params no_word 0 (map param_word (map (renamed_param f) ps)) ≡ distinct_params no_word 0 (map param_word ps)
-  params_same ps = ap (distinct_params no_word 0) (param_words f ps) ∙ distinct_same no_word no_word 0 (map param_word ps) (λ w. refl)
+  params_same : (ps : List Param) → distinct_params no_word 0 (map param_hint (map (renamed_param f) ps)) ≡ distinct_params no_word 0 (map param_hint ps)
+  params_same ps = ap (distinct_params no_word 0) (param_words f ps) ∙ distinct_same no_word no_word 0 (map param_hint ps) (λ w. refl)
 
-  plains_same : (ps : List Plain) → distinct_params no_word 0 (map plain_word (map (renamed_plain f) ps)) ≡ distinct_params no_word 0 (map plain_word ps)
-  plains_same ps = ap (distinct_params no_word 0) (plain_words f ps) ∙ distinct_same no_word no_word 0 (map plain_word ps) (λ w. refl)
+  plains_same : (ps : List Plain) → distinct_params no_word 0 (map plain_hint (map (renamed_plain f) ps)) ≡ distinct_params no_word 0 (map plain_hint ps)
+  plains_same ps = ap (distinct_params no_word 0) (plain_words f ps) ∙ distinct_same no_word no_word 0 (map plain_hint ps) (λ w. refl)
 
-  in_param_types : (ps : List Param) → in_params (map param_word (map (renamed_param f) ps)) ≡ renamed_locals f (in_params (map param_word ps))
-  in_param_types ps = ap in_params (param_words f ps) ∙ in_params_renamed f (map param_word ps)
+  in_param_types : (ps : List Param) → in_params (map param_hint (map (renamed_param f) ps)) ≡ renamed_locals f (in_params (map param_hint ps))
+  in_param_types ps = ap in_params (param_words f ps) ∙ in_params_renamed f (map param_hint ps)
 
-  in_plain_types : (ps : List Plain) → in_params (map plain_word (map (renamed_plain f) ps)) ≡ renamed_locals f (in_params (map plain_word ps))
-  in_plain_types ps = ap in_params (plain_words f ps) ∙ in_params_renamed f (map plain_word ps)
+  in_plain_types : (ps : List Plain) → in_params (map plain_hint (map (renamed_plain f) ps)) ≡ renamed_locals f (in_params (map plain_hint ps))
+  in_plain_types ps = ap in_params (plain_words f ps) ∙ in_params_renamed f (map plain_hint ps)
 
   module _ (top : Top) where
     -- CONSTRUCTORS
@@ -124,18 +127,18 @@ module _ (f : Renaming) (inj : IsInjective f) where
 
     -- DECLARATIONS
 
-    in_params_same : (ps : List Param) (t : Ty) → resolved_ty top (in_params (map param_word (map (renamed_param f) ps))).types (renamed_ty f t) ≡ resolved_ty top (in_params (map param_word ps)).types t
-    in_params_same ps t = ap (λ s. resolved_ty top s.types (renamed_ty f t)) (in_param_types ps) ∙ ty_same f inj top (in_params (map param_word ps)).types t
+    in_params_same : (ps : List Param) (t : Ty) → resolved_ty top (in_params (map param_hint (map (renamed_param f) ps))).types (renamed_ty f t) ≡ resolved_ty top (in_params (map param_hint ps)).types t
+    in_params_same ps t = ap (λ s. resolved_ty top s.types (renamed_ty f t)) (in_param_types ps) ∙ ty_same f inj top (in_params (map param_hint ps)).types t
 
-    in_plains_same : (ps : List Plain) (t : Ty) → resolved_ty top (in_params (map plain_word (map (renamed_plain f) ps))).types (renamed_ty f t) ≡ resolved_ty top (in_params (map plain_word ps)).types t
-    in_plains_same ps t = ap (λ s. resolved_ty top s.types (renamed_ty f t)) (in_plain_types ps) ∙ ty_same f inj top (in_params (map plain_word ps)).types t
+    in_plains_same : (ps : List Plain) (t : Ty) → resolved_ty top (in_params (map plain_hint (map (renamed_plain f) ps))).types (renamed_ty f t) ≡ resolved_ty top (in_params (map plain_hint ps)).types t
+    in_plains_same ps t = ap (λ s. resolved_ty top s.types (renamed_ty f t)) (in_plain_types ps) ∙ ty_same f inj top (in_params (map plain_hint ps)).types t
 
     decl_same : (ws : Words) (d : Decl) → DeclKeepsFree f d → resolved_decl top ws (renamed_decl f d) ≡ resolved_decl top ws d
     decl_same ws (DData n ps cs) h =
         ap (need (not (ws.types n)) Duplicate) (both_same _ _ _ _ (params_same ps) (λ i.
         both_same _ _ _ _ (
         ap (λ s. resolved_cons top s ws.terms i (map (renamed_con f) cs)) (in_param_types ps)
-        ∙ cons_same (in_params (map param_word ps)) ws.terms i cs)
+        ∙ cons_same (in_params (map param_hint ps)) ws.terms i cs)
         (λ ds. ap (λ qs. Ok (NData n qs ds)) (nparams_same f ps))))
     decl_same ws (DNew n ps t con) h =
         ap (need (not (ws.types n)) Duplicate) (both_same _ _ _ _ (params_same ps) (λ i.

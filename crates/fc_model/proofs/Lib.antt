@@ -1,3 +1,4 @@
+pub mod Declares
 pub mod KindedIs
 pub mod Lists
 pub mod Parts

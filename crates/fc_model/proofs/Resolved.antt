@@ -1,16 +1,16 @@
 -- A nameless form declares the same words.
 use Rattle.std.proofs.Common.{◌≡◌, ℕ, ◌+◌, not, List, [], ◌∷◌, ◌++◌, map, length, Result, Ok, Err, refl, ap, ◌∙◌, subst}
 use Rattle.std.proofs.lemmas.List.Concat.{flat_map-cons}
+use Rattle.fc_syntax.specs.Hints.{param_hint, plain_hint}
 use Rattle.fc_syntax.specs.declared.fault.FaultKind.TheVariants.{Duplicate}
 use Rattle.fc_syntax.specs.Tree.{Word, Ty}
 use Rattle.fc_syntax.specs.Tree.{ConDecl, ConOf, Decl, DData, DNew, DFamily, DAxiom, DDef, DWrap}
+use Rattle.fc_model.specs.Declaring.{con_words, decl_word, decl_words, declared_words, ncon_words, ndecl_words, ndeclared_words}
 use Rattle.fc_model.specs.Faulting.{F, At, need, within}
-use Rattle.fc_model.specs.Headers.{con_word, decl_words, declared_words}
-use Rattle.fc_model.specs.Linting.{ncon_words, ndecl_words, ndeclared_words}
 use Rattle.fc_model.specs.Nameless.{NArg, NArgs, MoreNArgs}
 use Rattle.fc_model.specs.Nameless.{NConDecl, NDecl}
-use Rattle.fc_model.specs.Resolution.{Top, Locals, WordSet, Words, behind, decl_word, distinct_params, enter_all, in_params, no_locals, no_word, no_words}
-use Rattle.fc_model.specs.Resolution.{param_word, plain_word, plus, resolved_binders, resolved_con, resolved_cons, resolved_decl, resolved_decls}
+use Rattle.fc_model.specs.Resolution.{Top, Locals, WordSet, Words, behind, distinct_params, enter_all, in_params, no_locals, no_word, no_words}
+use Rattle.fc_model.specs.Resolution.{plus, resolved_binders, resolved_con, resolved_cons, resolved_decl, resolved_decls}
 use Rattle.fc_model.specs.Resolution.{resolved_expr, resolved_ty, resolved_tys, then_arg, then_item}
 use Rattle.fc_model.proofs.Parts.{and_then_inv, err_ok, need_inv, ok_ok, part}
 
@@ -35,37 +35,37 @@ module _ (top : Top) where
       subst (λ x. n ∷ ws ≡ ncon_words (x ∷ cs)) (ok_ok q.2) (ap (λ x. n ∷ x) rest)
 
   cons_have_words : (s : Locals) (earlier : WordSet) (i : ℕ) (cs : List ConDecl) (us : List NConDecl) → resolved_cons top s earlier i cs ≡ Ok us
-      → map con_word cs ≡ ncon_words us
+      → con_words cs ≡ ncon_words us
   cons_have_words s earlier i [] us h = subst (λ x. [] ≡ ncon_words x) (ok_ok h) refl
   cons_have_words s earlier i (ConOf n bs fields ∷ cs) us h =
       let p = part i (need (not (earlier n)) Duplicate (resolved_con top s (ConOf n bs fields))) _ us h in
       let c = need_inv (not (earlier n)) _ _ p.0 p.1 in
       let q = then_item_inv p.0 (resolved_cons top s (plus n earlier) (i + 1) cs) us p.2 in
-      subst (λ x. n ∷ map con_word cs ≡ ncon_words x) q.2
-      (con_has_word s n bs fields p.0 c.1 (map con_word cs) q.0 (cons_have_words s (plus n earlier) (i + 1) cs q.0 q.1))
+      subst (λ x. n ∷ con_words cs ≡ ncon_words x) q.2
+      (con_has_word s n bs fields p.0 c.1 (con_words cs) q.0 (cons_have_words s (plus n earlier) (i + 1) cs q.0 q.1))
 
   decl_has_words : (ws : Words) (d : Decl) (u : NDecl) → resolved_decl top ws d ≡ Ok u → decl_words d ≡ ndecl_words u
   decl_has_words ws (DData n ps cs) u h =
       let p = need_inv (not (ws.types n)) _ _ u h in
-      let q = and_then_inv (distinct_params no_word 0 (map param_word ps)) _ u p.1 in
-      let r = and_then_inv (resolved_cons top (in_params (map param_word ps)) ws.terms q.0 cs) _ u q.2 in
-      subst (λ x. n ∷ map con_word cs ≡ ndecl_words x) (ok_ok r.2)
-      (ap (λ x. n ∷ x) (cons_have_words (in_params (map param_word ps)) ws.terms q.0 cs r.0 r.1))
+      let q = and_then_inv (distinct_params no_word 0 (map param_hint ps)) _ u p.1 in
+      let r = and_then_inv (resolved_cons top (in_params (map param_hint ps)) ws.terms q.0 cs) _ u q.2 in
+      subst (λ x. n ∷ con_words cs ≡ ndecl_words x) (ok_ok r.2)
+      (ap (λ x. n ∷ x) (cons_have_words (in_params (map param_hint ps)) ws.terms q.0 cs r.0 r.1))
   decl_has_words ws (DNew n ps t con) u h =
       let p = need_inv (not (ws.types n)) _ _ u h in
-      let q = and_then_inv (distinct_params no_word 0 (map param_word ps)) _ u p.1 in
-      let r = part q.0 (resolved_ty top (in_params (map param_word ps)).types t) _ u q.2 in
+      let q = and_then_inv (distinct_params no_word 0 (map param_hint ps)) _ u p.1 in
+      let r = part q.0 (resolved_ty top (in_params (map param_hint ps)).types t) _ u q.2 in
       let v = need_inv (not (ws.coercions con)) _ _ u r.2 in
       subst (λ x. n ∷ con ∷ [] ≡ ndecl_words x) (ok_ok v.1) refl
   decl_has_words ws (DFamily n ps k) u h =
       let p = need_inv (not (ws.types n)) _ _ u h in
-      let q = and_then_inv (distinct_params no_word 0 (map plain_word ps)) _ u p.1 in
+      let q = and_then_inv (distinct_params no_word 0 (map plain_hint ps)) _ u p.1 in
       subst (λ x. n ∷ [] ≡ ndecl_words x) (ok_ok q.2) refl
   decl_has_words ws (DAxiom n ps t s) u h =
       let p = need_inv (not (ws.coercions n)) _ _ u h in
-      let q = and_then_inv (distinct_params no_word 0 (map plain_word ps)) _ u p.1 in
-      let r = part q.0 (resolved_ty top (in_params (map plain_word ps)).types t) _ u q.2 in
-      let v = part (q.0 + 1) (resolved_ty top (in_params (map plain_word ps)).types s) _ u r.2 in
+      let q = and_then_inv (distinct_params no_word 0 (map plain_hint ps)) _ u p.1 in
+      let r = part q.0 (resolved_ty top (in_params (map plain_hint ps)).types t) _ u q.2 in
+      let v = part (q.0 + 1) (resolved_ty top (in_params (map plain_hint ps)).types s) _ u r.2 in
       subst (λ x. n ∷ [] ≡ ndecl_words x) (ok_ok v.2) refl
   decl_has_words ws (DDef n t e) u h =
       let p = need_inv (not (ws.terms n)) _ _ u h in

@@ -1,12 +1,14 @@
 -- The function gives a module a nameless form just where the rules do.
 use Rattle.std.proofs.Common.{◌≡◌, ◌↔◌, ℕ, ◌+◌, not, List, [], ◌∷◌, map, length, Ok, refl, sym, ap, ◌∙◌, subst}
 use Rattle.std.proofs.lemmas.Bool.{not-true}
+use Rattle.fc_syntax.specs.Hints.{param_hint, plain_hint}
 use Rattle.fc_syntax.specs.declared.fault.FaultKind.TheVariants.{Duplicate}
 use Rattle.fc_syntax.specs.Tree.{Word, ConDecl, ConOf, Decl, DData, DNew, DFamily, DAxiom, DDef, DWrap, Module, ModuleOf}
+use Rattle.fc_model.specs.Declaring.{decl_word}
 use Rattle.fc_model.specs.Faulting.{need, within}
 use Rattle.fc_model.specs.Nameless.{NConDecl, NDecl, NModule}
-use Rattle.fc_model.specs.Resolution.{Top, Locals, WordSet, Words, no_locals, no_word, no_words, behind, decl_word, distinct_params, enter_all, in_params}
-use Rattle.fc_model.specs.Resolution.{param_word, plain_word, plus, top_of}
+use Rattle.fc_model.specs.Resolution.{Top, Locals, WordSet, Words, no_locals, no_word, no_words, behind, distinct_params, enter_all, in_params}
+use Rattle.fc_model.specs.Resolution.{plus, top_of}
 use Rattle.fc_model.specs.Resolution.{resolved_binders, resolved_con, resolved_cons, resolved_decl, resolved_decls, resolved_expr, resolved_or_fault, resolved_ty, resolved_tys}
 use Rattle.fc_model.specs.ResolutionRules.{AreDistinct, no_words_left, one_word_more, ResolvesCons, resolves_no_constructors, resolves_constructors}
 use Rattle.fc_model.specs.ResolutionRules.{ResolvesDecl, resolves_data, resolves_newtype, resolves_family, resolves_equation, resolves_def, resolves_wrap}
@@ -70,32 +72,32 @@ module _ (top : Top) where
   pub resolved_decl_is : (ws : Words) (d : Decl) (c : NDecl) → resolved_decl top ws d ≡ Ok c → ResolvesDecl top ws d c
   resolved_decl_is ws (DData n ps cs) c h =
       let p = need_inv (not (ws.types n)) _ _ c h in
-      let q = and_then_inv (distinct_params no_word 0 (map param_word ps)) _ c p.1 in
-      let r = and_then_inv (resolved_cons top (in_params (map param_word ps)) ws.terms q.0 cs) _ c q.2 in
+      let q = and_then_inv (distinct_params no_word 0 (map param_hint ps)) _ c p.1 in
+      let r = and_then_inv (resolved_cons top (in_params (map param_hint ps)) ws.terms q.0 cs) _ c q.2 in
       subst (λ x. ResolvesDecl top ws (DData n ps cs) x) (ok_ok r.2)
-      (resolves_data (not-true (ws.types n) p.0) (distinct_words_are no_word 0 (map param_word ps) q.0 q.1)
-      (resolved_cons_are (in_params (map param_word ps)) ws.terms q.0 cs r.0 r.1))
+      (resolves_data (not-true (ws.types n) p.0) (distinct_words_are no_word 0 (map param_hint ps) q.0 q.1)
+      (resolved_cons_are (in_params (map param_hint ps)) ws.terms q.0 cs r.0 r.1))
   resolved_decl_is ws (DNew n ps t con) c h =
       let p = need_inv (not (ws.types n)) _ _ c h in
-      let q = and_then_inv (distinct_params no_word 0 (map param_word ps)) _ c p.1 in
-      let r = part q.0 (resolved_ty top (in_params (map param_word ps)).types t) _ c q.2 in
+      let q = and_then_inv (distinct_params no_word 0 (map param_hint ps)) _ c p.1 in
+      let r = part q.0 (resolved_ty top (in_params (map param_hint ps)).types t) _ c q.2 in
       let v = need_inv (not (ws.coercions con)) _ _ c r.2 in
       subst (λ x. ResolvesDecl top ws (DNew n ps t con) x) (ok_ok v.1)
-      (resolves_newtype (not-true (ws.types n) p.0) (distinct_words_are no_word 0 (map param_word ps) q.0 q.1)
-      (resolved_ty_is top (in_params (map param_word ps)).types t r.0 r.1) (not-true (ws.coercions con) v.0))
+      (resolves_newtype (not-true (ws.types n) p.0) (distinct_words_are no_word 0 (map param_hint ps) q.0 q.1)
+      (resolved_ty_is top (in_params (map param_hint ps)).types t r.0 r.1) (not-true (ws.coercions con) v.0))
   resolved_decl_is ws (DFamily n ps k) c h =
       let p = need_inv (not (ws.types n)) _ _ c h in
-      let q = and_then_inv (distinct_params no_word 0 (map plain_word ps)) _ c p.1 in
+      let q = and_then_inv (distinct_params no_word 0 (map plain_hint ps)) _ c p.1 in
       subst (λ x. ResolvesDecl top ws (DFamily n ps k) x) (ok_ok q.2)
-      (resolves_family (not-true (ws.types n) p.0) (distinct_words_are no_word 0 (map plain_word ps) q.0 q.1))
+      (resolves_family (not-true (ws.types n) p.0) (distinct_words_are no_word 0 (map plain_hint ps) q.0 q.1))
   resolved_decl_is ws (DAxiom n ps t u) c h =
       let p = need_inv (not (ws.coercions n)) _ _ c h in
-      let q = and_then_inv (distinct_params no_word 0 (map plain_word ps)) _ c p.1 in
-      let r = part q.0 (resolved_ty top (in_params (map plain_word ps)).types t) _ c q.2 in
-      let v = part (q.0 + 1) (resolved_ty top (in_params (map plain_word ps)).types u) _ c r.2 in
+      let q = and_then_inv (distinct_params no_word 0 (map plain_hint ps)) _ c p.1 in
+      let r = part q.0 (resolved_ty top (in_params (map plain_hint ps)).types t) _ c q.2 in
+      let v = part (q.0 + 1) (resolved_ty top (in_params (map plain_hint ps)).types u) _ c r.2 in
       subst (λ x. ResolvesDecl top ws (DAxiom n ps t u) x) (ok_ok v.2)
-      (resolves_equation (not-true (ws.coercions n) p.0) (distinct_words_are no_word 0 (map plain_word ps) q.0 q.1)
-      (resolved_ty_is top (in_params (map plain_word ps)).types t r.0 r.1) (resolved_ty_is top (in_params (map plain_word ps)).types u v.0 v.1))
+      (resolves_equation (not-true (ws.coercions n) p.0) (distinct_words_are no_word 0 (map plain_hint ps) q.0 q.1)
+      (resolved_ty_is top (in_params (map plain_hint ps)).types t r.0 r.1) (resolved_ty_is top (in_params (map plain_hint ps)).types u v.0 v.1))
   resolved_decl_is ws (DDef n t e) c h =
       let p = need_inv (not (ws.terms n)) _ _ c h in
       let q = part 0 (resolved_ty top [] t) _ c p.1 in

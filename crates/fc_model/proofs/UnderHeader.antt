@@ -1,5 +1,5 @@
 -- What holds of a module holds of it under the written header: every word is one of its form, and every premise holds.
-use Rattle.std.proofs.Common.{◌≡◌, ℕ, ◌+◌, Bool, true, false, ◌&&◌, ◌||◌, bytes_eq, is_none, if◌then◌else◌, List, [], ◌∷◌, ◌++◌, map, length, Option, Some, None, Result, Ok, refl, sym, ap, ◌∙◌, subst}
+use Rattle.std.proofs.Common.{◌≡◌, ℕ, ◌+◌, Bool, true, false, ◌&&◌, ◌||◌, bytes_eq, is_none, if◌then◌else◌, List, [], ◌∷◌, ◌++◌, length, Option, Some, None, Result, Ok, refl, sym, ap, ◌∙◌, subst}
 use Rattle.std.proofs.lemmas.Bool.{and_parts}
 use Rattle.std.specs.List.{list_all}
 use Rattle.std.proofs.lemmas.List.Concat.{flat_map-cons}
@@ -8,11 +8,12 @@ use Rattle.fc_syntax.specs.declared.fault.FaultKind.TheVariants.{DefType, Export
 use Rattle.fc_syntax.specs.Tokens.{is_lower_name, is_module_part, is_upper_name}
 use Rattle.fc_syntax.specs.Tree.{Word, Kind, ConDecl, ConOf, Decl, DData, DDef, Module, ModuleOf}
 use Rattle.fc_model.specs.Canonical.{IsBuilt, IsFormed, is_con_formed, is_decl_formed, is_expr_formed, is_lower_word, is_type_formed, is_upper_word, is_word}
+use Rattle.fc_model.specs.Declaring.{con_words, decl_words, declared_words, ndecl_word, ndeclared_words}
 use Rattle.fc_model.specs.Faulting.{F, need, under, within, and_then}
-use Rattle.fc_model.specs.Headers.{con_word, decl_words, declared_words, others, written_of}
+use Rattle.fc_model.specs.Headers.{others, written_of}
 use Rattle.fc_model.specs.Kinding.{decls_at, kind_or_fault, same_type}
 use Rattle.fc_model.specs.Linting.{Done, done, Lints, con_judged, cons_judged, def_type_judged, def_types_judged, definition_kind, exports_judged, fields_judged, lint_or_fault}
-use Rattle.fc_model.specs.Linting.{ndecl_word, ndeclared_words, right_judged, right_side_judged, rights_judged, type_decl_judged, type_decls_judged}
+use Rattle.fc_model.specs.Linting.{right_judged, right_side_judged, rights_judged, type_decl_judged, type_decls_judged}
 use Rattle.fc_model.specs.Nameless.{NTy, NExpr, NConDecl, NConOf, NDecl, NData, NNew, NFamily, NAxiom, NDef, NWrap, NModule, NModuleOf}
 use Rattle.fc_model.specs.Resolution.{WordSet, no_word, no_words, plus, plus_all, resolved_decls, resolved_or_fault, top_of}
 use Rattle.fc_model.specs.Typing.{no_context}
@@ -73,17 +74,17 @@ upper_is_word w h = upper_is_plain (is_lower_name w) (is_upper_name w) (is_none 
 lower_is_word : (w : Word) → is_lower_word w ≡ true → is_word w ≡ true
 lower_is_word w h = lower_is_plain (is_lower_name w) (is_upper_name w) (is_none (keyword_of w)) h
 
-cons_are_words : (cs : List ConDecl) → list_all is_con_formed cs ≡ true → list_all is_word (map con_word cs) ≡ true
+cons_are_words : (cs : List ConDecl) → list_all is_con_formed cs ≡ true → list_all is_word (con_words cs) ≡ true
 cons_are_words [] h = refl
 cons_are_words (ConOf n bs fields ∷ cs) h =
     let a = and_parts (is_con_formed (ConOf n bs fields)) (list_all is_con_formed cs) h in
     let b = and_parts (is_upper_word n) (list_all is_type_formed fields) a.0 in
-    both (is_word n) (list_all is_word (map con_word cs)) (upper_is_word n b.0) (cons_are_words cs a.1)
+    both (is_word n) (list_all is_word (con_words cs)) (upper_is_word n b.0) (cons_are_words cs a.1)
 
 decl_has_words : (d : Decl) → is_decl_formed d ≡ true → list_all is_word (decl_words d) ≡ true
 decl_has_words (DData n ps cs) h =
     let a = and_parts (is_upper_word n) (list_all is_con_formed cs) h in
-    both (is_word n) (list_all is_word (map con_word cs)) (upper_is_word n a.0) (cons_are_words cs a.1)
+    both (is_word n) (list_all is_word (con_words cs)) (upper_is_word n a.0) (cons_are_words cs a.1)
 decl_has_words (DDef n t e) h =
     let a = and_parts (is_lower_word n) (is_type_formed t && is_expr_formed e) h in both (is_word n) true (lower_is_word n a.0) refl
 decl_has_words d h = false_true h

@@ -1,7 +1,7 @@
 -- The header of what is written.
-use Rattle.std.specs.Prelude.{List, [], ◌∷◌, ◌++◌, map, if◌then◌else◌}
-use Rattle.std.specs.List.{flat_map}
-use Rattle.fc_syntax.specs.Tree.{Word, ConDecl, ConOf, Decl, DData, DNew, DFamily, DAxiom, DDef, DWrap, Module, ModuleOf}
+use Rattle.std.specs.Prelude.{List, [], ◌∷◌, ◌++◌, if◌then◌else◌}
+use Rattle.fc_syntax.specs.Tree.{Word, Decl, Module, ModuleOf}
+use Rattle.fc_model.specs.Declaring.{declared_words}
 use Rattle.fc_model.specs.Resolution.{WordSet, no_word, plus, plus_all}
 
 abbrev pub name_of : Module → Word
@@ -12,21 +12,6 @@ exports_of (ModuleOf m imports exports hidden ds) = exports
 
 abbrev pub decls_in : Module → List Decl
 decls_in (ModuleOf m imports exports hidden ds) = ds
-
-abbrev pub con_word : ConDecl → Word
-con_word (ConOf n bs fields) = n
-
--- the words that a declaration declares, in their order: a type and then its constructors, a newtype and then its axiom
-abbrev pub decl_words : Decl → List Word
-decl_words (DData n ps cs) = n ∷ map con_word cs
-decl_words (DNew n ps t con) = n ∷ con ∷ []
-decl_words (DFamily n ps k) = n ∷ []
-decl_words (DAxiom n ps t u) = n ∷ []
-decl_words (DDef n t e) = n ∷ []
-decl_words (DWrap n t e) = n ∷ []
-
-abbrev pub declared_words : List Decl → List Word
-declared_words ds = flat_map decl_words ds
 
 -- the words that are not in the set, each once, in their order
 abbrev pub others : WordSet → List Word → List Word

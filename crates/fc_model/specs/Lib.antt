@@ -1,5 +1,7 @@
 pub mod Acceptance
 pub mod Canonical
+pub mod DeclaredWords
+pub mod Declaring
 pub mod Erasure
 pub mod Faulting
 pub mod Headers

@@ -1,8 +1,9 @@
 -- Lint of a module: every premise of names, declarations and typing, in its order; and the first that fails.
-use Rattle.std.specs.Prelude.{◌≡◌, ℕ, ◌+◌, Bool, true, ◌&&◌, ◌++◌, List, [], ◌∷◌, length, None, Result, Ok, Err}
+use Rattle.std.specs.Prelude.{◌≡◌, ℕ, ◌+◌, Bool, true, ◌&&◌, List, [], ◌∷◌, length, None, Result, Ok, Err}
 use Rattle.std.specs.List.{list_all}
 use Rattle.fc_syntax.specs.declared.fault.FaultKind.TheVariants.{BadForm, ExportUnknown, NotAType, UnliftedTop, DefType}
-use Rattle.fc_syntax.specs.Tree.{Word, Kind, KStar, KHash, KArrow, Module}
+use Rattle.fc_syntax.specs.Tree.{Kind, KStar, KHash, KArrow, Module}
+use Rattle.fc_model.specs.Declaring.{ndecl_word, ndeclared_words}
 use Rattle.fc_model.specs.Faulting.{F, At, need, under, within, and_then}
 use Rattle.fc_model.specs.Kinding.{is_value_kind, kind_or_fault, same_type}
 use Rattle.fc_model.specs.Nameless.{NTy, NConDecl, NConOf, NDecl, NData, NNew, NFamily, NAxiom, NDef, NWrap, NExpr, NModule, NModuleOf}
@@ -14,23 +15,6 @@ pub data Done : Type 0 where
   done : Done
 
 -- EXPORTS
-
-abbrev pub ncon_words : List NConDecl → List Word
-ncon_words [] = []
-ncon_words (NConOf n bs fields ∷ cs) = n ∷ ncon_words cs
-
--- the words that a declaration declares, in any space
-abbrev pub ndecl_words : NDecl → List Word
-ndecl_words (NData n ps cs) = n ∷ ncon_words cs
-ndecl_words (NNew n ps t con) = n ∷ con ∷ []
-ndecl_words (NFamily n ps k) = n ∷ []
-ndecl_words (NAxiom n ps t u) = n ∷ []
-ndecl_words (NDef n t e) = n ∷ []
-ndecl_words (NWrap n t e) = n ∷ []
-
-abbrev pub ndeclared_words : List NDecl → List Word
-ndeclared_words [] = []
-ndeclared_words (d ∷ ds) = ndecl_words d ++ ndeclared_words ds
 
 -- each exported and each hidden word has a declaration, in any space; the fault stands at no place
 abbrev pub exports_judged : NModule → Result Done F
@@ -63,14 +47,6 @@ type_decl_judged ms (NFamily n ps k) = Err (At BadForm None [])
 type_decl_judged ms (NAxiom n ps t u) = Err (At BadForm None [])
 type_decl_judged ms (NDef n t e) = Ok done
 type_decl_judged ms (NWrap n t e) = Ok done
-
-abbrev pub ndecl_word : NDecl → Word
-ndecl_word (NData n ps cs) = n
-ndecl_word (NNew n ps t con) = n
-ndecl_word (NFamily n ps k) = n
-ndecl_word (NAxiom n ps t u) = n
-ndecl_word (NDef n t e) = n
-ndecl_word (NWrap n t e) = n
 
 abbrev pub type_decls_judged : List NModule → List NDecl → Result Done F
 type_decls_judged ms [] = Ok done

@@ -1,24 +1,28 @@
 -- The nameless form of a module, or its first fault of names: a word that is not in scope, or one that is bound twice. Both
 -- are sought in one walk, in declaration order and text order within.
-use Rattle.std.specs.Prelude.{ℕ, ◌+◌, Bool, true, false, not, List, [], ◌∷◌, ◌++◌, map, reverse, length, if◌then◌else◌, Option, Some, None, option_map, Result, Ok, Err}
+use Rattle.std.specs.Prelude.{ℕ, ◌+◌, Bool, true, false, not, List, [], ◌∷◌, map, reverse, length, if◌then◌else◌, Option, Some, None, option_map, Result, Ok, Err}
 use Rattle.std.specs.Str.{bytes_eq}
 use Rattle.fc_syntax.specs.declared.ty.Name.{Name}
 use Rattle.fc_syntax.specs.declared.expr.Head.{Head}
 use Rattle.fc_syntax.specs.declared.expr.Head.TheVariants as head
 use Rattle.fc_syntax.specs.declared.fault.FaultKind.TheVariants.{Unbound, Duplicate}
-use Rattle.fc_syntax.specs.Tree.{Word, Kind, Ty, TVar, TCon, TInt, TApp, TFun, TForall, TCoForall}
+use Rattle.fc_syntax.specs.GenericTree as tree
+use Rattle.fc_syntax.specs.Hints.{param_hint, plain_hint}
+use Rattle.fc_syntax.specs.Tree.{Word, Ty, TVar, TCon, TInt, TApp, TFun, TForall, TCoForall}
 use Rattle.fc_syntax.specs.Tree.{Co, GVar, GRefl, GSym, GTrans, GTc, GCapp, GFun, GAll, GCoAll, GInst, GNth, GLeft, GRight, GSub, GAx, GUniv, Cos, NoCos, MoreCos}
 use Rattle.fc_syntax.specs.Tree.{Binder, BValue, BType, BCo, Arg, ATerm, AType, ACo, Bind, Bound, JoinBind, Joined, Alt, Branch}
 use Rattle.fc_syntax.specs.Tree.{Expr, EVar, ELit, EApp, ELam, ELet, ECase, ECast, ECon, EPrim, EFail, EJoin, EJump}
 use Rattle.fc_syntax.specs.Tree.{Exprs, NoExprs, MoreExprs, Args, NoArgs, MoreArgs, Binds, NoBinds, MoreBinds, Joins, NoJoins, MoreJoins, Alts, NoAlts, MoreAlts}
-use Rattle.fc_syntax.specs.Tree.{Param, ParamOf, Plain, PlainOf, ConDecl, ConOf, Decl, DData, DNew, DFamily, DAxiom, DDef, DWrap, Module, ModuleOf}
+use Rattle.fc_syntax.specs.Tree.{ConDecl, ConOf, Decl, DData, DNew, DFamily, DAxiom, DDef, DWrap, Module, ModuleOf}
+use Rattle.fc_model.specs.Declaring.{coercion_words, decl_word, ncoercion_words, nterm_words, ntype_words, nwords_by, term_words, type_words, words_by}
 use Rattle.fc_model.specs.Faulting.{F, At, need, under, within, and_then}
 use Rattle.fc_model.specs.Nameless.{NTy, NTVar, NTCon, NTInt, NTApp, NTFun, NTForall, NTCoForall}
 use Rattle.fc_model.specs.Nameless.{NCo, NGVar, NGRefl, NGSym, NGTrans, NGTc, NGCapp, NGFun, NGAll, NGCoAll, NGInst, NGNth, NGLeft, NGRight, NGSub, NGAx, NGUniv, NCos, NoNCos, MoreNCos}
 use Rattle.fc_model.specs.Nameless.{NBinder, NBValue, NBType, NBCo, NArg, NATerm, NAType, NACo, NBind, NBound, NJoinBind, NJoined, NAlt, NBranch}
 use Rattle.fc_model.specs.Nameless.{NExpr, NLocal, NVar, NLit, NApp, NLam, NLet, NCase, NCast, NCon, NPrim, NFail, NJoin, NJump}
 use Rattle.fc_model.specs.Nameless.{NExprs, NoNExprs, MoreNExprs, NArgs, NoNArgs, MoreNArgs, NBinds, NoNBinds, MoreNBinds, NJoins, NoNJoins, MoreNJoins, NAlts, NoNAlts, MoreNAlts}
-use Rattle.fc_model.specs.Nameless.{NParam, NParamOf, NConDecl, NConOf, NDecl, NData, NNew, NFamily, NAxiom, NDef, NWrap, NModule, NModuleOf}
+use Rattle.fc_model.specs.Nameless.{NConDecl, NConOf, NDecl, NData, NNew, NFamily, NAxiom, NDef, NWrap, NModule, NModuleOf}
+use Rattle.fc_model.specs.Worded.{bare_param, bare_plain}
 
 -- SETS OF WORDS
 
@@ -343,40 +347,8 @@ abbrev mutual
 
 -- DECLARATIONS
 
--- the words that a declaration declares, by their space
-abbrev pub con_words : List ConDecl → List Word
-con_words [] = []
-con_words (ConOf n bs fields ∷ cs) = n ∷ con_words cs
-
-abbrev pub type_words : Decl → List Word
-type_words (DData n ps cs) = n ∷ []
-type_words (DNew n ps t con) = n ∷ []
-type_words (DFamily n ps k) = n ∷ []
-type_words (DAxiom n ps t u) = []
-type_words (DDef n t e) = []
-type_words (DWrap n t e) = []
-
-abbrev pub term_words : Decl → List Word
-term_words (DData n ps cs) = con_words cs
-term_words (DNew n ps t con) = []
-term_words (DFamily n ps k) = []
-term_words (DAxiom n ps t u) = []
-term_words (DDef n t e) = n ∷ []
-term_words (DWrap n t e) = n ∷ []
-
-abbrev pub coercion_words : Decl → List Word
-coercion_words (DData n ps cs) = []
-coercion_words (DNew n ps t con) = con ∷ []
-coercion_words (DFamily n ps k) = []
-coercion_words (DAxiom n ps t u) = n ∷ []
-coercion_words (DDef n t e) = []
-coercion_words (DWrap n t e) = []
-
-abbrev pub words_by : (Decl → List Word) → List Decl → List Word
-words_by words [] = []
-words_by words (d ∷ ds) = words d ++ words_by words ds
-
-abbrev pub top_of : Module → Top
+-- what a module declares and imports
+abbrev pub top_of : {L V B : Type 0} → tree.Module L V B → Top
 top_of (ModuleOf m imports exports hidden ds) = record {
   own = m;
   imports = plus_all imports no_word;
@@ -385,21 +357,19 @@ top_of (ModuleOf m imports exports hidden ds) = record {
   coercions = plus_all (words_by coercion_words ds) no_word;
 }
 
+-- the same of a nameless one
+abbrev pub ntop_of : NModule → Top
+ntop_of (NModuleOf m imports exports hidden ds) = record {
+  own = m;
+  imports = plus_all imports no_word;
+  types = plus_all (nwords_by ntype_words ds) no_word;
+  terms = plus_all (nwords_by nterm_words ds) no_word;
+  coercions = plus_all (nwords_by ncoercion_words ds) no_word;
+}
+
 -- the words of the declarations before
-abbrev pub behind : Decl → Words → Words
+abbrev pub behind : {L V B : Type 0} → tree.Decl L V B → Words → Words
 behind d ws = record { types = plus_all (type_words d) ws.types; terms = plus_all (term_words d) ws.terms; coercions = plus_all (coercion_words d) ws.coercions }
-
-abbrev pub nparam : Param → NParam
-nparam (ParamOf a k r) = NParamOf k r
-
-abbrev pub param_word : Param → Word
-param_word (ParamOf a k r) = a
-
-abbrev pub plain_word : Plain → Word
-plain_word (PlainOf a k) = a
-
-abbrev pub plain_kind : Plain → Kind
-plain_kind (PlainOf a k) = k
 
 -- parameters from part i on have words of their own
 abbrev pub distinct_params : WordSet → ℕ → List Word → Result ℕ F
@@ -423,32 +393,24 @@ in_params ps = record no_locals { types = reverse ps }
 
 abbrev pub resolved_decl : Top → Words → Decl → Result NDecl F
 resolved_decl top ws (DData n ps cs) =
-    need (not (ws.types n)) Duplicate (and_then (distinct_params no_word 0 (map param_word ps)) (λ i.
-    and_then (resolved_cons top (in_params (map param_word ps)) ws.terms i cs) (λ ds. Ok (NData n (map nparam ps) ds))))
+    need (not (ws.types n)) Duplicate (and_then (distinct_params no_word 0 (map param_hint ps)) (λ i.
+    and_then (resolved_cons top (in_params (map param_hint ps)) ws.terms i cs) (λ ds. Ok (NData n (map bare_param ps) ds))))
 resolved_decl top ws (DNew n ps t con) =
-    need (not (ws.types n)) Duplicate (and_then (distinct_params no_word 0 (map param_word ps)) (λ i.
-    and_then (under i (resolved_ty top (in_params (map param_word ps)).types t)) (λ a.
-    need (not (ws.coercions con)) Duplicate (Ok (NNew n (map nparam ps) a con)))))
+    need (not (ws.types n)) Duplicate (and_then (distinct_params no_word 0 (map param_hint ps)) (λ i.
+    and_then (under i (resolved_ty top (in_params (map param_hint ps)).types t)) (λ a.
+    need (not (ws.coercions con)) Duplicate (Ok (NNew n (map bare_param ps) a con)))))
 resolved_decl top ws (DFamily n ps k) =
-    need (not (ws.types n)) Duplicate (and_then (distinct_params no_word 0 (map plain_word ps)) (λ i. Ok (NFamily n (map plain_kind ps) k)))
+    need (not (ws.types n)) Duplicate (and_then (distinct_params no_word 0 (map plain_hint ps)) (λ i. Ok (NFamily n (map bare_plain ps) k)))
 resolved_decl top ws (DAxiom n ps t u) =
-    need (not (ws.coercions n)) Duplicate (and_then (distinct_params no_word 0 (map plain_word ps)) (λ i.
-    and_then (under i (resolved_ty top (in_params (map plain_word ps)).types t)) (λ a.
-    and_then (under (i + 1) (resolved_ty top (in_params (map plain_word ps)).types u)) (λ b. Ok (NAxiom n (map plain_kind ps) a b)))))
+    need (not (ws.coercions n)) Duplicate (and_then (distinct_params no_word 0 (map plain_hint ps)) (λ i.
+    and_then (under i (resolved_ty top (in_params (map plain_hint ps)).types t)) (λ a.
+    and_then (under (i + 1) (resolved_ty top (in_params (map plain_hint ps)).types u)) (λ b. Ok (NAxiom n (map bare_plain ps) a b)))))
 resolved_decl top ws (DDef n t e) =
     need (not (ws.terms n)) Duplicate (and_then (under 0 (resolved_ty top [] t)) (λ a.
     and_then (under 1 (resolved_expr top no_locals e)) (λ f. Ok (NDef n a f))))
 resolved_decl top ws (DWrap n t e) =
     need (not (ws.terms n)) Duplicate (and_then (under 0 (resolved_ty top [] t)) (λ a.
     and_then (under 1 (resolved_expr top no_locals e)) (λ f. Ok (NWrap n a f))))
-
-abbrev pub decl_word : Decl → Word
-decl_word (DData n ps cs) = n
-decl_word (DNew n ps t con) = n
-decl_word (DFamily n ps k) = n
-decl_word (DAxiom n ps t u) = n
-decl_word (DDef n t e) = n
-decl_word (DWrap n t e) = n
 
 -- declarations behind the words of those before
 abbrev pub resolved_decls : Top → Words → List Decl → Result (List NDecl) F

@@ -1,6 +1,7 @@
 -- Resolution by rules, one for each form: which nameless tree is that of a named one. The function beside it (`Resolution`) gives the
 -- same nameless tree, or else the first fault; that the two agree is proved.
 use Rattle.std.specs.Prelude.{◌≡◌, ℕ, ℤ, Bool, true, false, List, [], ◌∷◌, map, if◌then◌else◌, None, Some, Ok}
+use Rattle.fc_syntax.specs.Hints.{param_hint, plain_hint}
 use Rattle.fc_syntax.specs.declared.ty.Name.{Name}
 use Rattle.fc_syntax.specs.declared.ty.Role.{Role}
 use Rattle.fc_syntax.specs.declared.expr.Head.{Head}
@@ -20,7 +21,8 @@ use Rattle.fc_model.specs.Nameless.{NExprs, NoNExprs, MoreNExprs, NArgs, NoNArgs
 use Rattle.fc_model.specs.Nameless.{NConDecl, NConOf, NDecl, NData, NNew, NFamily, NAxiom, NDef, NWrap, NModule, NModuleOf}
 use Rattle.fc_model.specs.Resolution.{Top, Locals, Value, WordSet, Words, IsValue, IsJoin, Nowhere, no_word, no_words, no_locals, plus}
 use Rattle.fc_model.specs.Resolution.{declared_name, found_term, index_of, with_term, with_type, enter, enter_all, enter_joins, enter_values, is_new, with_binder}
-use Rattle.fc_model.specs.Resolution.{bind_words, join_words, behind, in_params, nparam, param_word, plain_kind, plain_word, top_of}
+use Rattle.fc_model.specs.Resolution.{bind_words, join_words, behind, in_params, top_of}
+use Rattle.fc_model.specs.Worded.{bare_param, bare_plain}
 
 -- TYPES
 
@@ -174,15 +176,15 @@ pub data ResolvesCons (top : Top) : Locals → WordSet → List ConDecl → List
 
 -- a declaration behind the words of those before
 pub data ResolvesDecl (top : Top) (ws : Words) : Decl → NDecl → Type 0 where
-  resolves_data : {n : Word} {ps : List Param} {cs : List ConDecl} {ds : List NConDecl} → ws.types n ≡ false → AreDistinct no_word (map param_word ps)
-      → ResolvesCons top (in_params (map param_word ps)) ws.terms cs ds → ResolvesDecl top ws (DData n ps cs) (NData n (map nparam ps) ds)
-  resolves_newtype : {n con : Word} {ps : List Param} {t : Ty} {a : NTy} → ws.types n ≡ false → AreDistinct no_word (map param_word ps)
-      → ResolvesTy top (in_params (map param_word ps)).types t a → ws.coercions con ≡ false → ResolvesDecl top ws (DNew n ps t con) (NNew n (map nparam ps) a con)
-  resolves_family : {n : Word} {ps : List Plain} {k : Kind} → ws.types n ≡ false → AreDistinct no_word (map plain_word ps)
-      → ResolvesDecl top ws (DFamily n ps k) (NFamily n (map plain_kind ps) k)
-  resolves_equation : {n : Word} {ps : List Plain} {t u : Ty} {a b : NTy} → ws.coercions n ≡ false → AreDistinct no_word (map plain_word ps)
-      → ResolvesTy top (in_params (map plain_word ps)).types t a → ResolvesTy top (in_params (map plain_word ps)).types u b
-      → ResolvesDecl top ws (DAxiom n ps t u) (NAxiom n (map plain_kind ps) a b)
+  resolves_data : {n : Word} {ps : List Param} {cs : List ConDecl} {ds : List NConDecl} → ws.types n ≡ false → AreDistinct no_word (map param_hint ps)
+      → ResolvesCons top (in_params (map param_hint ps)) ws.terms cs ds → ResolvesDecl top ws (DData n ps cs) (NData n (map bare_param ps) ds)
+  resolves_newtype : {n con : Word} {ps : List Param} {t : Ty} {a : NTy} → ws.types n ≡ false → AreDistinct no_word (map param_hint ps)
+      → ResolvesTy top (in_params (map param_hint ps)).types t a → ws.coercions con ≡ false → ResolvesDecl top ws (DNew n ps t con) (NNew n (map bare_param ps) a con)
+  resolves_family : {n : Word} {ps : List Plain} {k : Kind} → ws.types n ≡ false → AreDistinct no_word (map plain_hint ps)
+      → ResolvesDecl top ws (DFamily n ps k) (NFamily n (map bare_plain ps) k)
+  resolves_equation : {n : Word} {ps : List Plain} {t u : Ty} {a b : NTy} → ws.coercions n ≡ false → AreDistinct no_word (map plain_hint ps)
+      → ResolvesTy top (in_params (map plain_hint ps)).types t a → ResolvesTy top (in_params (map plain_hint ps)).types u b
+      → ResolvesDecl top ws (DAxiom n ps t u) (NAxiom n (map bare_plain ps) a b)
   resolves_def : {n : Word} {t : Ty} {a : NTy} {e : Expr} {f : NExpr} → ws.terms n ≡ false → ResolvesTy top [] t a → ResolvesExpr top no_locals e f
       → ResolvesDecl top ws (DDef n t e) (NDef n a f)
   resolves_wrap : {n : Word} {t : Ty} {a : NTy} {e : Expr} {f : NExpr} → ws.terms n ≡ false → ResolvesTy top [] t a → ResolvesExpr top no_locals e f

@@ -1,11 +1,13 @@
 //! The definitions of the project: the grammar, the canonical text, names, typing and meaning, over the pure trees. Beside them stand what a
-//! judgement in code answers and sets of words.
+//! judgement in code answers, sets of words and what a module declares.
 #![tactic(auto)]
 
+mod declared;
 mod flaw;
 mod laws;
 mod word_set;
 
+pub use declared::{Declared, Spaces, word_of, words_declared};
 pub use flaw::{Flaw, Flawed, deeper, flaw_here, in_declaration, next_part};
 pub use laws::judgements_agree;
 pub use word_set::WordSet;

@@ -9,13 +9,14 @@ use Rattle.fc_model.specs.NamelessView.{nbinder_of, nbinders_of}
 use Rattle.fc_model.specs.Resolution.{Top, Locals, Value, Join, Words, WordSet, no_words, plus, plus_all, with_type, with_term, with_coercion, enter, enter_all, enter_values, enter_joins, is_new, with_binder}
 use Rattle.fc_model.specs.ResolutionRules.{AreDistinct, no_words_left, one_word_more, ResolvesBinder, ResolvesBinders, ResolvesExpr, resolves_value_binder, resolves_type_binder, resolves_coercion_binder, resolves_no_binders, resolves_binders, resolves_lambda}
 use Rattle.fc_model.proofs.Sameness.{false_true}
-use Rattle.fc_naming.specs.Scoped.{Counts, HoldsTys, HoldsBinder, HoldsBinders, HoldsExpr, in_binder, in_binders, in_type, in_value, in_coercion, nothing_around}
-use Rattle.fc_naming.specs.Standing.{AreWithin, is_found, is_found_by, is_kept}
+use Rattle.fc_used_words.specs.Scoped.{Counts, HoldsTys, HoldsBinder, HoldsBinders, HoldsExpr, in_binder, in_binders, in_type, in_value, in_coercion, nothing_around}
+use Rattle.fc_used_words.specs.Standing.{AreWithin, is_found, is_found_by, is_kept}
+use Rattle.fc_used_words.proofs.Both.{below_binders, both_binder, both_binders, both_expr, both_tys}
+use Rattle.fc_used_words.proofs.Collecting.{take_item}
+use Rattle.fc_used_words.proofs.Keeping.{by_test}
 use Rattle.fc_naming.specs.Groups.{IsGroup}
 use Rattle.fc_naming.specs.Named.{BelowUses, IsNamedBelow, IsNamedExpr, IsNamedTy, TakeWords, none_take, more_take, TakesWord, value_takes, type_takes, coercion_takes}
-use Rattle.fc_naming.proofs.Both.{below_binders, both_binder, both_binders, both_expr, both_tys}
-use Rattle.fc_naming.proofs.Collecting.{take_item}
-use Rattle.fc_naming.proofs.Naming.{by_test, found_by, found_kept, takes_coercion, takes_type, takes_value}
+use Rattle.fc_naming.proofs.Naming.{found_by, found_kept, takes_coercion, takes_type, takes_value}
 
 -- ONE BINDER
 
@@ -116,7 +117,7 @@ module _ (top : Top) where
       (subst (λ (z : Locals). ResolvesBinders top z (with_binder b ws) bs cs) (sym (word_enters _ _ _ _ _ _ d))
       (words_resolve _ _ _ _ _ _ rest (with_binder b ws) (word_within _ _ _ _ _ _ d ws within) (word_binders _ _ _ _ _ _ d nothing_around cs h.1)))
 
-none_within : (ws : Words) → AreWithin no_words ws
+pub none_within : (ws : Words) → AreWithin no_words ws
 none_within ws = record { types = λ w h. false_true h; terms = λ w h. false_true h; coercions = λ w h. false_true h }
 
 pub named_below : {top : Top} {s t : Locals} {taken more : Words} {cs : List NBinder} {bs : List Binder} {e : NExpr} {f : Expr} → BelowUses top.own s cs e taken → TakeWords top s taken cs bs t more
@@ -165,11 +166,11 @@ take_step top s t u taken more last items i x out longer y low is so_far d pushe
 
 -- GROUPS
 
-distinct_end : (taken : WordSet) (ws : List Word) (v : Word) → AreDistinct taken ws → plus_all ws taken v ≡ false → AreDistinct taken (ws ++ v ∷ [])
+pub distinct_end : (taken : WordSet) (ws : List Word) (v : Word) → AreDistinct taken ws → plus_all ws taken v ≡ false → AreDistinct taken (ws ++ v ∷ [])
 distinct_end taken [] v no_words_left free = one_word_more free no_words_left
 distinct_end taken (w ∷ ws) v (one_word_more new rest) free = one_word_more new (distinct_end (plus w taken) ws v rest free)
 
-plus_all_end : (taken : WordSet) (ws : List Word) (v : Word) → plus_all (ws ++ v ∷ []) taken ≡ plus v (plus_all ws taken)
+pub plus_all_end : (taken : WordSet) (ws : List Word) (v : Word) → plus_all (ws ++ v ∷ []) taken ≡ plus v (plus_all ws taken)
 plus_all_end taken [] v = refl
 plus_all_end taken (w ∷ ws) v = plus_all_end (plus w taken) ws v
 

@@ -1,10 +1,9 @@
-pub mod Both
-pub mod Collecting
-pub mod NamedDeclarations
-pub mod Modules
-pub mod Distances
-pub mod NamedExpressions
+pub mod Each
 pub mod Groups
-pub mod NamedTypes
+pub mod Modules
+pub mod NamedDeclarations
+pub mod NamedExpressions
 pub mod NamedGroups
+pub mod NamedTypes
 pub mod Naming
+pub mod ScopeUses

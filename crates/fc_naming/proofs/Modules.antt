@@ -1,31 +1,12 @@
 -- Modules whose names are put back.
-use Rattle.std.proofs.Common.{◌≡◌, List, [], ◌∷◌, ◌++◌, refl, sym, ap, ◌∙◌, subst}
+use Rattle.std.proofs.Common.{◌≡◌, List, sym, ap, ◌∙◌, subst}
 use Rattle.fc_syntax.specs.Tree.{Word, Decl, ModuleOf}
+use Rattle.fc_model.specs.Declaring.{coercion_words, nterm_words, ntype_words, nwords_by, term_words, words_by}
 use Rattle.fc_model.specs.Nameless.{NDecl, NModuleOf}
-use Rattle.fc_model.specs.Resolution.{Top, WordSet, Words, no_word, no_words, plus_all, top_of, words_by, term_words, coercion_words}
+use Rattle.fc_model.specs.Resolution.{Top, no_word, no_words, plus_all, top_of, ntop_of}
 use Rattle.fc_model.specs.ResolutionRules.{AreDistinct, Resolves, ResolvesDecls, resolves_module}
-use Rattle.fc_model.proofs.Lists.{plus_both}
-use Rattle.fc_naming.specs.Scoped.{HoldsDecls, IsScoped, is_meant, ntop_of, nwords_by, ntype_words, nterm_words, ncoercion_words}
-use Rattle.fc_naming.specs.Declarations.{IsNamedDecls, IsNamedModule, nall_behind, nbehind}
-
--- the words of declarations one after the other are those of all at once
-pub behind_all : (ds : List NDecl) (ws : Words) → nall_behind ds ws ≡ record {
-  types = plus_all (nwords_by ntype_words ds) ws.types;
-  terms = plus_all (nwords_by nterm_words ds) ws.terms;
-  coercions = plus_all (nwords_by ncoercion_words ds) ws.coercions;
-}
-behind_all [] ws = refl
-behind_all (d ∷ ds) ws =
-    behind_all ds (nbehind d ws)
-    ∙ ap (λ s. record { types = s; terms = plus_all (nwords_by nterm_words ds) (plus_all (nterm_words d) ws.terms); coercions = plus_all (nwords_by ncoercion_words ds) (plus_all (ncoercion_words d) ws.coercions) })
-    (sym (plus_both (ntype_words d) (nwords_by ntype_words ds) ws.types))
-    ∙ ap (λ s. record { types = plus_all (ntype_words d ++ nwords_by ntype_words ds) ws.types; terms = s; coercions = plus_all (nwords_by ncoercion_words ds) (plus_all (ncoercion_words d) ws.coercions) })
-    (sym (plus_both (nterm_words d) (nwords_by nterm_words ds) ws.terms))
-    ∙ ap (λ s. record { types = plus_all (ntype_words d ++ nwords_by ntype_words ds) ws.types; terms = plus_all (nterm_words d ++ nwords_by nterm_words ds) ws.terms; coercions = s })
-    (sym (plus_both (ncoercion_words d) (nwords_by ncoercion_words ds) ws.coercions))
-
-abbrev pub top_with : Word → WordSet → Words → Top
-top_with o is ws = record { own = o; imports = is; types = ws.types; terms = ws.terms; coercions = ws.coercions }
+use Rattle.fc_used_words.specs.Scoped.{HoldsDecls, IsScoped, is_meant}
+use Rattle.fc_naming.specs.Declarations.{IsNamedDecls, IsNamedModule}
 
 -- the named module declares and imports the same
 same_top : {top : Top} (m : Word) (imports exports hidden : List Word) (ns : List NDecl) (ds : List Decl) → IsNamedDecls top ns ds

@@ -1,46 +1,34 @@
 -- Constructors, parameters and declarations that are named: one step a form.
 use Rattle.std.proofs.Common.{◌≡◌, ◌<◌, ◌≤◌, ◌+◌, ◌++◌, ℕ, true, false, List, [], ◌∷◌, take, map, reverse, length, get_or, refl, sym, ap, ◌∙◌, subst}
 use Rattle.std.proofs.lemmas.List.{append-nil, append_assoc, map-append, reverse-append, take_all}
-use Rattle.fc_syntax.specs.declared.ty.Ty as T
+use Rattle.fc_syntax.specs.Hints.{param_hint, plain_hint}
 use Rattle.fc_syntax.specs.declared.module.ConDecl as RustConDecl
 use Rattle.fc_syntax.specs.declared.module.Decl as RustDecl
 use Rattle.fc_syntax.specs.declared.ty.Ref.{Ref}
 use Rattle.fc_syntax.specs.View.{con_of, cons_of, decl_of, decls_of}
 use Rattle.fc_syntax.specs.declared.ty.Name.{Name}
 use Rattle.fc_syntax.specs.Tree.{Word, Kind, Ty, Binder, Expr, Param, Plain, ConDecl, ConOf, Decl, DData, DNew, DFamily, DAxiom, DDef, DWrap}
+use Rattle.fc_model.specs.Declaring.{coercion_words, term_words, type_words, words_by}
 use Rattle.fc_model.specs.Nameless.{NTy, NBinder, NExpr, NParam, NConDecl, NConOf, NDecl, NData, NNew, NFamily, NAxiom, NDef, NWrap}
-use Rattle.fc_model.specs.NamelessView.{nty_of, ntys_of, ncon_of, ncons_of, ndecl_of, ndecls_of}
-use Rattle.fc_model.specs.Resolution.{Top, Locals, Words, WordSet, no_locals, no_word, no_words, plus, plus_all, with_type, in_params, nparam, param_word, plain_kind, plain_word, words_by, type_words, term_words, coercion_words, behind}
+use Rattle.fc_model.specs.NamelessView.{ncon_of, ncons_of, ndecl_of, ndecls_of}
+use Rattle.fc_model.specs.Resolution.{Top, Locals, Words, WordSet, no_locals, no_word, no_words, plus, plus_all, with_type, in_params, behind}
 use Rattle.fc_model.specs.ResolutionRules.{AreDistinct, no_words_left, one_word_more, ResolvesTys, ResolvesTy, ResolvesCons}
 use Rattle.fc_model.specs.ResolutionRules.{resolves_no_constructors, resolves_constructors, resolves_data, resolves_newtype, resolves_family, resolves_equation, resolves_def, resolves_wrap, resolves_no_decls, resolves_decls}
-use Rattle.fc_model.proofs.Sameness.{false_true}
+use Rattle.fc_model.specs.Worded.{bare_param, bare_plain}
 use Rattle.fc_scope.specs.ScopeWords.{with_types}
-use Rattle.fc_naming.specs.Scoped.{Counts, Saying, HoldsTy, HoldsTys, HoldsBinders, HoldsCons, HoldsExpr, in_binders, in_parameters, in_type, nothing_around, is_meant}
-use Rattle.fc_naming.specs.Standing.{AreWithin, is_found, is_found_by, is_kept, more_types}
-use Rattle.fc_naming.specs.Used.{AddsTy, AddsTys, AddsBinders}
-use Rattle.fc_naming.specs.Named.{AreEach, each_none, each_more, IsNamedTy, IsNamedTys, IsNamedExpr, TakeWords}
+use Rattle.fc_used_words.specs.Scoped.{Counts, Saying, HoldsTy, HoldsTys, HoldsBinders, HoldsCons, HoldsExpr, in_binders, in_parameters, in_type, nothing_around, is_meant}
+use Rattle.fc_used_words.specs.Standing.{is_found, is_found_by, is_kept, more_types}
+use Rattle.fc_used_words.specs.Used.{AddsTys, AddsBinders}
+use Rattle.fc_used_words.proofs.Both.{Follows, both_binders, both_cons, both_expr, both_ty, both_tys}
+use Rattle.fc_used_words.proofs.Collecting.{take_item}
+use Rattle.fc_used_words.proofs.Keeping.{Same, below_same, beyond_near, kept_within}
+use Rattle.fc_naming.specs.Named.{IsNamedTy, IsNamedTys, IsNamedExpr, TakeWords}
 use Rattle.fc_naming.specs.Declarations.{FieldsUse, IsNamedCon, con_named, IsNamedCons, HaveWords, IsNamedDecl, IsNamedDecls}
-use Rattle.fc_naming.proofs.Both.{Follows, both_binders, both_cons, both_expr, both_ty, both_tys}
-use Rattle.fc_naming.proofs.Collecting.{take_item, within_same, within_both}
-use Rattle.fc_naming.proofs.Groups.{words_enter, words_resolve, words_tys}
-use Rattle.fc_naming.proofs.Naming.{By, Same, below_same, beyond_meant, found_by, found_kept, found_meant, is_declared, kept_within, takes_type}
+use Rattle.fc_naming.proofs.Each.{AreEach, each_more, each_none}
+use Rattle.fc_naming.proofs.Groups.{distinct_end, none_within, plus_all_end, words_enter, words_resolve, words_tys}
+use Rattle.fc_naming.proofs.Naming.{By, found_by, found_kept, found_meant, is_declared, takes_type}
 
 -- WORDS OF THE FIELDS
-
-tys_end : (P : Saying) (k : Counts) (items : List (T.Ty ℕ)) (x : T.Ty ℕ) → HoldsTys P k (ntys_of items) → HoldsTy P k (nty_of x) → HoldsTys P k (ntys_of (items ++ x ∷ []))
-tys_end P k [] x h g = (g, tt)
-tys_end P k (y ∷ items) x h g = (h.0, tys_end P k items x h.1 g)
-
-pub adds_no_tys : (own : Word) (s : Locals) (k : Counts) (items : List (T.Ty ℕ)) (ws : Words) → AddsTys own s k (ntys_of (take 0 items)) ws ws
-adds_no_tys own s k items ws = record { kept = tt; within = within_same _ }
-
-pub adds_tys : (own : Word) (s : Locals) (k : Counts) (items : List (T.Ty ℕ)) (i : ℕ) (x : T.Ty ℕ) (ws mid more : Words) → i < length items → x ≡ get_or items i x
-    → AddsTys own s k (ntys_of (take i items)) ws mid → AddsTy own s k (nty_of x) mid more → AddsTys own s k (ntys_of (take (i + 1) items)) ws more
-adds_tys own s k items i x ws mid more low is a b = record {
-  kept = subst (λ (l : List (T.Ty ℕ)). HoldsTys (is_kept own more s) k (ntys_of l)) (sym (take_item items i x low is))
-      (tys_end (is_kept own more s) k (take i items) x (both_tys _ _ _ _ (kept_within own mid more s b.within) k k refl (ntys_of (take i items)) a.kept a.kept) b.kept);
-  within = within_both _ _ _ a.within b.within;
-}
 
 pub fields_use : {own : Word} {s : Locals} {k l : Counts} {ns ms : List NBinder} {ts us : List NTy} {ws mid more : Words} → AddsBinders own s k ns ws mid → k ≡ nothing_around → l ≡ in_binders ns k
     → AddsTys own s l ts mid more → ns ≡ ms → ts ≡ us → FieldsUse own s ms us more
@@ -51,9 +39,6 @@ fields_use {own = own} {s = s} {k = k} {l = l} {ns = ns} {ts = ts} {us = us} {mi
     }))
 
 -- CONSTRUCTORS
-
-none_within : (ws : Words) → AreWithin no_words ws
-none_within ws = record { types = λ w h. false_true h; terms = λ w h. false_true h; coercions = λ w h. false_true h }
 
 con_from : {top : Top} {s t : Locals} {taken more : Words} (n : Word) {cs : List NBinder} {bs : List Binder} {ts : List NTy} {fields : List Ty} → FieldsUse top.own s cs ts taken → TakeWords top s taken cs bs t more
     → IsNamedTys top t ts fields → IsNamedCon top s (NConOf n cs ts) (ConOf n bs fields)
@@ -86,14 +71,6 @@ named_cons _ _ each_none = record { words = refl; resolves = λ earlier d h. res
 named_cons _ _ (each_more p rest) = con_first p (named_cons _ _ rest)
 
 -- PARAMETERS
-
-distinct_end : (taken : WordSet) (ws : List Word) (v : Word) → AreDistinct taken ws → plus_all ws taken v ≡ false → AreDistinct taken (ws ++ v ∷ [])
-distinct_end taken [] v no_words_left free = one_word_more free no_words_left
-distinct_end taken (w ∷ ws) v (one_word_more new rest) free = one_word_more new (distinct_end (plus w taken) ws v rest free)
-
-plus_all_end : (taken : WordSet) (ws : List Word) (v : Word) → plus_all (ws ++ v ∷ []) taken ≡ plus v (plus_all ws taken)
-plus_all_end taken [] v = refl
-plus_all_end taken (w ∷ ws) v = plus_all_end (plus w taken) ws v
 
 -- parameters that are gone through, and the words that they took
 pub record TookWords {I X Y : Type 0} (of : I → Y) (word : Y → Word) (bare nbare : Y → X) (items out : List I) (names : List Word) (taken : WordSet) : Type 0 where
@@ -151,10 +128,10 @@ no_types = record { types = no_word; terms = λ w. true; coercions = λ w. true 
 
 meant_by : (top : Top) → Follows (is_meant top) (is_meant top) (is_found_by top no_types no_locals) Same
 meant_by top = below_same (is_meant top) (is_meant top) (is_found_by top no_types no_locals) (record {
-  type_at = λ k i a b. beyond_meant _ k i a;
-  value_at = λ k i a b. beyond_meant _ k i a;
-  join_at = λ k i a b. beyond_meant _ k i a;
-  coercion_at = λ k i a b. beyond_meant _ k i a;
+  type_at = λ k i a b. beyond_near _ k i a;
+  value_at = λ k i a b. beyond_near _ k i a;
+  join_at = λ k i a b. beyond_near _ k i a;
+  coercion_at = λ k i a b. beyond_near _ k i a;
   type_name = λ n a b. is_declared top top.types n a;
   axiom_name = λ n a b. is_declared top top.coercions n a;
   constructor = λ n a b. is_declared top top.terms n a;
@@ -187,7 +164,7 @@ ty_found top t w h = params_found top (λ P k. HoldsTy P k t) (λ A C R f k l r 
 
 -- DECLARATIONS
 
-pub named_data : {top : Top} {n : Word} {ns : List NParam} {ps : List Param} {names : List Word} {ncs : List NConDecl} {cs : List ConDecl} → HaveWords param_word nparam ns ps names
+pub named_data : {top : Top} {n : Word} {ns : List NParam} {ps : List Param} {names : List Word} {ncs : List NConDecl} {cs : List ConDecl} → HaveWords param_hint bare_param ns ps names
     → IsNamedCons top (with_types names no_locals) ncs cs → {d : NDecl} → d ≡ NData n ns ncs → IsNamedDecl top d (DData n ps cs)
 named_data {top = top} {n = n} {ns = ns} {ps = ps} {names = names} {ncs = ncs} {cs = cs} w c is =
     subst (λ (d : NDecl). IsNamedDecl top d (DData n ps cs)) (sym is) (subst (λ (xs : List NParam). IsNamedDecl top (NData n xs ncs) (DData n ps cs)) w.same (record {
@@ -198,7 +175,7 @@ named_data {top = top} {n = n} {ns = ns} {ps = ps} {names = names} {ncs = ncs} {
           (subst (λ (s : Locals). ResolvesCons top s ws.terms cs ncs) (names_in w) (c.resolves ws.terms b (cons_found top ncs w h)));
     }))
 
-pub named_newtype : {top : Top} {n con : Word} {ns : List NParam} {ps : List Param} {names : List Word} {a : NTy} {t : Ty} → HaveWords param_word nparam ns ps names
+pub named_newtype : {top : Top} {n con : Word} {ns : List NParam} {ps : List Param} {names : List Word} {a : NTy} {t : Ty} → HaveWords param_hint bare_param ns ps names
     → IsNamedTy top (with_types names no_locals) a t → {d : NDecl} → d ≡ NNew n ns a con → IsNamedDecl top d (DNew n ps t con)
 named_newtype {top = top} {n = n} {con = con} {ns = ns} {ps = ps} {names = names} {a = a} {t = t} w p is =
     subst (λ (d : NDecl). IsNamedDecl top d (DNew n ps t con)) (sym is) (subst (λ (xs : List NParam). IsNamedDecl top (NNew n xs a con) (DNew n ps t con)) w.same (record {
@@ -209,7 +186,7 @@ named_newtype {top = top} {n = n} {con = con} {ns = ns} {ps = ps} {names = names
           (subst (λ (s : Locals). ResolvesTy top s.types t a) (names_in w) (p.resolves (ty_found top a w h))) (first_new e);
     }))
 
-pub named_family : {top : Top} {n : Word} {ns : List Kind} {ps : List Plain} {names : List Word} {k : Kind} → HaveWords plain_word plain_kind ns ps names
+pub named_family : {top : Top} {n : Word} {ns : List Kind} {ps : List Plain} {names : List Word} {k : Kind} → HaveWords plain_hint bare_plain ns ps names
     → {d : NDecl} → d ≡ NFamily n ns k → IsNamedDecl top d (DFamily n ps k)
 named_family {top = top} {n = n} {ns = ns} {ps = ps} {k = k} w is =
     subst (λ (d : NDecl). IsNamedDecl top d (DFamily n ps k)) (sym is) (subst (λ (xs : List Kind). IsNamedDecl top (NFamily n xs k) (DFamily n ps k)) w.same (record {
@@ -219,7 +196,7 @@ named_family {top = top} {n = n} {ns = ns} {ps = ps} {k = k} w is =
       resolves = λ ws x b e h. resolves_family (first_new x) w.distinct;
     }))
 
-pub named_equation : {top : Top} {n : Word} {ns : List Kind} {ps : List Plain} {names : List Word} {a b : NTy} {t u : Ty} → HaveWords plain_word plain_kind ns ps names
+pub named_equation : {top : Top} {n : Word} {ns : List Kind} {ps : List Plain} {names : List Word} {a b : NTy} {t u : Ty} → HaveWords plain_hint bare_plain ns ps names
     → IsNamedTy top (with_types names no_locals) a t → IsNamedTy top (with_types names no_locals) b u → {d : NDecl} → d ≡ NAxiom n ns a b → IsNamedDecl top d (DAxiom n ps t u)
 named_equation {top = top} {n = n} {ns = ns} {ps = ps} {names = names} {a = a} {b = b} {t = t} {u = u} w p q is =
     subst (λ (d : NDecl). IsNamedDecl top d (DAxiom n ps t u)) (sym is) (subst (λ (xs : List Kind). IsNamedDecl top (NAxiom n xs a b) (DAxiom n ps t u)) w.same (record {

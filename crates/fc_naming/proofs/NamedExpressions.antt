@@ -19,13 +19,22 @@ use Rattle.fc_model.specs.Resolution.{Top, Locals, Value, Join, IsValue, IsJoin,
 use Rattle.fc_model.specs.ResolutionRules.{AreDistinct, no_words_left, one_word_more, ResolvesExpr, ResolvesHead, ResolvesBinds, ResolvesJoins}
 use Rattle.fc_model.specs.ResolutionRules.{resolves_default, resolves_literal_head, resolves_constructor_head, resolves_local, resolves_definition, resolves_imported, resolves_literal, resolves_application, resolves_let, resolves_case, resolves_cast, resolves_constructor, resolves_primitive, resolves_fail, resolves_join, resolves_jump}
 use Rattle.fc_model.specs.ResolutionRules.{resolves_term, resolves_type, resolves_coercion, resolves_no_args, resolves_args, resolves_no_exprs, resolves_exprs, resolves_no_binds, resolves_binds, resolves_no_joins, resolves_joins, resolves_no_alts, resolves_alts}
-use Rattle.fc_naming.specs.Scoped.{HoldsExpr, HoldsBinds, HoldsJoins, in_group, in_joins, in_value, in_join, nothing_around}
-use Rattle.fc_naming.specs.Standing.{is_found, is_found_by, join_word, more_terms, outside, short, value_word}
-use Rattle.fc_naming.specs.Named.{AreEach, each_none, each_more, MayTakeAlts, IsNamedTy, IsNamedCo, IsNamedHead, IsNamedExpr, IsNamedArg, IsNamedArgs, IsNamedExprs, IsNamedBinds, IsNamedJoins, IsNamedBelow, IsNamedPoints, IsNamedAlts, LetUses, JoinUses}
-use Rattle.fc_naming.proofs.Both.{below_group, below_joins, both_binds, both_expr, both_joins}
-use Rattle.fc_naming.proofs.Collecting.{take_item}
-use Rattle.fc_naming.proofs.Naming.{by_test, found_by, found_kept, takes_join, takes_value}
 use Rattle.fc_model.proofs.Sameness.{false_true}
+use Rattle.fc_scope.specs.WordsAt.{join_word, value_word}
+use Rattle.fc_used_words.specs.Scoped.{HoldsExpr, HoldsBinds, HoldsJoins, in_group, in_joins, in_value, in_join, nothing_around}
+use Rattle.fc_used_words.specs.Standing.{is_found, is_found_by, more_terms, outside, short}
+use Rattle.fc_used_words.proofs.Both.{below_group, below_joins, both_binds, both_expr, both_joins}
+use Rattle.fc_used_words.proofs.Collecting.{take_item}
+use Rattle.fc_used_words.proofs.Keeping.{by_test}
+use Rattle.fc_naming.specs.Named.{MayTakeAlts, IsNamedTy, IsNamedCo, IsNamedHead, IsNamedExpr, IsNamedArg, IsNamedArgs, IsNamedExprs, IsNamedBinds, IsNamedJoins, IsNamedBelow, IsNamedAlts, LetUses, JoinUses}
+use Rattle.fc_naming.proofs.Each.{AreEach, each_more, each_none}
+use Rattle.fc_naming.proofs.Naming.{found_by, found_kept, takes_join, takes_value}
+
+-- join points with an expression in whose scope they are
+pub record IsNamedPoints (top : Top) (s : Locals) (r : Bool) (ns : NJoins) (n : NExpr) (js : Joins) (t : Expr) : Type 0 where
+  pub joins : HoldsJoins (is_found top s) (if r then in_joins ns nothing_around else nothing_around) ns → HoldsExpr (is_found top s) (in_joins ns nothing_around) n
+      → ResolvesJoins top (if r then enter_joins (join_words js) s else s) no_word js ns
+  pub body : HoldsExpr (is_found top s) (in_joins ns nothing_around) n → ResolvesExpr top (enter_joins (join_words js) s) t n
 
 -- a name of the module itself, or another one
 by_module : {Y : Type 0} (m : Option Word) → (m ≡ None → Y) → ((w : Word) → m ≡ Some w → Y) → Y

@@ -12,8 +12,8 @@ use Rattle.fc_model.specs.ResolutionRules.{AreDistinct}
 use Rattle.fc_scope.specs.ScopeWords.{with_joins, with_values}
 use Rattle.fc_naming.specs.declared.binders.Group.{Group}
 use Rattle.fc_naming.specs.GroupWords.{JoinWords, LetWords}
-use Rattle.fc_naming.specs.Named.{IsNamedBelow, IsNamedBinds, IsNamedExpr, IsNamedJoins, IsNamedPoints, IsNamedTy, JoinUses, LetUses}
-use Rattle.fc_naming.proofs.NamedExpressions.{binds_in, expr_in, joins_in, named_join, named_join_alone, named_join_group, named_let, named_let_group}
+use Rattle.fc_naming.specs.Named.{IsNamedBelow, IsNamedBinds, IsNamedExpr, IsNamedJoins, IsNamedTy, JoinUses, LetUses}
+use Rattle.fc_naming.proofs.NamedExpressions.{IsNamedPoints, binds_in, expr_in, joins_in, named_join, named_join_alone, named_join_group, named_let, named_let_group}
 
 -- where it is recursive, in the scope of the group, and in the one around it where it is not
 pub binds_then : {top : Top} {r : Bool} {n : NBinds} {t t' : Binds} (a b : Locals) → r ≡ true → t' ≡ t → IsNamedBinds top a n t → IsNamedBinds top (if r then a else b) n t'

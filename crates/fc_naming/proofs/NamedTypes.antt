@@ -1,5 +1,5 @@
 -- Named trees by their parts: one step a form.
-use Rattle.std.proofs.Common.{◌≡◌, ◌<◌, ◌≤◌, ◌+◌, ◌++◌, ℕ, zero, suc, false, List, [], ◌∷◌, take, length, get_or, Some, slice_get, refl, sym, ap, subst, arith}
+use Rattle.std.proofs.Common.{◌≡◌, ℕ, false, List, Some, slice_get, refl, sym, subst}
 use Rattle.fc_syntax.specs.declared.ty.Name.{Name}
 use Rattle.fc_syntax.specs.declared.ty.Role.{Role}
 use Rattle.fc_syntax.specs.declared.ty.Ty as T
@@ -15,37 +15,13 @@ use Rattle.fc_model.specs.Resolution.{Top, Locals, Value, Words, index_of, with_
 use Rattle.fc_model.specs.ResolutionRules.{ResolvesTy, ResolvesCo}
 use Rattle.fc_model.specs.ResolutionRules.{resolves_type_variable, resolves_type_name, resolves_int, resolves_type_application, resolves_function, resolves_forall, resolves_coforall, resolves_no_types, resolves_types}
 use Rattle.fc_model.specs.ResolutionRules.{resolves_coercion_variable, resolves_refl, resolves_sym, resolves_trans, resolves_tc, resolves_capp, resolves_funco, resolves_allco, resolves_coallco, resolves_inst, resolves_nth, resolves_left, resolves_right, resolves_sub, resolves_axiom, resolves_univ, resolves_no_coercions, resolves_coercions}
-use Rattle.fc_naming.specs.Scoped.{in_type, in_value, nothing_around}
-use Rattle.fc_naming.specs.Standing.{more_types, more_terms, short}
-use Rattle.fc_naming.specs.Used.{AddsTy, AddsCo, AddsAlts}
-use Rattle.fc_naming.specs.Named.{AreEach, each_none, each_more, MayTakeTy, MayTakeCo, MayTakeAlts, IsNamedTy, IsNamedTys, IsNamedCo, IsNamedCos}
-use Rattle.fc_naming.proofs.Both.{both_ty, both_co, both_alts}
-use Rattle.fc_naming.proofs.Collecting.{take_item}
+use Rattle.fc_used_words.specs.Scoped.{in_type, in_value, nothing_around}
+use Rattle.fc_used_words.specs.Standing.{more_types, more_terms, short}
+use Rattle.fc_used_words.specs.Used.{AddsTy, AddsCo, AddsAlts}
+use Rattle.fc_used_words.proofs.Both.{both_ty, both_co, both_alts}
+use Rattle.fc_naming.specs.Named.{MayTakeTy, MayTakeCo, MayTakeAlts, IsNamedTy, IsNamedTys, IsNamedCo, IsNamedCos}
+use Rattle.fc_naming.proofs.Each.{AreEach, each_more, each_none}
 use Rattle.fc_naming.proofs.Naming.{found_by, found_kept, takes_type, takes_value}
-
--- LISTS
-
-each_end : {X Y : Type 0} {R : X → Y → Type 0} (xs : List X) (ys : List Y) (x : X) (y : Y) → AreEach R xs ys → R x y → AreEach R (xs ++ x ∷ []) (ys ++ y ∷ [])
-each_end xs ys x y each_none r = each_more r each_none
-each_end xs ys x y (each_more q rest) r = each_more q (each_end _ _ x y rest r)
-
--- one item more of a list that is built in a loop
-pub each_step : {X Y : Type 0} (R : X → Y → Type 0) (items : List X) (i : ℕ) (x : X) (out more : List Y) (y : Y) → i < length items → x ≡ get_or items i x → AreEach R (take i items) out
-    → R x y → more ≡ out ++ y ∷ [] → AreEach R (take (i + 1) items) more
-each_step R items i x out more y low is so_far r pushed =
-    subst (λ ys. AreEach R (take (i + 1) items) ys) (sym pushed) (subst (λ xs. AreEach R xs (out ++ y ∷ [])) (sym (take_item items i x low is)) (each_end (take i items) out x y so_far r))
-
-pub each_start : {X Y : Type 0} {R : X → Y → Type 0} (items : List X) (out : List Y) → out ≡ [] → AreEach R (take 0 items) out
-each_start {R = R} items out e = subst (λ ys. AreEach R [] ys) (sym e) each_none
-
-take_whole : {X : Type 0} (items : List X) (i : ℕ) → length items ≤ i → take i items ≡ items
-take_whole [] zero h = refl
-take_whole [] (suc i) h = refl
-take_whole (x ∷ items) zero h = absurd (omega arith)
-take_whole (x ∷ items) (suc i) h = ap (λ xs. x ∷ xs) (take_whole items i (omega arith))
-
-pub each_all : {X Y : Type 0} {R : X → Y → Type 0} (items : List X) (i : ℕ) (out : List Y) → length items ≤ i → AreEach R (take i items) out → AreEach R items out
-each_all {R = R} items i out h q = subst (λ xs. AreEach R xs out) (take_whole items i h) q
 
 -- THE WORD OF A BINDER
 

@@ -1,19 +1,16 @@
 -- A binder without a word may take any word that no name in its scope uses.
-use Rattle.std.proofs.Common.{◌≡◌, ◌<◌, ℕ, zero, suc, ◌+◌, Bool, true, false, List, ◌∷◌, Option, Some, None, Ok, option_map, bytes_eq, if◌then◌else◌, refl, sym, ap, ◌∙◌, subst, arith, add-one}
+use Rattle.std.proofs.Common.{◌≡◌, ℕ, zero, suc, ◌+◌, Bool, true, false, List, ◌∷◌, Option, Some, None, Ok, option_map, bytes_eq, if◌then◌else◌, refl, sym, ap, ◌∙◌, add-one}
 use Rattle.fc_syntax.specs.declared.ty.Name.{Name}
 use Rattle.fc_syntax.specs.declared.fault.FaultKind.TheVariants.{Unbound}
 use Rattle.fc_syntax.specs.Tree.{Word}
 use Rattle.fc_model.specs.Faulting.{need}
 use Rattle.fc_model.specs.Resolution.{Top, Locals, TermWord, Value, Join, Found, IsValue, IsJoin, Nowhere, Words, WordSet, found_term, index_of, past_value, past_join, plus, no_locals, with_type, with_term, with_coercion, declared_name}
 use Rattle.fc_model.proofs.Sameness.{bytes_eq_eq, bytes_eq_refl, false_true}
-use Rattle.fc_naming.specs.Scoped.{Counts, Saying, IsKnown, IsKnownIn, in_type, in_value, in_join, in_coercion, is_meant}
-use Rattle.fc_naming.specs.Standing.{Beyond, FindsJoin, FindsType, FindsValue, IsDeclared, AreWithin, is_found, is_found_by, is_kept, more_types, more_terms, more_coercions}
-use Rattle.fc_naming.proofs.Both.{Follows}
-
--- by cases on a test
-pub by_test : {Y : Type 0} (b : Bool) → (b ≡ true → Y) → (b ≡ false → Y) → Y
-by_test true f g = f refl
-by_test false f g = g refl
+use Rattle.fc_used_words.specs.Scoped.{Counts, IsKnown, IsKnownIn, in_type, in_value, in_join, in_coercion, is_meant}
+use Rattle.fc_used_words.specs.Standing.{Beyond, FindsJoin, FindsType, FindsValue, IsDeclared, is_found, is_found_by, is_kept, more_types, more_terms, more_coercions}
+use Rattle.fc_used_words.proofs.Both.{Follows}
+use Rattle.fc_used_words.proofs.Collecting.{in_plus, plus_has}
+use Rattle.fc_used_words.proofs.Keeping.{Same, along, below_same, beyond_both, beyond_near, by_test}
 
 -- a word that is not in a set differs from one that is
 pub differ : (set : WordSet) (v w : Word) → set v ≡ false → set w ≡ true → bytes_eq v w ≡ false
@@ -22,11 +19,6 @@ differ set v w out within =
 
 -- DISTANCES
 
-pub beyond_both : (P Q R : ℕ → Type 0) → ((i : ℕ) → P i → Q i → R i) → (many i : ℕ) → Beyond P many i → Beyond Q many i → Beyond R many i
-beyond_both P Q R step zero i p q = step i p q
-beyond_both P Q R step (suc many) zero p q = tt
-beyond_both P Q R step (suc many) (suc i) p q = beyond_both P Q R step many i p q
-
 -- the outermost of the binders without a word takes one
 pub beyond_next : (P R : ℕ → Type 0) → R 0 → ((i : ℕ) → P i → R (suc i)) → (many i : ℕ) → Beyond P (suc many) i → Beyond R many i
 beyond_next P R here step zero zero p = here
@@ -34,22 +26,11 @@ beyond_next P R here step zero (suc i) p = step i p
 beyond_next P R here step (suc many) zero p = tt
 beyond_next P R here step (suc many) (suc i) p = beyond_next P R here step many i p
 
-pub beyond_meant : (P : ℕ → Type 0) (many i : ℕ) → i < many → Beyond P many i
-beyond_meant P zero i h = absurd (omega arith)
-beyond_meant P (suc many) zero h = tt
-beyond_meant P (suc many) (suc i) h = beyond_meant P many i (omega arith)
-
 -- THE WORD THAT IS TAKEN
 
 module _ (set : WordSet) (v : Word) (free : set v ≡ false) where
-  within_more : (w : Word) → set w ≡ true → plus v set w ≡ true
-  within_more w h = by_test (bytes_eq v w) (λ e. ap (λ b. if b then true else set w) e) (λ e. ap (λ b. if b then true else set w) e ∙ h)
-
-  here_more : plus v set v ≡ true
-  here_more = ap (λ b. if b then true else set v) (bytes_eq_refl v)
-
   type_here : (ws : List Word) → FindsType (plus v set) (v ∷ ws) 0
-  type_here ws = (v, refl, ap (λ b. if b then Some 0 else option_map (λ j. j + 1) (index_of ws v)) (bytes_eq_refl v), here_more)
+  type_here ws = (v, refl, ap (λ b. if b then Some 0 else option_map (λ j. j + 1) (index_of ws v)) (bytes_eq_refl v), plus_has v set)
 
   type_past : (ws : List Word) (i : ℕ) → FindsType set ws i → FindsType (plus v set) (v ∷ ws) (suc i)
   type_past ws i (w, at, found, within) = (
@@ -57,14 +38,14 @@ module _ (set : WordSet) (v : Word) (free : set v ≡ false) where
     at,
     ap (λ b. if b then Some 0 else option_map (λ j. j + 1) (index_of ws w)) (differ set v w free within) ∙ ap (option_map (λ j. j + 1)) found
         ∙ ap (λ j. Some j) (add-one i),
-    within_more w within,
+    in_plus v w set within,
   )
 
   value_here : (xs : List TermWord) → FindsValue (plus v set) (Value v ∷ xs) 0
-  value_here xs = (v, refl, ap (λ b. if b then IsValue 0 else past_value (found_term xs v)) (bytes_eq_refl v), here_more)
+  value_here xs = (v, refl, ap (λ b. if b then IsValue 0 else past_value (found_term xs v)) (bytes_eq_refl v), plus_has v set)
 
   join_here : (xs : List TermWord) → FindsJoin (plus v set) (Join v ∷ xs) 0
-  join_here xs = (v, refl, ap (λ b. if b then IsJoin 0 else past_join (found_term xs v)) (bytes_eq_refl v), here_more)
+  join_here xs = (v, refl, ap (λ b. if b then IsJoin 0 else past_join (found_term xs v)) (bytes_eq_refl v), plus_has v set)
 
   past_a_value : (xs : List TermWord) (w : Word) (f : Found) → set w ≡ true → found_term xs w ≡ f → found_term (Value v ∷ xs) w ≡ past_value f
   past_a_value xs w f within found = ap (λ b. if b then IsValue 0 else past_value (found_term xs w)) (differ set v w free within) ∙ ap past_value found
@@ -73,25 +54,22 @@ module _ (set : WordSet) (v : Word) (free : set v ≡ false) where
   past_a_join xs w f within found = ap (λ b. if b then IsJoin 0 else past_join (found_term xs w)) (differ set v w free within) ∙ ap past_join found
 
   value_past_value : (xs : List TermWord) (i : ℕ) → FindsValue set xs i → FindsValue (plus v set) (Value v ∷ xs) (suc i)
-  value_past_value xs i (w, at, found, within) = (w, at, past_a_value xs w (IsValue i) within found ∙ ap IsValue (add-one i), within_more w within)
+  value_past_value xs i (w, at, found, within) = (w, at, past_a_value xs w (IsValue i) within found ∙ ap IsValue (add-one i), in_plus v w set within)
 
   value_past_join : (xs : List TermWord) (i : ℕ) → FindsValue set xs i → FindsValue (plus v set) (Join v ∷ xs) i
-  value_past_join xs i (w, at, found, within) = (w, at, past_a_join xs w (IsValue i) within found, within_more w within)
+  value_past_join xs i (w, at, found, within) = (w, at, past_a_join xs w (IsValue i) within found, in_plus v w set within)
 
   join_past_value : (xs : List TermWord) (i : ℕ) → FindsJoin set xs i → FindsJoin (plus v set) (Value v ∷ xs) i
-  join_past_value xs i (w, at, found, within) = (w, at, past_a_value xs w (IsJoin i) within found, within_more w within)
+  join_past_value xs i (w, at, found, within) = (w, at, past_a_value xs w (IsJoin i) within found, in_plus v w set within)
 
   join_past_join : (xs : List TermWord) (i : ℕ) → FindsJoin set xs i → FindsJoin (plus v set) (Join v ∷ xs) (suc i)
-  join_past_join xs i (w, at, found, within) = (w, at, past_a_join xs w (IsJoin i) within found ∙ ap IsJoin (add-one i), within_more w within)
+  join_past_join xs i (w, at, found, within) = (w, at, past_a_join xs w (IsJoin i) within found ∙ ap IsJoin (add-one i), in_plus v w set within)
 
 -- A BINDER TAKES A WORD
 
 -- one binder without a word becomes one with a word
 abbrev pub By : (Counts → Counts) → Counts → Counts → Type 0
 By enter k l = k ≡ enter l
-
-along : (P : Counts → Type 0) {k l : Counts} → k ≡ l → P k → P l
-along P e p = subst P e p
 
 module _ (top : Top) (ws : Words) (s : Locals) (v : Word) where
   pub takes_type : ws.types v ≡ false → Follows (is_found_by top ws s) (is_found_by top ws s) (is_found_by top (more_types v ws) (with_type v s)) (By in_type)
@@ -140,7 +118,7 @@ module _ (top : Top) (ws : Words) (s : Locals) (v : Word) where
     type_name = λ n a b. a;
     axiom_name = λ n a b. a;
     constructor = λ n a b. a;
-    definition = λ n a b. (a.0, λ own. let p = a.1 own in (past_a_value ws.terms v free s.terms n.text Nowhere p.1 p.0, within_more ws.terms v free n.text p.1));
+    definition = λ n a b. (a.0, λ own. let p = a.1 own in (past_a_value ws.terms v free s.terms n.text Nowhere p.1 p.0, in_plus v n.text ws.terms p.1));
     in_type = λ k l r. ap in_type r;
     in_value = λ k l r. ap in_value r;
     in_join = λ k l r. ap in_join r;
@@ -159,44 +137,12 @@ module _ (top : Top) (ws : Words) (s : Locals) (v : Word) where
     type_name = λ n a b. a;
     axiom_name = λ n a b. a;
     constructor = λ n a b. a;
-    definition = λ n a b. (a.0, λ own. let p = a.1 own in (past_a_join ws.terms v free s.terms n.text Nowhere p.1 p.0, within_more ws.terms v free n.text p.1));
+    definition = λ n a b. (a.0, λ own. let p = a.1 own in (past_a_join ws.terms v free s.terms n.text Nowhere p.1 p.0, in_plus v n.text ws.terms p.1));
     in_type = λ k l r. ap in_type r;
     in_value = λ k l r. ap in_value r;
     in_join = λ k l r. ap in_join r;
     in_coercion = λ k l r. ap in_coercion r;
   }
-
--- BELOW THE SAME BINDERS
-
-abbrev pub Same : Counts → Counts → Type 0
-Same k l = k ≡ l
-
--- steps below the same binders, at each distance
-pub record Steps (A B C : Saying) : Type 0 where
-  pub type_at : (k i : ℕ) → A.type_at k i → B.type_at k i → C.type_at k i
-  pub value_at : (k i : ℕ) → A.value_at k i → B.value_at k i → C.value_at k i
-  pub join_at : (k i : ℕ) → A.join_at k i → B.join_at k i → C.join_at k i
-  pub coercion_at : (k i : ℕ) → A.coercion_at k i → B.coercion_at k i → C.coercion_at k i
-  pub type_name : (n : Name) → A.type_name n → B.type_name n → C.type_name n
-  pub axiom_name : (n : Name) → A.axiom_name n → B.axiom_name n → C.axiom_name n
-  pub constructor : (n : Name) → A.constructor n → B.constructor n → C.constructor n
-  pub definition : (n : Name) → A.definition n → B.definition n → C.definition n
-
-pub below_same : (A B C : Saying) → Steps A B C → Follows A B C Same
-below_same A B C f = record {
-  type_at = λ k l i r a b. along (λ (c : Counts). C.type_at c.types i) r (f.type_at k.types i a b);
-  value_at = λ k l i r a b. along (λ (c : Counts). C.value_at c.values i) r (f.value_at k.values i a b);
-  join_at = λ k l i r a b. along (λ (c : Counts). C.join_at c.joins i) r (f.join_at k.joins i a b);
-  coercion_at = λ k l i r a b. along (λ (c : Counts). C.coercion_at c.coercions i) r (f.coercion_at k.coercions i a b);
-  type_name = f.type_name;
-  axiom_name = f.axiom_name;
-  constructor = f.constructor;
-  definition = f.definition;
-  in_type = λ k l r. ap in_type r;
-  in_value = λ k l r. ap in_value r;
-  in_join = λ k l r. ap in_join r;
-  in_coercion = λ k l r. ap in_coercion r;
-}
 
 -- names that are found, and whose words are kept, are found by these words
 pub found_kept : (top : Top) (ws : Words) (s : Locals) → Follows (is_found top s) (is_kept top.own ws s) (is_found_by top ws s) Same
@@ -224,19 +170,6 @@ found_by top ws s = below_same (is_found_by top ws s) (is_found_by top ws s) (is
   definition = λ n a b. (a.0, λ own. ((a.1 own).0, refl));
 })
 
--- words that are kept are kept in larger sets
-pub kept_within : (own : Word) (ws more : Words) (s : Locals) → AreWithin ws more → Follows (is_kept own ws s) (is_kept own ws s) (is_kept own more s) Same
-kept_within own ws more s h = below_same (is_kept own ws s) (is_kept own ws s) (is_kept own more s) (record {
-  type_at = beyond_both _ _ _ (λ i a b w at. h.types w (a w at));
-  value_at = beyond_both _ _ _ (λ i a b w at. h.terms w (a w at));
-  join_at = beyond_both _ _ _ (λ i a b w at. h.terms w (a w at));
-  coercion_at = beyond_both _ _ _ (λ i a b w at. h.coercions w (a w at));
-  type_name = λ n a b. a;
-  axiom_name = λ n a b. a;
-  constructor = λ n a b. a;
-  definition = λ n a b own. h.terms n.text (a own);
-})
-
 -- NAMES THAT MEAN SOMETHING
 
 -- a name that is known is declared as it is written
@@ -257,10 +190,10 @@ is_declared top words n h = known_in top words n.module n.text h
 -- in a module whose names mean something, each is found
 pub found_meant : (top : Top) → Follows (is_meant top) (is_meant top) (is_found top no_locals) Same
 found_meant top = below_same (is_meant top) (is_meant top) (is_found top no_locals) (record {
-  type_at = λ k i a b. beyond_meant _ k i a;
-  value_at = λ k i a b. beyond_meant _ k i a;
-  join_at = λ k i a b. beyond_meant _ k i a;
-  coercion_at = λ k i a b. beyond_meant _ k i a;
+  type_at = λ k i a b. beyond_near _ k i a;
+  value_at = λ k i a b. beyond_near _ k i a;
+  join_at = λ k i a b. beyond_near _ k i a;
+  coercion_at = λ k i a b. beyond_near _ k i a;
   type_name = λ n a b. is_declared top top.types n a;
   axiom_name = λ n a b. is_declared top top.coercions n a;
   constructor = λ n a b. is_declared top top.terms n a;

@@ -1,12 +1,12 @@
 -- What each function that puts names back in declarations promises of its answer.
-use Rattle.std.specs.Prelude.{◌≡◌, List, [], ◌∷◌, map, reverse}
+use Rattle.std.specs.Prelude.{◌≡◌, List, map, reverse}
 use Rattle.fc_syntax.specs.Tree.{Word, Ty, Binder, ConDecl, ConOf, Decl, Module}
+use Rattle.fc_model.specs.Declaring.{coercion_words, con_words, ncoercion_words, ncon_words, nterm_words, ntype_words, nwords_by, term_words, type_words, words_by}
 use Rattle.fc_model.specs.Nameless.{NTy, NBinder, NConDecl, NConOf, NDecl, NModule}
-use Rattle.fc_model.specs.Resolution.{Top, Locals, WordSet, Words, no_word, no_words, enter_all, plus_all, con_words, type_words, term_words, coercion_words, words_by}
+use Rattle.fc_model.specs.Resolution.{Top, Locals, WordSet, Words, no_word, no_words, enter_all, ntop_of}
 use Rattle.fc_model.specs.ResolutionRules.{AreDistinct, ResolvesBinders, ResolvesTys, ResolvesCons, ResolvesDecl, ResolvesDecls, Resolves}
-use Rattle.fc_naming.specs.Scoped.{in_binders, nothing_around, HoldsTys, HoldsBinders, HoldsCons, HoldsDecl, HoldsDecls, IsScoped, is_meant, ntop_of}
-use Rattle.fc_naming.specs.Scoped.{ncon_words, ntype_words, nterm_words, ncoercion_words, nwords_by}
-use Rattle.fc_naming.specs.Standing.{is_found, is_kept}
+use Rattle.fc_used_words.specs.Scoped.{in_binders, nothing_around, HoldsTys, HoldsBinders, HoldsCons, HoldsDecl, HoldsDecls, IsScoped, is_meant}
+use Rattle.fc_used_words.specs.Standing.{is_found, is_kept}
 
 -- CONSTRUCTORS
 
@@ -50,14 +50,6 @@ pub record IsNamedDecls (top : Top) (n : List NDecl) (t : List Decl) : Type 0 wh
   pub coercions : words_by coercion_words t ≡ nwords_by ncoercion_words n
   pub resolves : (ws : Words) → AreDistinct ws.types (words_by type_words t) → AreDistinct ws.terms (words_by term_words t)
       → AreDistinct ws.coercions (words_by coercion_words t) → HoldsDecls (is_meant top) n → ResolvesDecls top ws t n
-
--- the words of nameless declarations behind those before
-abbrev pub nbehind : NDecl → Words → Words
-nbehind d ws = record { types = plus_all (ntype_words d) ws.types; terms = plus_all (nterm_words d) ws.terms; coercions = plus_all (ncoercion_words d) ws.coercions }
-
-abbrev pub nall_behind : List NDecl → Words → Words
-nall_behind [] ws = ws
-nall_behind (d ∷ ds) ws = nall_behind ds (nbehind d ws)
 
 -- MODULES
 

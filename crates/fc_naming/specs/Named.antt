@@ -1,14 +1,14 @@
 -- What each function that puts names back promises of its answer.
-use Rattle.std.specs.Prelude.{◌≡◌, ℕ, zero, suc, ◌<◌, Bool, true, false, List, [], ◌∷◌, ◌++◌, if◌then◌else◌, codes, decimal}
+use Rattle.std.specs.Prelude.{◌≡◌, ℕ, zero, suc, ◌<◌, Bool, true, false, List, [], ◌∷◌, ◌++◌, codes, decimal}
 use Rattle.fc_syntax.specs.declared.expr.Head.{Head}
 use Rattle.fc_syntax.specs.declared.ty.Role.{Role}
 use Rattle.fc_syntax.specs.Tree.{Word, Kind, Ty, Co, Cos, Binder, BValue, BType, BCo, Expr, Arg, Args, Exprs, Binds, Joins, Alts}
 use Rattle.fc_model.specs.Nameless.{NTy, NCo, NCos, NBinder, NBValue, NBType, NBCo, NExpr, NArg, NArgs, NExprs, NBinds, NJoins, NAlts}
-use Rattle.fc_model.specs.Resolution.{Top, Locals, Value, WordSet, Words, no_word, no_words, enter_all, enter_joins, bind_words, join_words, with_term, with_type, with_coercion}
+use Rattle.fc_model.specs.Resolution.{Top, Locals, Value, WordSet, Words, no_words, enter_all, bind_words, join_words, with_term, with_type, with_coercion}
 use Rattle.fc_model.specs.ResolutionRules.{AreDistinct, ResolvesTy, ResolvesTys, ResolvesCo, ResolvesCos, ResolvesBinders, ResolvesHead, ResolvesExpr, ResolvesArg, ResolvesArgs, ResolvesExprs, ResolvesBinds, ResolvesJoins, ResolvesAlts}
-use Rattle.fc_naming.specs.Scoped.{in_type, in_value, in_group, in_joins, in_binders, in_binder, nothing_around}
-use Rattle.fc_naming.specs.Scoped.{HoldsTy, HoldsTys, HoldsCo, HoldsCos, HoldsBinders, HoldsHead, HoldsExpr, HoldsArg, HoldsArgs, HoldsExprs, HoldsBinds, HoldsJoins, HoldsAlts}
-use Rattle.fc_naming.specs.Standing.{is_found, is_kept, more_types, more_terms, more_coercions}
+use Rattle.fc_used_words.specs.Scoped.{in_type, in_value, in_group, in_joins, in_binders, in_binder, nothing_around}
+use Rattle.fc_used_words.specs.Scoped.{HoldsTy, HoldsTys, HoldsCo, HoldsCos, HoldsBinders, HoldsHead, HoldsExpr, HoldsArg, HoldsArgs, HoldsExprs, HoldsBinds, HoldsJoins, HoldsAlts}
+use Rattle.fc_used_words.specs.Standing.{is_found, is_kept, more_types, more_terms, more_coercions}
 
 -- THE WORD OF A BINDER
 
@@ -80,12 +80,6 @@ pub record IsNamedBelow (top : Top) (s : Locals) (ns : List NBinder) (n : NExpr)
   pub binders : HoldsBinders (is_found top s) nothing_around ns → HoldsExpr (is_found top s) (in_binders ns nothing_around) n → ResolvesBinders top s no_words bs ns
   pub body : HoldsBinders (is_found top s) nothing_around ns → HoldsExpr (is_found top s) (in_binders ns nothing_around) n → ResolvesExpr top (enter_all bs s) t n
 
--- join points with an expression in whose scope they are
-pub record IsNamedPoints (top : Top) (s : Locals) (r : Bool) (ns : NJoins) (n : NExpr) (js : Joins) (t : Expr) : Type 0 where
-  pub joins : HoldsJoins (is_found top s) (if r then in_joins ns nothing_around else nothing_around) ns → HoldsExpr (is_found top s) (in_joins ns nothing_around) n
-      → ResolvesJoins top (if r then enter_joins (join_words js) s else s) no_word js ns
-  pub body : HoldsExpr (is_found top s) (in_joins ns nothing_around) n → ResolvesExpr top (enter_joins (join_words js) s) t n
-
 -- BINDERS THAT TAKE WORDS
 
 -- a binder takes a word that is not taken, which leads to these locals, and then its word is taken
@@ -118,8 +112,3 @@ pub record JoinUses (own : Word) (s : Locals) (r : Bool) (ns : NJoins) (n : NExp
 
 pub record LamUses (own : Word) (s : Locals) (c : NBinder) (n : NExpr) (ws : Words) : Type 0 where
   pub body : HoldsExpr (is_kept own ws s) (in_binder c nothing_around) n
-
--- the items of two lists belong together one by one
-pub data AreEach {X Y : Type 0} (R : X → Y → Type 0) : List X → List Y → Type 0 where
-  each_none : AreEach R [] []
-  each_more : {x : X} {y : Y} {xs : List X} {ys : List Y} → R x y → AreEach R xs ys → AreEach R (x ∷ xs) (y ∷ ys)

@@ -4,30 +4,28 @@ ghost use Rattle.fc_syntax.specs.View.{binder_of, binders_of};
 ghost use Rattle.fc_model.specs.NamelessView.{nbinder_of, nbinders_of};
 ghost use Rattle.fc_model.specs.Resolution.{Locals, enter};
 ghost use Rattle.fc_model.specs.WordSets.{set_of};
+ghost use Rattle.fc_model.specs.DeclaredWords.{top_by, words_by_space};
 ghost use Rattle.fc_scope.specs.ScopeWords.{locals_of, with_binders};
 ghost use Rattle.fc_naming.specs.Groups.{IsGroup};
-ghost use Rattle.fc_naming.specs.Known.{top_by, words_by};
 ghost use Rattle.fc_naming.specs.Named.{TakeWords, TakesWord};
 
 use crate::choose::take_word;
-use crate::error::NotNamed;
-use crate::known::Known;
 use crate::types::named_ty;
-use crate::used::Used;
-use fc_model::WordSet;
+use fc_model::{Declared, Spaces, WordSet};
 use fc_scope::{Binders, Names, Scope};
 use fc_syntax::{Binder, Memory, NBind, NBinder, NJoinBind, Seq, Text};
+use fc_used_words::NotNamed;
 use std::alloc::Global;
 
 /// A binder with a word that is not taken, which is taken then.
 pub fn named_binder<'x>(
     alloc: Global,
     binder: &NBinder,
-    top: &Known,
+    top: &Declared,
     scope: &'x Scope<'x>,
-    taken: &mut Used,
+    taken: &mut Spaces,
 ) -> Result<Binder, NotNamed>
-    ensures { IfOk result (λ b. TakesWord (top_by top.now) (locals_of scope.now) (words_by taken.old) (nbinder_of binder.now) (binder_of b) (enter (binder_of b) (locals_of scope.now)) (words_by taken.new)) }
+    ensures { IfOk result (λ b. TakesWord (top_by top.now) (locals_of scope.now) (words_by_space taken.old) (nbinder_of binder.now) (binder_of b) (enter (binder_of b) (locals_of scope.now)) (words_by_space taken.new)) }
 {
     match binder {
         NBinder::Value(hint, t) => {
@@ -73,11 +71,11 @@ pub struct Named {
 pub fn named_binders<'x>(
     alloc: Global,
     binders: &[NBinder],
-    top: &Known,
+    top: &Declared,
     scope: &'x Scope<'x>,
-    taken: &mut Used,
+    taken: &mut Spaces,
 ) -> Result<Named, NotNamed>
-    ensures { IfOk result (λ r. TakeWords (top_by top.now) (locals_of scope.now) (words_by taken.old) (nbinders_of binders.now) (binders_of r.binders) (with_binders r.words (locals_of scope.now)) (words_by taken.new)) }
+    ensures { IfOk result (λ r. TakeWords (top_by top.now) (locals_of scope.now) (words_by_space taken.old) (nbinders_of binders.now) (binders_of r.binders) (with_binders r.words (locals_of scope.now)) (words_by_space taken.new)) }
 {
     let mut words = Binders::new(alloc);
     let mut out = Seq::new(alloc);

@@ -4,9 +4,9 @@ ghost use Rattle.fc_model.specs.Resolution.{plus};
 ghost use Rattle.fc_model.specs.WordSets.{set_of};
 ghost use Rattle.fc_naming.specs.Named.{IsChosen, candidate as is_candidate};
 
-use crate::error::NotNamed;
 use fc_model::WordSet;
 use fc_syntax::{Memory, Text};
+use fc_used_words::NotNamed;
 use itoa::Buffer;
 use std::alloc::Global;
 

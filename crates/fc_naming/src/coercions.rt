@@ -2,20 +2,17 @@
 ghost use Rattle.std.specs.Prelude.{◌≡◌, slice_get, IfOk};
 ghost use Rattle.fc_syntax.specs.View.{co_of, cos_of};
 ghost use Rattle.fc_model.specs.NamelessView.{nco_of, ncos_of};
+ghost use Rattle.fc_model.specs.DeclaredWords.{top_by};
 ghost use Rattle.fc_scope.specs.ScopeWords.{locals_of};
-ghost use Rattle.fc_naming.specs.Known.{top_by};
 ghost use Rattle.fc_naming.specs.Named.{IsNamedCo, IsNamedCos, MayTakeCo};
 
 use crate::choose::choose;
-use crate::error::NotNamed;
-use crate::known::Known;
 use crate::names::written;
 use crate::types::named_ty;
-use crate::used::{Inside, Used};
-use crate::used_types::use_co;
-use crate::words::coercion_word;
-use fc_scope::Scope;
+use fc_model::{Declared, Spaces};
+use fc_scope::{Scope, coercion_word};
 use fc_syntax::{Co, Memory, NCo, Seq, Text, boxed};
+use fc_used_words::{Inside, NotNamed, use_co};
 use std::alloc::Global;
 
 /// The word of a coercion variable at a distance.
@@ -36,13 +33,13 @@ fn coercion_variable<'x>(
 fn word_around<'x>(
     alloc: Global,
     g: &NCo,
-    top: &Known,
+    top: &Declared,
     scope: &'x Scope<'x>,
     hint: &Text,
 ) -> Result<Text, NotNamed>
     ensures { IfOk result (λ v. MayTakeCo (top_by top.now) (locals_of scope.now) v (nco_of g.now)) }
 {
-    let mut used = Used::new(alloc);
+    let mut used = Spaces::new(alloc);
     let inside = Inside::new().in_type()?;
     use_co(alloc, &top.own, g, &*scope, inside, &mut used)?;
     let word = choose(alloc, hint, &used.types)?;
@@ -55,7 +52,7 @@ fn word_around<'x>(
 pub fn named_co<'x>(
     alloc: Global,
     g: &NCo,
-    top: &Known,
+    top: &Declared,
     scope: &'x Scope<'x>,
 ) -> Result<Co, NotNamed>
     ensures { IfOk result (λ r. IsNamedCo (top_by top.now) (locals_of scope.now) (nco_of g.now) (co_of r)) }
@@ -73,7 +70,7 @@ pub fn named_co<'x>(
             Ok(Co::Trans(boxed(alloc, g)?, boxed(alloc, h)?))
         }
         NCo::Tc(role, name, gs) => {
-            let name = written(alloc, top, &top.types, name)?;
+            let name = written(alloc, top, &top.spaces.types, name)?;
             let gs = named_cos(alloc, gs.as_slice(), top, &*scope)?;
             Ok(Co::Tc(*role, name, gs))
         }
@@ -124,7 +121,7 @@ pub fn named_co<'x>(
             Ok(Co::Sub(boxed(alloc, g)?))
         }
         NCo::Ax(name, gs) => {
-            let name = written(alloc, top, &top.coercions, name)?;
+            let name = written(alloc, top, &top.spaces.coercions, name)?;
             let gs = named_cos(alloc, gs.as_slice(), top, &*scope)?;
             Ok(Co::Ax(name, gs))
         }
@@ -140,7 +137,7 @@ pub fn named_co<'x>(
 fn named_cos<'x>(
     alloc: Global,
     gs: &[NCo],
-    top: &Known,
+    top: &Declared,
     scope: &'x Scope<'x>,
 ) -> Result<Seq<Co>, NotNamed>
     ensures { IfOk result (λ r. IsNamedCos (top_by top.now) (locals_of scope.now) (ncos_of gs.now) (cos_of r)) }

@@ -1,54 +1,33 @@
 //! Declarations with words for their binders.
-ghost use Rattle.std.specs.Prelude.{IfOk, OnOk};
+ghost use Rattle.std.specs.Prelude.{IfOk};
 ghost use Rattle.fc_syntax.specs.View.{con_of, cons_of, decl_of, decls_of};
 ghost use Rattle.fc_model.specs.NamelessView.{nbinders_of, ncon_of, ncons_of, ndecl_of, ndecls_of, ntys_of};
+ghost use Rattle.fc_model.specs.DeclaredWords.{top_by, words_by_space};
 ghost use Rattle.fc_scope.specs.ScopeWords.{locals_of};
-ghost use Rattle.fc_naming.specs.Known.{counts_of, top_by, words_by};
 ghost use Rattle.fc_naming.specs.Declarations.{FieldsUse, IsNamedCon, IsNamedCons, IsNamedDecl, IsNamedDecls};
-ghost use Rattle.fc_naming.specs.Used.{AddsTys};
 
 use crate::binders::named_binders;
-use crate::error::NotNamed;
 use crate::expressions::named_expr;
-use crate::known::Known;
 use crate::params::{own_params, own_plains};
 use crate::types::{named_ty, named_tys};
-use crate::used::{Inside, Used};
-use crate::used_expressions::use_binders;
-use crate::used_types::use_ty;
+use fc_model::{Declared, Spaces};
 use fc_scope::Scope;
-use fc_syntax::{ConDecl, Decl, Memory, NConDecl, NDecl, NTy, Seq, Text};
+use fc_syntax::{ConDecl, Decl, Memory, NConDecl, NDecl, Seq};
+use fc_used_words::{Inside, NotNamed, use_binders, use_tys};
 use std::alloc::Global;
 
 // CONSTRUCTORS
-
-/// Puts the words in that types use.
-fn use_tys<'x>(
-    alloc: Global,
-    own: &Text,
-    types: &[NTy],
-    scope: &'x Scope<'x>,
-    inside: Inside,
-    used: &mut Used,
-) -> Result<(), NotNamed>
-    ensures { OnOk result (AddsTys own.now (locals_of scope.now) (counts_of inside) (ntys_of types.now) (words_by used.old) (words_by used.new)) }
-{
-    for t in types {
-        use_ty(alloc, own, t, &*scope, inside, used)?;
-    }
-    Ok(())
-}
 
 /// The words that the binders of a constructor and its fields use.
 fn used_in_con<'x>(
     alloc: Global,
     con: &NConDecl,
-    top: &Known,
+    top: &Declared,
     scope: &'x Scope<'x>,
-) -> Result<Used, NotNamed>
-    ensures { IfOk result (λ u. FieldsUse top.now.own (locals_of scope.now) (nbinders_of con.now.binders) (ntys_of con.now.fields) (words_by u)) }
+) -> Result<Spaces, NotNamed>
+    ensures { IfOk result (λ u. FieldsUse top.now.own (locals_of scope.now) (nbinders_of con.now.binders) (ntys_of con.now.fields) (words_by_space u)) }
 {
-    let mut used = Used::new(alloc);
+    let mut used = Spaces::new(alloc);
     let inside = use_binders(
         alloc,
         &top.own,
@@ -72,7 +51,7 @@ fn used_in_con<'x>(
 fn named_con<'x>(
     alloc: Global,
     con: &NConDecl,
-    top: &Known,
+    top: &Declared,
     scope: &'x Scope<'x>,
 ) -> Result<ConDecl, NotNamed>
     ensures { IfOk result (λ r. IsNamedCon (top_by top.now) (locals_of scope.now) (ncon_of con.now) (con_of r)) }
@@ -94,7 +73,7 @@ fn named_con<'x>(
 fn named_cons<'x>(
     alloc: Global,
     cons: &[NConDecl],
-    top: &Known,
+    top: &Declared,
     scope: &'x Scope<'x>,
 ) -> Result<Seq<ConDecl>, NotNamed>
     ensures { IfOk result (λ r. IsNamedCons (top_by top.now) (locals_of scope.now) (ncons_of cons.now) (cons_of r)) }
@@ -110,7 +89,7 @@ fn named_cons<'x>(
 // DECLARATIONS
 
 /// A declaration with words for its parameters and binders.
-fn named_decl(alloc: Global, decl: &NDecl, top: &Known) -> Result<Decl, NotNamed>
+fn named_decl(alloc: Global, decl: &NDecl, top: &Declared) -> Result<Decl, NotNamed>
     ensures { IfOk result (λ r. IsNamedDecl (top_by top.now) (ndecl_of decl.now) (decl_of r)) }
 {
     let none = Scope::End;
@@ -164,7 +143,7 @@ fn named_decl(alloc: Global, decl: &NDecl, top: &Known) -> Result<Decl, NotNamed
 }
 
 /// Declarations with words for their parameters and binders.
-pub fn named_decls(alloc: Global, decls: &[NDecl], top: &Known) -> Result<Seq<Decl>, NotNamed>
+pub fn named_decls(alloc: Global, decls: &[NDecl], top: &Declared) -> Result<Seq<Decl>, NotNamed>
     ensures { IfOk result (λ r. IsNamedDecls (top_by top.now) (ndecls_of decls.now) (decls_of r)) }
 {
     let mut out = Seq::new(alloc);

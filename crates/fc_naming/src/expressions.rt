@@ -4,24 +4,24 @@ ghost use Rattle.fc_syntax.specs.View.{alts_of, arg_of, args_of, binders_of, bin
 ghost use Rattle.fc_model.specs.Nameless.{NLam};
 ghost use Rattle.fc_model.specs.NamelessView.{nalts_of, narg_of, nargs_of, nbinder_of, nbinders_of, nbinds_of, nexpr_of, nexprs_of, njoins_of};
 ghost use Rattle.fc_model.specs.Resolution.{bind_words, join_words};
+ghost use Rattle.fc_model.specs.DeclaredWords.{top_by};
 ghost use Rattle.fc_scope.specs.ScopeWords.{locals_of, with_joins, with_values};
-ghost use Rattle.fc_naming.specs.Known.{top_by};
 ghost use Rattle.fc_naming.specs.Named.{IsNamedAlts, IsNamedArg, IsNamedArgs, IsNamedBelow, IsNamedBinds, IsNamedExpr, IsNamedExprs, IsNamedJoins};
 
 use crate::binders::{Group, add_binder, named_binder, named_binders};
 use crate::coercions::named_co;
-use crate::error::NotNamed;
-use crate::known::Known;
 use crate::members::{let_words, point_words};
 use crate::names::written;
 use crate::taken::{used_below, used_in_lambda, word_around};
 use crate::types::named_ty;
 use crate::variables::{join_point, local, named_head};
+use fc_model::Declared;
 use fc_scope::{Binders, Scope};
 use fc_syntax::{
     Alt, Arg, Bind, Binder, Expr, JoinBind, Memory, NAlt, NArg, NBind, NBinder, NExpr, NJoinBind,
     Ref, Seq, Text, boxed,
 };
+use fc_used_words::NotNamed;
 use std::alloc::Global;
 
 /// An expression as it is written in a scope.
@@ -30,14 +30,14 @@ use std::alloc::Global;
 pub fn named_expr<'x>(
     alloc: Global,
     e: &NExpr,
-    top: &Known,
+    top: &Declared,
     scope: &'x Scope<'x>,
 ) -> Result<Expr, NotNamed>
     ensures { IfOk result (λ r. IsNamedExpr (top_by top.now) (locals_of scope.now) (nexpr_of e.now) (expr_of r)) }
 {
     match e {
         NExpr::Var(Ref::Local(distance)) => Ok(Expr::Var(local(alloc, &*scope, *distance)?)),
-        NExpr::Var(Ref::Top(name)) => Ok(Expr::Var(written(alloc, top, &top.terms, name)?)),
+        NExpr::Var(Ref::Top(name)) => Ok(Expr::Var(written(alloc, top, &top.spaces.terms, name)?)),
         NExpr::Lit(n) => Ok(Expr::Lit(*n)),
         NExpr::App(f, a) => {
             let f = named_expr(alloc, f, top, &*scope)?;
@@ -68,7 +68,7 @@ pub fn named_expr<'x>(
             Ok(Expr::Cast(boxed(alloc, e)?, g))
         }
         NExpr::Con(name, args) => {
-            let name = written(alloc, top, &top.terms, name)?;
+            let name = written(alloc, top, &top.spaces.terms, name)?;
             let args = named_args(alloc, args.as_slice(), top, &*scope)?;
             Ok(Expr::Con(name, args))
         }
@@ -99,7 +99,7 @@ pub fn named_expr<'x>(
 fn named_arg<'x>(
     alloc: Global,
     arg: &NArg,
-    top: &Known,
+    top: &Declared,
     scope: &'x Scope<'x>,
 ) -> Result<Arg, NotNamed>
     ensures { IfOk result (λ r. IsNamedArg (top_by top.now) (locals_of scope.now) (narg_of arg.now) (arg_of r)) }
@@ -115,7 +115,7 @@ fn named_arg<'x>(
 fn named_args<'x>(
     alloc: Global,
     args: &[NArg],
-    top: &Known,
+    top: &Declared,
     scope: &'x Scope<'x>,
 ) -> Result<Seq<Arg>, NotNamed>
     ensures { IfOk result (λ r. IsNamedArgs (top_by top.now) (locals_of scope.now) (nargs_of args.now) (args_of r)) }
@@ -132,7 +132,7 @@ fn named_args<'x>(
 fn named_exprs<'x>(
     alloc: Global,
     es: &[NExpr],
-    top: &Known,
+    top: &Declared,
     scope: &'x Scope<'x>,
 ) -> Result<Seq<Expr>, NotNamed>
     ensures { IfOk result (λ r. IsNamedExprs (top_by top.now) (locals_of scope.now) (nexprs_of es.now) (exprs_of r)) }
@@ -151,7 +151,7 @@ fn named_exprs<'x>(
 fn lambda<'x>(
     alloc: Global,
     e: &NExpr,
-    top: &Known,
+    top: &Declared,
     scope: &'x Scope<'x>,
     binder: &NBinder,
 ) -> Result<Expr, NotNamed>
@@ -173,7 +173,7 @@ fn lambda<'x>(
 fn named_binds<'x>(
     alloc: Global,
     binds: &[NBind],
-    top: &Known,
+    top: &Declared,
     scope: &'x Scope<'x>,
     words: &[Text],
 ) -> Result<Seq<Bind>, NotNamed>
@@ -196,7 +196,7 @@ fn named_binds<'x>(
 fn let_binds<'x>(
     alloc: Global,
     binds: &[NBind],
-    top: &Known,
+    top: &Declared,
     scope: &'x Scope<'x>,
     recursive: bool,
     group: &'x Group,
@@ -229,7 +229,7 @@ struct Below {
 fn named_below<'x>(
     alloc: Global,
     e: &NExpr,
-    top: &Known,
+    top: &Declared,
     scope: &'x Scope<'x>,
     binders: &[NBinder],
 ) -> Result<Below, NotNamed>
@@ -248,7 +248,7 @@ fn named_below<'x>(
 fn named_joins<'x>(
     alloc: Global,
     joins: &[NJoinBind],
-    top: &Known,
+    top: &Declared,
     scope: &'x Scope<'x>,
     words: &[Text],
 ) -> Result<Seq<JoinBind>, NotNamed>
@@ -272,7 +272,7 @@ fn named_joins<'x>(
 fn join_members<'x>(
     alloc: Global,
     joins: &[NJoinBind],
-    top: &Known,
+    top: &Declared,
     scope: &'x Scope<'x>,
     recursive: bool,
     group: &'x Group,
@@ -296,7 +296,7 @@ fn join_members<'x>(
 fn named_alts<'x>(
     alloc: Global,
     alts: &[NAlt],
-    top: &Known,
+    top: &Declared,
     scope: &'x Scope<'x>,
 ) -> Result<Seq<Alt>, NotNamed>
     ensures { IfOk result (λ r. IsNamedAlts (top_by top.now) (locals_of scope.now) (nalts_of alts.now) (alts_of r)) }

@@ -1,23 +1,23 @@
 //! The words of the members of a group, with what is found below them.
 ghost use Rattle.std.specs.Prelude.{◌≡◌, length, IfOk};
 ghost use Rattle.fc_model.specs.NamelessView.{nbinds_of, nexpr_of, njoins_of};
+ghost use Rattle.fc_model.specs.DeclaredWords.{top_by};
 ghost use Rattle.fc_scope.specs.ScopeWords.{locals_of};
-ghost use Rattle.fc_naming.specs.Known.{top_by};
 ghost use Rattle.fc_naming.specs.GroupWords.{JoinWords, LetWords};
 
 use crate::binders::{Group, bind_group, join_group};
-use crate::error::NotNamed;
-use crate::known::Known;
 use crate::taken::{used_in_join, used_in_let};
+use fc_model::Declared;
 use fc_scope::Scope;
 use fc_syntax::{NBind, NExpr, NJoinBind};
+use fc_used_words::NotNamed;
 use std::alloc::Global;
 
 /// The words of a let's group.
 pub fn let_words<'x>(
     alloc: Global,
     e: &NExpr,
-    top: &Known,
+    top: &Declared,
     scope: &'x Scope<'x>,
     recursive: bool,
     binds: &[NBind],
@@ -34,7 +34,7 @@ pub fn let_words<'x>(
 pub fn point_words<'x>(
     alloc: Global,
     e: &NExpr,
-    top: &Known,
+    top: &Declared,
     scope: &'x Scope<'x>,
     recursive: bool,
     joins: &[NJoinBind],

@@ -1,11 +1,10 @@
 //! Names of declarations as they are written in a module.
 ghost use Rattle.std.specs.Prelude.{◌≡◌, IfOk};
-ghost use Rattle.fc_naming.specs.Standing.{short};
+ghost use Rattle.fc_used_words.specs.Standing.{short};
 
-use crate::error::NotNamed;
-use crate::known::Known;
-use fc_model::WordSet;
+use fc_model::{Declared, WordSet};
 use fc_syntax::{Memory, Name, Text};
+use fc_used_words::NotNamed;
 use std::alloc::Global;
 
 /// A name of the module itself, if its word is among these.
@@ -20,7 +19,12 @@ fn written_alone(alloc: Global, words: &WordSet, text: &Text) -> Result<Name, No
 }
 
 /// A name as it is written, where these are the words that the module declares in its space.
-pub fn written(alloc: Global, top: &Known, words: &WordSet, name: &Name) -> Result<Name, NotNamed>
+pub fn written(
+    alloc: Global,
+    top: &Declared,
+    words: &WordSet,
+    name: &Name,
+) -> Result<Name, NotNamed>
     ensures { IfOk result (λ n. n ≡ short top.now.own name.now) }
 {
     match &name.module {

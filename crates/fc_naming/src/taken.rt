@@ -1,32 +1,31 @@
 //! The words that the scope of a binder uses, which the binder must not take.
 ghost use Rattle.std.specs.Prelude.{IfOk};
 ghost use Rattle.fc_model.specs.NamelessView.{nalts_of, nbinder_of, nbinders_of, nbinds_of, nexpr_of, njoins_of};
+ghost use Rattle.fc_model.specs.DeclaredWords.{top_by, words_by_space};
 ghost use Rattle.fc_scope.specs.ScopeWords.{locals_of};
-ghost use Rattle.fc_naming.specs.Known.{top_by, words_by};
 ghost use Rattle.fc_naming.specs.Named.{BelowUses, JoinUses, LamUses, LetUses, MayTakeAlts};
 
 use crate::choose::choose;
-use crate::error::NotNamed;
-use crate::known::Known;
-use crate::used::{Inside, Used};
-use crate::used_expressions::{
-    in_binder, in_group, in_joins, use_alts, use_binders, use_binds, use_expr, use_joins,
-};
+use fc_model::{Declared, Spaces};
 use fc_scope::Scope;
 use fc_syntax::{Memory, NAlt, NBind, NBinder, NExpr, NJoinBind, Text};
+use fc_used_words::{
+    Inside, NotNamed, in_binder, in_group, in_joins, use_alts, use_binders, use_binds, use_expr,
+    use_joins,
+};
 use std::alloc::Global;
 
 /// The words that the body of a lambda uses.
 pub fn used_in_lambda<'x>(
     alloc: Global,
     e: &NExpr,
-    top: &Known,
+    top: &Declared,
     scope: &'x Scope<'x>,
     binder: &NBinder,
-) -> Result<Used, NotNamed>
-    ensures { IfOk result (λ u. LamUses top.now.own (locals_of scope.now) (nbinder_of binder.now) (nexpr_of e.now) (words_by u)) }
+) -> Result<Spaces, NotNamed>
+    ensures { IfOk result (λ u. LamUses top.now.own (locals_of scope.now) (nbinder_of binder.now) (nexpr_of e.now) (words_by_space u)) }
 {
-    let mut used = Used::new(alloc);
+    let mut used = Spaces::new(alloc);
     let inside = in_binder(Inside::new(), binder)?;
     use_expr(alloc, &top.own, e, &*scope, inside, &mut used)?;
     Ok(used)
@@ -36,13 +35,13 @@ pub fn used_in_lambda<'x>(
 pub fn used_below<'x>(
     alloc: Global,
     e: &NExpr,
-    top: &Known,
+    top: &Declared,
     scope: &'x Scope<'x>,
     binders: &[NBinder],
-) -> Result<Used, NotNamed>
-    ensures { IfOk result (λ u. BelowUses top.now.own (locals_of scope.now) (nbinders_of binders.now) (nexpr_of e.now) (words_by u)) }
+) -> Result<Spaces, NotNamed>
+    ensures { IfOk result (λ u. BelowUses top.now.own (locals_of scope.now) (nbinders_of binders.now) (nexpr_of e.now) (words_by_space u)) }
 {
-    let mut used = Used::new(alloc);
+    let mut used = Spaces::new(alloc);
     let inside = use_binders(alloc, &top.own, binders, &*scope, Inside::new(), &mut used)?;
     use_expr(alloc, &top.own, e, &*scope, inside, &mut used)?;
     Ok(used)
@@ -52,14 +51,14 @@ pub fn used_below<'x>(
 pub fn used_in_let<'x>(
     alloc: Global,
     e: &NExpr,
-    top: &Known,
+    top: &Declared,
     scope: &'x Scope<'x>,
     recursive: bool,
     binds: &[NBind],
-) -> Result<Used, NotNamed>
-    ensures { IfOk result (λ u. LetUses top.now.own (locals_of scope.now) recursive (nbinds_of binds.now) (nexpr_of e.now) (words_by u)) }
+) -> Result<Spaces, NotNamed>
+    ensures { IfOk result (λ u. LetUses top.now.own (locals_of scope.now) recursive (nbinds_of binds.now) (nexpr_of e.now) (words_by_space u)) }
 {
-    let mut used = Used::new(alloc);
+    let mut used = Spaces::new(alloc);
     let inside = in_group(Inside::new(), binds)?;
     if recursive {
         use_binds(alloc, &top.own, binds, &*scope, inside, &mut used)?;
@@ -72,14 +71,14 @@ pub fn used_in_let<'x>(
 pub fn used_in_join<'x>(
     alloc: Global,
     e: &NExpr,
-    top: &Known,
+    top: &Declared,
     scope: &'x Scope<'x>,
     recursive: bool,
     joins: &[NJoinBind],
-) -> Result<Used, NotNamed>
-    ensures { IfOk result (λ u. JoinUses top.now.own (locals_of scope.now) recursive (njoins_of joins.now) (nexpr_of e.now) (words_by u)) }
+) -> Result<Spaces, NotNamed>
+    ensures { IfOk result (λ u. JoinUses top.now.own (locals_of scope.now) recursive (njoins_of joins.now) (nexpr_of e.now) (words_by_space u)) }
 {
-    let mut used = Used::new(alloc);
+    let mut used = Spaces::new(alloc);
     let inside = in_joins(Inside::new(), joins)?;
     if recursive {
         use_joins(alloc, &top.own, joins, &*scope, inside, &mut used)?;
@@ -92,13 +91,13 @@ pub fn used_in_join<'x>(
 pub fn word_around<'x>(
     alloc: Global,
     alts: &[NAlt],
-    top: &Known,
+    top: &Declared,
     scope: &'x Scope<'x>,
     hint: &Text,
 ) -> Result<Text, NotNamed>
     ensures { IfOk result (λ v. MayTakeAlts (top_by top.now) (locals_of scope.now) v (nalts_of alts.now)) }
 {
-    let mut used = Used::new(alloc);
+    let mut used = Spaces::new(alloc);
     let inside = Inside::new().in_value()?;
     use_alts(alloc, &top.own, alts, &*scope, inside, &mut used)?;
     let word = choose(alloc, hint, &used.terms)?;

@@ -2,19 +2,16 @@
 ghost use Rattle.std.specs.Prelude.{◌≡◌, slice_get, IfOk};
 ghost use Rattle.fc_syntax.specs.View.{ty_of, tys_of};
 ghost use Rattle.fc_model.specs.NamelessView.{nty_of, ntys_of};
+ghost use Rattle.fc_model.specs.DeclaredWords.{top_by};
 ghost use Rattle.fc_scope.specs.ScopeWords.{locals_of};
-ghost use Rattle.fc_naming.specs.Known.{top_by};
 ghost use Rattle.fc_naming.specs.Named.{IsNamedTy, IsNamedTys, MayTakeTy};
 
 use crate::choose::choose;
-use crate::error::NotNamed;
-use crate::known::Known;
 use crate::names::written;
-use crate::used::{Inside, Used};
-use crate::used_types::use_ty;
-use crate::words::type_word;
-use fc_scope::Scope;
+use fc_model::{Declared, Spaces};
+use fc_scope::{Scope, type_word};
 use fc_syntax::{Memory, NTy, Seq, Text, Ty, boxed};
+use fc_used_words::{Inside, NotNamed, use_ty};
 use std::alloc::Global;
 
 /// The word of a type variable at a distance.
@@ -31,13 +28,13 @@ fn type_variable<'x>(alloc: Global, scope: &'x Scope<'x>, distance: u32) -> Resu
 fn word_around<'x>(
     alloc: Global,
     t: &NTy,
-    top: &Known,
+    top: &Declared,
     scope: &'x Scope<'x>,
     hint: &Text,
 ) -> Result<Text, NotNamed>
     ensures { IfOk result (λ v. MayTakeTy (top_by top.now) (locals_of scope.now) v (nty_of t.now)) }
 {
-    let mut used = Used::new(alloc);
+    let mut used = Spaces::new(alloc);
     let inside = Inside::new().in_type()?;
     use_ty(alloc, &top.own, t, &*scope, inside, &mut used)?;
     let word = choose(alloc, hint, &used.types)?;
@@ -49,14 +46,14 @@ fn word_around<'x>(
 pub fn named_ty<'x>(
     alloc: Global,
     t: &NTy,
-    top: &Known,
+    top: &Declared,
     scope: &'x Scope<'x>,
 ) -> Result<Ty, NotNamed>
     ensures { IfOk result (λ r. IsNamedTy (top_by top.now) (locals_of scope.now) (nty_of t.now) (ty_of r)) }
 {
     match t {
         NTy::Var(distance) => Ok(Ty::Var(type_variable(alloc, &*scope, *distance)?)),
-        NTy::Con(name) => Ok(Ty::Con(written(alloc, top, &top.types, name)?)),
+        NTy::Con(name) => Ok(Ty::Con(written(alloc, top, &top.spaces.types, name)?)),
         NTy::IntHash => Ok(Ty::IntHash),
         NTy::App(t, u) => {
             let t = named_ty(alloc, t, top, &*scope)?;
@@ -90,7 +87,7 @@ pub fn named_ty<'x>(
 pub fn named_tys<'x>(
     alloc: Global,
     types: &[NTy],
-    top: &Known,
+    top: &Declared,
     scope: &'x Scope<'x>,
 ) -> Result<Seq<Ty>, NotNamed>
     ensures { IfOk result (λ r. IsNamedTys (top_by top.now) (locals_of scope.now) (ntys_of types.now) (tys_of r)) }

@@ -1,17 +1,16 @@
 //! Variables of terms, and what alternatives are for.
 ghost use Rattle.std.specs.Prelude.{◌≡◌, None, Some, IfOk};
 ghost use Rattle.fc_model.specs.Resolution.{Locals};
+ghost use Rattle.fc_model.specs.DeclaredWords.{top_by};
 ghost use Rattle.fc_scope.specs.ScopeWords.{locals_of};
-ghost use Rattle.fc_naming.specs.Known.{top_by};
+ghost use Rattle.fc_scope.specs.WordsAt.{join_word as join_word_at, value_word as value_word_at};
 ghost use Rattle.fc_naming.specs.Named.{IsNamedHead};
-ghost use Rattle.fc_naming.specs.Standing.{join_word as join_word_at, value_word as value_word_at};
 
-use crate::error::NotNamed;
-use crate::known::Known;
 use crate::names::written;
-use crate::words::{join_word, value_word};
-use fc_scope::Scope;
+use fc_model::Declared;
+use fc_scope::{Scope, join_word, value_word};
 use fc_syntax::{Head, Memory, Name, Text};
+use fc_used_words::NotNamed;
 use std::alloc::Global;
 
 /// A value at a distance.
@@ -40,12 +39,12 @@ pub fn join_point<'x>(alloc: Global, scope: &'x Scope<'x>, distance: u32) -> Res
 
 /// What an alternative is for.
 #[tactic(auto, using(crate::proofs::NamedExpressions::head_names))]
-pub fn named_head(alloc: Global, head: &Head, top: &Known) -> Result<Head, NotNamed>
+pub fn named_head(alloc: Global, head: &Head, top: &Declared) -> Result<Head, NotNamed>
     ensures { IfOk result (λ h. (s : Locals) → IsNamedHead (top_by top.now) s head.now h) }
 {
     match head {
         Head::Default => Ok(Head::Default),
         Head::Lit(_) => Ok(head.copy(alloc)?),
-        Head::Con(name) => Ok(Head::Con(written(alloc, top, &top.terms, name)?)),
+        Head::Con(name) => Ok(Head::Con(written(alloc, top, &top.spaces.terms, name)?)),
     }
 }

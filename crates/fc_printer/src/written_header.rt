@@ -1,51 +1,13 @@
 //! The header that is written.
-ghost use Rattle.std.specs.Prelude.{◌≡◌, ◌++◌, IfOk, OnOk, map};
-ghost use Rattle.fc_syntax.specs.View.{cons_of, decl_of, decls_of, module_of};
-ghost use Rattle.fc_model.specs.Headers.{con_word, decl_words, declared_words, hidden_of, others, written_of};
+ghost use Rattle.std.specs.Prelude.{◌≡◌, ◌++◌, IfOk, OnOk};
+ghost use Rattle.fc_syntax.specs.View.{decls_of, module_of};
+ghost use Rattle.fc_model.specs.Declaring.{declared_words};
+ghost use Rattle.fc_model.specs.Headers.{hidden_of, others, written_of};
 ghost use Rattle.fc_model.specs.WordSets.{set_of};
 
-use fc_model::WordSet;
-use fc_syntax::{ConDecl, Decl, Memory, Module, Seq, Text, copy_words};
+use fc_model::{WordSet, words_declared};
+use fc_syntax::{Memory, Module, Seq, Text, copy_words};
 use std::alloc::Global;
-
-fn push_constructors(alloc: Global, cons: &[ConDecl], words: &mut Seq<Text>) -> Result<(), Memory>
-    ensures { OnOk result (words.new ≡ words.old ++ map con_word (cons_of cons.now)) }
-{
-    for con in cons {
-        words.push(con.name.copy(alloc)?)?;
-    }
-    Ok(())
-}
-
-/// Puts the words that a declaration declares behind others.
-fn push_words(alloc: Global, decl: &Decl, words: &mut Seq<Text>) -> Result<(), Memory>
-    ensures { OnOk result (words.new ≡ words.old ++ decl_words (decl_of decl.now)) }
-{
-    match decl {
-        Decl::DataType(name, _, cons) => {
-            words.push(name.copy(alloc)?)?;
-            push_constructors(alloc, cons.as_slice(), words)
-        }
-        Decl::NewType(name, _, _, axiom) => {
-            words.push(name.copy(alloc)?)?;
-            words.push(axiom.copy(alloc)?)
-        }
-        Decl::Family(name, _, _) => words.push(name.copy(alloc)?),
-        Decl::Axiom(name, _, _, _) => words.push(name.copy(alloc)?),
-        Decl::Def(name, _, _) => words.push(name.copy(alloc)?),
-        Decl::Wrap(name, _, _) => words.push(name.copy(alloc)?),
-    }
-}
-
-fn words_declared(alloc: Global, decls: &[Decl]) -> Result<Seq<Text>, Memory>
-    ensures { IfOk result (λ s. s ≡ declared_words (decls_of decls.now)) }
-{
-    let mut words = Seq::new(alloc);
-    for decl in decls {
-        push_words(alloc, decl, &mut words)?;
-    }
-    Ok(words)
-}
 
 /// Puts each word that is not in the set behind others, once.
 fn push_others(

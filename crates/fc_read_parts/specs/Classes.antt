@@ -3,11 +3,11 @@ use Rattle.std.specs.Prelude.{◌≡◌, ◌≤◌, ⊤, true, ℕ, suc, List, �
 use Rattle.fc_syntax.specs.declared.token.Token.{Token}
 use Rattle.fc_syntax.specs.Tokens.{AreSlices, is_plain_name}
 use Rattle.fc_model.specs.Words.{Tok, Open, Close, Key, Lower, Upper, Literal, Number, Other, toks}
-use Rattle.fc_read_parts.specs.declared.class.Class.{Class}
-use Rattle.fc_read_parts.specs.declared.class.Class.TheVariants as class
+use Rattle.fc_read_parts.specs.declared.class.Terminal.{Terminal}
+use Rattle.fc_read_parts.specs.declared.class.Terminal.TheVariants as class
 
 -- the grammar's token of a class and the bytes of its word
-abbrev pub seen : Class → List ℕ → Tok
+abbrev pub seen : Terminal → List ℕ → Tok
 seen class.Open w = Open
 seen class.Close w = Close
 seen (class.Key k) w = Key k
@@ -18,7 +18,7 @@ seen (class.Number n) w = Number n
 seen class.Other w = Other w
 
 -- the bytes of a name's token are a name
-abbrev pub IsNamed : Class → List ℕ → Type 0
+abbrev pub IsNamed : Terminal → List ℕ → Type 0
 IsNamed class.Open w = ⊤
 IsNamed class.Close w = ⊤
 IsNamed (class.Key k) w = ⊤
@@ -36,7 +36,7 @@ abbrev pub word_at : List ℕ → Token → List ℕ
 word_at bytes t = slice_range bytes t.from t.to
 
 -- the first token, what it is, and the tokens behind it
-pub record IsFirst (bytes : List ℕ) (tokens : List Token) (class : Class) (token : Token) (rest : List Token) : Type 0 where
+pub record IsFirst (bytes : List ℕ) (tokens : List Token) (class : Terminal) (token : Token) (rest : List Token) : Type 0 where
   pub is : toks bytes tokens ≡ seen class (word_at bytes token) ∷ toks bytes rest
   pub named : IsNamed class (word_at bytes token)
   pub inside : IsSlice bytes token

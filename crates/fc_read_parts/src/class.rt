@@ -10,7 +10,7 @@ use fc_syntax::{Keyword, Token, TokenKind};
 
 /// What a token is. A name's bytes stand in the text.
 #[derive(Clone, Copy, Debug, PartialEq, Eq)]
-pub enum Class {
+pub enum Terminal {
     /// `(`
     Open,
     /// `)`
@@ -30,45 +30,45 @@ pub enum Class {
 }
 
 /// What a token of these bytes is.
-fn class_of(bytes: &[u8], token: &Token) -> Class
+fn class_of(bytes: &[u8], token: &Token) -> Terminal
     requires { IsSlice bytes.now token.now }
     ensures is { seen result (word_at bytes.now token.now) ≡ tok_of (lexeme_of bytes.now token.now) }
     ensures named { IsNamed result (word_at bytes.now token.now) }
 {
     match token.kind {
-        TokenKind::Open => Class::Open,
-        TokenKind::Close => Class::Close,
+        TokenKind::Open => Terminal::Open,
+        TokenKind::Close => Terminal::Close,
         TokenKind::Word => class_of_word(&bytes[token.from as usize..token.to as usize]),
-        TokenKind::Literal(n) => Class::Literal(n),
-        TokenKind::Number(n) => Class::Number(n),
+        TokenKind::Literal(n) => Terminal::Literal(n),
+        TokenKind::Number(n) => Terminal::Number(n),
     }
 }
 
-fn class_of_word(word: &[u8]) -> Class
+fn class_of_word(word: &[u8]) -> Terminal
     ensures is { seen result word.now ≡ tok_of_keyword (spec_keyword_of word.now) word.now }
     ensures named { IsNamed result word.now }
 {
     match keyword_of(word) {
-        Some(key) => Class::Key(key),
+        Some(key) => Terminal::Key(key),
         None => class_of_name(word),
     }
 }
 
-fn class_of_name(word: &[u8]) -> Class
+fn class_of_name(word: &[u8]) -> Terminal
     ensures is { seen result word.now ≡ name_tok word.now }
     ensures named { IsNamed result word.now }
 {
     if is_lower_name(word) {
-        Class::Lower
+        Terminal::Lower
     } else if is_upper_name(word) {
-        Class::Upper
+        Terminal::Upper
     } else {
-        Class::Other
+        Terminal::Other
     }
 }
 
 /// The first token, what it is, and the tokens behind it.
-pub fn first<'a>(bytes: &[u8], tokens: &'a [Token]) -> Option<(Class, Token, &'a [Token])>
+pub fn first<'a>(bytes: &[u8], tokens: &'a [Token]) -> Option<(Terminal, Token, &'a [Token])>
     requires { AreSlices bytes.now tokens.now }
     ensures none { IfNone result (toks bytes.now tokens.now ≡ []) }
     ensures some { IfSome result (λ x. IsFirst bytes.now tokens.now x.0 x.1 x.2.now) }

@@ -9,7 +9,7 @@ ghost use Rattle.fc_read_parts.specs.Machine.{AModuleWord, AModuleName, AnImport
 ghost use Rattle.fc_read_parts.specs.Reading.{Closes, GoesOn, IsName, IsPlain, OpensHidden, Stops, Takes};
 ghost use Rattle.fc_read_parts.specs.declared.parts.Stop.TheVariants.{Memory as memory_stop};
 
-use crate::class::{Class, first};
+use crate::class::{Terminal, first};
 use fc_lex::is_module_part;
 use fc_syntax::{Keyword, Memory, Text, Token};
 use std::alloc::Global;
@@ -52,7 +52,7 @@ pub fn closes<'a>(bytes: &[u8], tokens: &'a [Token]) -> Option<&'a [Token]>
     ensures some { IfSome result (λ x. Closes bytes.now tokens.now x.now) }
 {
     match first(bytes, tokens) {
-        Some((Class::Close, _, rest)) => Some(rest),
+        Some((Terminal::Close, _, rest)) => Some(rest),
         _ => None,
     }
 }
@@ -63,11 +63,11 @@ pub fn opens_hidden<'a>(bytes: &[u8], tokens: &'a [Token]) -> Option<&'a [Token]
     ensures none { IfNone result (IsPlain (toks bytes.now tokens.now)) }
     ensures some { IfSome result (λ x. OpensHidden bytes.now tokens.now x.now) }
 {
-    let Some((Class::Open, _, inner)) = first(bytes, tokens) else {
+    let Some((Terminal::Open, _, inner)) = first(bytes, tokens) else {
         return None;
     };
     match first(bytes, inner) {
-        Some((Class::Key(Keyword::Hidden), _, rest)) => Some(rest),
+        Some((Terminal::Key(Keyword::Hidden), _, rest)) => Some(rest),
         _ => None,
     }
 }
@@ -82,7 +82,7 @@ pub fn read_open<'a>(bytes: &[u8], tokens: &'a [Token]) -> Result<&'a [Token], S
     ensures fault { IfErr result (Stops AnOpen (toks bytes.now tokens.now)) }
 {
     match first(bytes, tokens) {
-        Some((Class::Open, _, rest)) => Ok(rest),
+        Some((Terminal::Open, _, rest)) => Ok(rest),
         _ => Err(Stop::Form(tokens.len())),
     }
 }
@@ -97,7 +97,7 @@ pub fn read_close<'a>(bytes: &[u8], tokens: &'a [Token]) -> Result<&'a [Token], 
     ensures fault { IfErr result (Stops AClose (toks bytes.now tokens.now)) }
 {
     match first(bytes, tokens) {
-        Some((Class::Close, _, rest)) => Ok(rest),
+        Some((Terminal::Close, _, rest)) => Ok(rest),
         _ => Err(Stop::Form(tokens.len())),
     }
 }
@@ -112,7 +112,7 @@ pub fn read_module_word<'a>(bytes: &[u8], tokens: &'a [Token]) -> Result<&'a [To
     ensures fault { IfErr result (Stops AModuleWord (toks bytes.now tokens.now)) }
 {
     match first(bytes, tokens) {
-        Some((Class::Key(Keyword::Module), _, rest)) => Ok(rest),
+        Some((Terminal::Key(Keyword::Module), _, rest)) => Ok(rest),
         _ => Err(Stop::Form(tokens.len())),
     }
 }
@@ -127,7 +127,7 @@ pub fn read_imports_word<'a>(bytes: &[u8], tokens: &'a [Token]) -> Result<&'a [T
     ensures fault { IfErr result (Stops AnImportsWord (toks bytes.now tokens.now)) }
 {
     match first(bytes, tokens) {
-        Some((Class::Key(Keyword::Imports), _, rest)) => Ok(rest),
+        Some((Terminal::Key(Keyword::Imports), _, rest)) => Ok(rest),
         _ => Err(Stop::Form(tokens.len())),
     }
 }
@@ -142,7 +142,7 @@ pub fn read_exports_word<'a>(bytes: &[u8], tokens: &'a [Token]) -> Result<&'a [T
     ensures fault { IfErr result (Stops AnExportsWord (toks bytes.now tokens.now)) }
 {
     match first(bytes, tokens) {
-        Some((Class::Key(Keyword::Exports), _, rest)) => Ok(rest),
+        Some((Terminal::Key(Keyword::Exports), _, rest)) => Ok(rest),
         _ => Err(Stop::Form(tokens.len())),
     }
 }
@@ -161,7 +161,7 @@ pub fn read_module_name<'a>(
     ensures shorter { IfOk result (λ x. length x.1.now < length tokens.now) }
     ensures fault { IfErr result (Stops AModuleName (toks bytes.now tokens.now)) }
 {
-    let Some((Class::Upper, token, rest)) = first(bytes, tokens) else {
+    let Some((Terminal::Upper, token, rest)) = first(bytes, tokens) else {
         return Err(Stop::Form(tokens.len()));
     };
     if !is_module_part(&bytes[token.from as usize..token.to as usize]) {
@@ -187,8 +187,8 @@ pub fn read_name<'a>(
         return Err(Stop::Form(0));
     };
     match class {
-        Class::Lower => Ok((name_text(alloc, bytes, token)?, rest)),
-        Class::Upper => Ok((name_text(alloc, bytes, token)?, rest)),
+        Terminal::Lower => Ok((name_text(alloc, bytes, token)?, rest)),
+        Terminal::Upper => Ok((name_text(alloc, bytes, token)?, rest)),
         _ => Err(Stop::Form(tokens.len())),
     }
 }
@@ -206,7 +206,7 @@ pub fn read_lower<'a>(
     ensures shorter { IfOk result (λ x. length x.1.now < length tokens.now) }
     ensures fault { IfErr result (Stops ALower (toks bytes.now tokens.now)) }
 {
-    let Some((Class::Lower, token, rest)) = first(bytes, tokens) else {
+    let Some((Terminal::Lower, token, rest)) = first(bytes, tokens) else {
         return Err(Stop::Form(tokens.len()));
     };
     Ok((name_text(alloc, bytes, token)?, rest))
@@ -225,7 +225,7 @@ pub fn read_upper<'a>(
     ensures shorter { IfOk result (λ x. length x.1.now < length tokens.now) }
     ensures fault { IfErr result (Stops AnUpper (toks bytes.now tokens.now)) }
 {
-    let Some((Class::Upper, token, rest)) = first(bytes, tokens) else {
+    let Some((Terminal::Upper, token, rest)) = first(bytes, tokens) else {
         return Err(Stop::Form(tokens.len()));
     };
     Ok((name_text(alloc, bytes, token)?, rest))

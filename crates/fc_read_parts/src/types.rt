@@ -8,9 +8,9 @@ ghost use Rattle.fc_model.specs.Texts.{plain_name, TypeAt, TypesAt, BinderAt, Bi
 ghost use Rattle.fc_read_parts.specs.Machine.{AType, ATypeForm, Types, ABinder, Binders, ACon, Cons};
 ghost use Rattle.fc_read_parts.specs.Reading.{Stops, Takes};
 
-use crate::class::{Class, first};
+use crate::class::{Terminal, first};
 use crate::parts::{Stop, closes, name_text, read_close, read_lower, read_open, read_upper};
-use crate::trees::{chain, function};
+use crate::trees::chain;
 use fc_syntax::{Binder, ConDecl, Keyword, Name, Seq, Text, Token, Ty};
 use std::alloc::Global;
 
@@ -46,12 +46,12 @@ pub fn read_type<'a>(
         return Err(Stop::Form(0));
     };
     match class {
-        Class::Upper => {
+        Terminal::Upper => {
             let name = name_text(alloc, bytes, token)?;
             Ok((named_type(name), rest))
         }
-        Class::Key(Keyword::IntHash) => Ok((integer_type(), rest)),
-        Class::Open => {
+        Terminal::Key(Keyword::IntHash) => Ok((integer_type(), rest)),
+        Terminal::Open => {
             let (t, rest) = read_type_form(alloc, bytes, rest)?;
             Ok((t, rest))
         }
@@ -77,12 +77,12 @@ fn read_type_form<'a>(
         return Err(Stop::Form(0));
     };
     match class {
-        Class::Key(Keyword::Fun) => {
+        Terminal::Key(Keyword::Fun) => {
             let (from, rest) = read_type(alloc, bytes, rest)?;
             let (next, rest) = read_type(alloc, bytes, rest)?;
             let (others, rest) = read_types(alloc, bytes, rest)?;
             let to = chain(alloc, next, others)?;
-            Ok((function(alloc, from, to)?, rest))
+            Ok((Ty::function(alloc, from, to)?, rest))
         }
         _ => Err(Stop::Form(tokens.len())),
     }
@@ -127,7 +127,7 @@ pub fn read_binder<'a>(
     ensures shorter { IfOk result (λ x. length x.1.now < length tokens.now) }
     ensures fault { IfErr result (Stops ABinder (toks bytes.now tokens.now)) }
 {
-    let Some((Class::Open, _, rest)) = first(bytes, tokens) else {
+    let Some((Terminal::Open, _, rest)) = first(bytes, tokens) else {
         return Err(Stop::Form(tokens.len()));
     };
     let (name, rest) = read_lower(alloc, bytes, rest)?;
@@ -174,7 +174,7 @@ fn read_constructor<'a>(
     ensures shorter { IfOk result (λ x. length x.1.now < length tokens.now) }
     ensures fault { IfErr result (Stops ACon (toks bytes.now tokens.now)) }
 {
-    let Some((Class::Open, _, rest)) = first(bytes, tokens) else {
+    let Some((Terminal::Open, _, rest)) = first(bytes, tokens) else {
         return Err(Stop::Form(tokens.len()));
     };
     let (name, rest) = read_upper(alloc, bytes, rest)?;

@@ -13,7 +13,7 @@ use Rattle.fc_model.specs.ReadFaults.{nests_within, Begins, CannotGoOn, IsBadFor
 use Rattle.fc_read_parts.specs.declared.parts.Stop.TheVariants as stop
 use Rattle.fc_reader.specs.declared.limits.Halt.{Halt}
 use Rattle.fc_reader.specs.declared.limits.Halt.TheVariants as halt
-use Rattle.fc_reader.specs.Halting.{FirstBadWithin, Halts, PastLimit, Refuses}
+use Rattle.fc_reader.specs.Halting.{FirstBadWithin, Halts, PastLimit, RefusesModule}
 use Rattle.fc_read_parts.specs.Machine.{AModule, stuck}
 use Rattle.fc_reader.specs.Nested.{EndsDeep, IsDeepBefore, IsPart, NestsAll}
 use Rattle.fc_reader.proofs.Cuts.{begins_cut, decl_closed, decl_cut, module_closed}
@@ -24,7 +24,7 @@ use Rattle.fc_reader.proofs.Within.{begins_more, front_all, module_all}
 pub whole : {ts us : List Tok} {m : Module} → us ≡ [] → ModuleAt ts m us → ModuleAt ts m []
 whole {ts = ts} {m = m} e d = subst (λ x. ModuleAt ts m x) e d
 
-pub refused : (ts : List Tok) (h : Halt) → Halts BeginsWithDecls AModule ts h → Refuses ts h
+pub refused : (ts : List Tok) (h : Halt) → Halts BeginsWithDecls AModule ts h → RefusesModule ts h
 refused ts (halt.Stop stop.Memory) h = tt
 refused ts (halt.Stop (stop.Form n)) h = record { bad = is_first_bad ts n (h.stops []); within = h.within }
 refused ts (halt.Depth n) h = h

@@ -1,7 +1,7 @@
 -- How deep brackets nest.
 use Rattle.std.proofs.Common.{◌≡◌, ◌+◌, ◌-◌, ℕ, Bool, true, false, ◌&&◌, nat_lt, List, [], ◌∷◌, ◌++◌, length, append_assoc, refl, sym, ap, ◌∙◌}
 use Rattle.std.proofs.lemmas.List.{append-nil}
-use Rattle.fc_read_parts.specs.declared.class.Class.{Class}
+use Rattle.fc_read_parts.specs.declared.class.Terminal.{Terminal}
 use Rattle.fc_read_parts.specs.Classes.{seen}
 use Rattle.fc_reader.specs.Nested.{IsDeepBefore, IsTooDeep, StepsTo}
 use Rattle.fc_model.specs.Words.{Tok, Open, Close, Key, Lower, Upper, Literal, Number, Other}
@@ -29,7 +29,7 @@ pub record LevelAt (ts us : List Tok) (level : ℕ) : Type 0 where
   pub parts : ts ≡ front ++ us
   pub nests : (vs : List Tok) → nests_within 2000 0 (front ++ vs) ≡ nests_within 2000 level vs
 
-pub level_more : {ts us vs : List Tok} {level next : ℕ} (class : Class) (w : List ℕ) → us ≡ seen class w ∷ vs → StepsTo class level next → LevelAt ts us level → LevelAt ts vs next
+pub level_more : {ts us vs : List Tok} {level next : ℕ} (class : Terminal) (w : List ℕ) → us ≡ seen class w ∷ vs → StepsTo class level next → LevelAt ts us level → LevelAt ts vs next
 level_more {vs = vs} class w e steps p =
     let t = seen class w in
     record {
@@ -38,7 +38,7 @@ level_more {vs = vs} class w e steps p =
       nests = λ xs. ap (nests_within 2000 0) (append_assoc p.front (t ∷ []) xs) ∙ p.nests (t ∷ xs) ∙ steps w xs;
     }
 
-pub level_deep : {ts us vs : List Tok} {level n : ℕ} (class : Class) (w : List ℕ) → us ≡ seen class w ∷ vs → IsTooDeep class level → length vs ≡ n → LevelAt ts us level → IsDeepBefore ts n
+pub level_deep : {ts us vs : List Tok} {level n : ℕ} (class : Terminal) (w : List ℕ) → us ≡ seen class w ∷ vs → IsTooDeep class level → length vs ≡ n → LevelAt ts us level → IsDeepBefore ts n
 level_deep {vs = vs} class w e d left p = record {
   good = p.front;
   bad = vs;

@@ -10,8 +10,8 @@ use Rattle.fc_read_parts.specs.declared.parts.Stop.{Stop}
 use Rattle.fc_read_parts.specs.declared.parts.Stop.TheVariants as stop
 use Rattle.fc_reader.specs.declared.limits.Halt.{Halt}
 use Rattle.fc_reader.specs.declared.limits.Halt.TheVariants as halt
-use Rattle.fc_reader.specs.declared.limits.Judged.{Judged}
-use Rattle.fc_reader.specs.declared.limits.Judged.TheVariants as judged
+use Rattle.fc_reader.specs.declared.limits.Measured.{Measured}
+use Rattle.fc_reader.specs.declared.limits.Measured.TheVariants as sizes
 use Rattle.fc_read_parts.specs.Machine.{Want, stuck}
 use Rattle.fc_reader.specs.Places.{FirstBad}
 
@@ -55,10 +55,10 @@ Halts At w ts (halt.Depth n) = PastLimit At IsDeep ts n
 Halts At w ts (halt.Counts n) = PastLimit At IsMuch ts n
 
 -- what a declaration is to the limits, behind others of a size
-abbrev pub IsJudged : Decl → ℕ → Judged → Type 0
-IsJudged d size judged.Deep = depth_fits d ≡ false
-IsJudged d size judged.Much = (depth_fits d ≡ true) × ((counts_fit d && nat_le (size + decl_size d) standard_limits.size) ≡ false)
-IsJudged d size (judged.Fits n) = (depth_fits d ≡ true) × ((counts_fit d ≡ true) × ((n ≡ size + decl_size d) × (n ≤ standard_limits.size)))
+abbrev pub IsMeasured : Decl → ℕ → Measured → Type 0
+IsMeasured d size sizes.Deep = depth_fits d ≡ false
+IsMeasured d size sizes.Much = (depth_fits d ≡ true) × ((counts_fit d && nat_le (size + decl_size d) standard_limits.size) ≡ false)
+IsMeasured d size (sizes.Fits n) = (depth_fits d ≡ true) × ((counts_fit d ≡ true) × ((n ≡ size + decl_size d) × (n ≤ standard_limits.size)))
 
 -- the tokens are those of no module, and this is the first that cannot go on, with nothing past a limit before it
 pub record FirstBadWithin (ts : List Tok) (n : ℕ) : Type 0 where
@@ -70,7 +70,7 @@ RefusesAt ts stop.Memory = ⊤
 RefusesAt ts (stop.Form n) = FirstBadWithin ts n
 
 -- why the tokens are not those of a module within the limits
-abbrev pub Refuses : List Tok → Halt → Type 0
-Refuses ts (halt.Stop s) = RefusesAt ts s
-Refuses ts (halt.Depth n) = PastLimit BeginsWithDecls IsDeep ts n
-Refuses ts (halt.Counts n) = PastLimit BeginsWithDecls IsMuch ts n
+abbrev pub RefusesModule : List Tok → Halt → Type 0
+RefusesModule ts (halt.Stop s) = RefusesAt ts s
+RefusesModule ts (halt.Depth n) = PastLimit BeginsWithDecls IsDeep ts n
+RefusesModule ts (halt.Counts n) = PastLimit BeginsWithDecls IsMuch ts n

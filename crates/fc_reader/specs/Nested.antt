@@ -4,15 +4,15 @@ use Rattle.fc_syntax.specs.Limits.{standard_limits}
 use Rattle.fc_syntax.specs.declared.token.Token.{Token}
 use Rattle.fc_model.specs.Words.{Tok, Open, toks}
 use Rattle.fc_model.specs.ReadFaults.{nests_within, NestsWithin}
-use Rattle.fc_read_parts.specs.declared.class.Class.{Class}
+use Rattle.fc_read_parts.specs.declared.class.Terminal.{Terminal}
 use Rattle.fc_read_parts.specs.Classes.{seen}
 
 -- behind a token of this class the level is another
-abbrev pub StepsTo : Class → ℕ → ℕ → Type 0
+abbrev pub StepsTo : Terminal → ℕ → ℕ → Type 0
 StepsTo class level next = (w : List ℕ) (ts : List Tok) → nests_within standard_limits.brackets level (seen class w ∷ ts) ≡ nests_within standard_limits.brackets next ts
 
 -- a token of this class is a bracket that nests too deep
-pub record IsTooDeep (class : Class) (level : ℕ) : Type 0 where
+pub record IsTooDeep (class : Terminal) (level : ℕ) : Type 0 where
   pub opens : (w : List ℕ) → seen class w ≡ Open
   pub deep : nests_within standard_limits.brackets level (Open ∷ []) ≡ false
 

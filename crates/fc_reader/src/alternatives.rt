@@ -10,8 +10,8 @@ ghost use Rattle.fc_read_parts.specs.Reading.{CaseBinderAt, HeadAt, Stops, Takes
 
 use crate::exprs::read_expr;
 use fc_read_parts::{
-    Class, Stop, case_of, closes, first, name_text, read_binders, read_close, read_lower,
-    read_open, read_type,
+    Stop, Terminal, closes, first, name_text, read_binders, read_close, read_lower, read_open,
+    read_type,
 };
 use fc_syntax::{Alt, Binder, Expr, Head, Keyword, Name, Seq, Text, Token, Ty};
 use std::alloc::Global;
@@ -34,7 +34,7 @@ pub(crate) fn read_case<'a>(
     let (scrutinee, rest) = read_expr(alloc, bytes, tokens)?;
     let (name, ty, answer, rest) = read_case_binder(alloc, bytes, rest)?;
     let (alts, rest) = read_alternatives(alloc, bytes, rest)?;
-    let e = case_of(alloc, scrutinee, name, ty, answer, alts)?;
+    let e = Expr::case_of(alloc, scrutinee, name, ty, answer, alts)?;
     Ok((e, rest))
 }
 
@@ -52,7 +52,7 @@ fn read_case_binder<'a>(
     ensures shorter { IfOk result (λ x. length x.3.now < length tokens.now) }
     ensures fault { IfErr result (Stops ACaseBinder (toks bytes.now tokens.now)) }
 {
-    let Some((Class::Open, _, rest)) = first(bytes, tokens) else {
+    let Some((Terminal::Open, _, rest)) = first(bytes, tokens) else {
         return Err(Stop::Form(tokens.len()));
     };
     let (name, rest) = read_lower(alloc, bytes, rest)?;
@@ -131,16 +131,16 @@ fn read_head<'a>(
     ensures shorter { IfOk result (λ x. length x.2.now < length tokens.now) }
     ensures fault { IfErr result (Stops AnAlternative (toks bytes.now tokens.now)) }
 {
-    let Some((Class::Open, _, inner)) = first(bytes, tokens) else {
+    let Some((Terminal::Open, _, inner)) = first(bytes, tokens) else {
         return Err(Stop::Form(tokens.len()));
     };
     let Some((class, token, rest)) = first(bytes, inner) else {
         return Err(Stop::Form(0));
     };
     match class {
-        Class::Key(Keyword::Default) => Ok((Head::Default, Seq::new(alloc), rest)),
-        Class::Literal(n) => Ok((Head::Lit(n), Seq::new(alloc), rest)),
-        Class::Upper => {
+        Terminal::Key(Keyword::Default) => Ok((Head::Default, Seq::new(alloc), rest)),
+        Terminal::Literal(n) => Ok((Head::Lit(n), Seq::new(alloc), rest)),
+        Terminal::Upper => {
             let text = name_text(alloc, bytes, token)?;
             let rest = read_open(bytes, rest)?;
             let (binders, rest) = read_binders(alloc, bytes, rest)?;

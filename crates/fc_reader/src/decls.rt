@@ -10,9 +10,9 @@ ghost use Rattle.fc_read_parts.specs.Reading.{Stops, Takes};
 ghost use Rattle.fc_reader.specs.Halting.{Halts};
 
 use crate::exprs::read_expr;
-use crate::limits::{Halt, Judged, judge};
+use crate::limits::{Halt, Measured, measure};
 use fc_read_parts::{
-    Class, Stop, closes, first, read_close, read_constructors, read_lower, read_open, read_type,
+    Stop, Terminal, closes, first, read_close, read_constructors, read_lower, read_open, read_type,
     read_upper,
 };
 use fc_syntax::{Decl, Keyword, Seq, Token};
@@ -31,7 +31,7 @@ fn read_decl<'a>(
     ensures shorter { IfOk result (λ x. length x.1.now < length tokens.now) }
     ensures fault { IfErr result (Stops ADecl (toks bytes.now tokens.now)) }
 {
-    let Some((Class::Open, _, rest)) = first(bytes, tokens) else {
+    let Some((Terminal::Open, _, rest)) = first(bytes, tokens) else {
         return Err(Stop::Form(tokens.len()));
     };
     let (decl, rest) = read_decl_form(alloc, bytes, rest)?;
@@ -55,7 +55,7 @@ fn read_decl_form<'a>(
         return Err(Stop::Form(0));
     };
     match class {
-        Class::Key(Keyword::Data) => {
+        Terminal::Key(Keyword::Data) => {
             let (name, rest) = read_upper(alloc, bytes, rest)?;
             let rest = read_open(bytes, rest)?;
             let rest = read_close(bytes, rest)?;
@@ -63,7 +63,7 @@ fn read_decl_form<'a>(
             let params = Seq::new(alloc);
             Ok((Decl::DataType(name, params, cons), rest))
         }
-        Class::Key(Keyword::Def) => {
+        Terminal::Key(Keyword::Def) => {
             let (name, rest) = read_lower(alloc, bytes, rest)?;
             let (ty, rest) = read_type(alloc, bytes, rest)?;
             let (rhs, rest) = read_expr(alloc, bytes, rest)?;
@@ -99,10 +99,10 @@ pub(crate) fn read_decls<'a>(
             Ok(found) => found,
             Err(stop) => return Err(Halt::Stop(stop)),
         };
-        size = match judge(&decl, size) {
-            Judged::Deep => return Err(Halt::Depth(rest.len())),
-            Judged::Much => return Err(Halt::Counts(rest.len())),
-            Judged::Fits(all) => all,
+        size = match measure(&decl, size) {
+            Measured::Deep => return Err(Halt::Depth(rest.len())),
+            Measured::Much => return Err(Halt::Counts(rest.len())),
+            Measured::Fits(all) => all,
         };
         all.push(decl)?;
         rest = after;

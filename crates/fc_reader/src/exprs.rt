@@ -11,7 +11,7 @@ ghost use Rattle.fc_read_parts.specs.Reading.{AppliedAt, AppliesAt, BindsAt, Sto
 
 use crate::alternatives::read_case;
 use fc_read_parts::{
-    Class, Stop, application, binding, closes, first, lambda_over, name_text, read_binder,
+    Stop, Terminal, application, binding, closes, first, lambda_over, name_text, read_binder,
     read_binders, read_close, read_lower, read_open, read_type, read_upper,
 };
 use fc_syntax::{Arg, Binder, Expr, Keyword, Name, Seq, Text, Token};
@@ -56,12 +56,12 @@ pub(crate) fn read_expr<'a>(
         return Err(Stop::Form(0));
     };
     match class {
-        Class::Lower => {
+        Terminal::Lower => {
             let name = name_text(alloc, bytes, token)?;
             Ok((variable(name), rest))
         }
-        Class::Literal(n) => Ok((literal(n), rest)),
-        Class::Open => read_expr_form(alloc, bytes, rest),
+        Terminal::Literal(n) => Ok((literal(n), rest)),
+        Terminal::Open => read_expr_form(alloc, bytes, rest),
         _ => Err(Stop::Form(tokens.len())),
     }
 }
@@ -85,11 +85,11 @@ fn read_expr_form<'a>(
         return Err(Stop::Form(0));
     };
     match class {
-        Class::Key(Keyword::Con) => read_constructor(alloc, bytes, rest),
-        Class::Key(Keyword::App) => read_application(alloc, bytes, rest),
-        Class::Key(Keyword::Lam) => read_lambda(alloc, bytes, rest),
-        Class::Key(Keyword::Let) => read_let(alloc, bytes, rest),
-        Class::Key(Keyword::Case) => read_case(alloc, bytes, rest),
+        Terminal::Key(Keyword::Con) => read_constructor(alloc, bytes, rest),
+        Terminal::Key(Keyword::App) => read_application(alloc, bytes, rest),
+        Terminal::Key(Keyword::Lam) => read_lambda(alloc, bytes, rest),
+        Terminal::Key(Keyword::Let) => read_let(alloc, bytes, rest),
+        Terminal::Key(Keyword::Case) => read_case(alloc, bytes, rest),
         _ => Err(Stop::Form(tokens.len())),
     }
 }

@@ -14,7 +14,7 @@ ghost use Rattle.fc_reader.specs.Halting.{Halts};
 use crate::decls::read_decls;
 use crate::limits::Halt;
 use fc_read_parts::{
-    Class, Stop, closes, first, opens_hidden, read_close, read_exports_word, read_imports_word,
+    Stop, Terminal, closes, first, opens_hidden, read_close, read_exports_word, read_imports_word,
     read_module_name, read_module_word, read_name, read_open,
 };
 use fc_syntax::{Decl, Module, Seq, Text, Token};
@@ -76,7 +76,7 @@ fn read_header<'a>(
     ensures shorter { IfOk result (λ x. length x.1.now < length tokens.now) }
     ensures fault { IfErr result (Stops AHeader (toks bytes.now tokens.now)) }
 {
-    let Some((Class::Open, _, rest)) = first(bytes, tokens) else {
+    let Some((Terminal::Open, _, rest)) = first(bytes, tokens) else {
         return Err(Stop::Form(tokens.len()));
     };
     let rest = read_module_word(bytes, rest)?;

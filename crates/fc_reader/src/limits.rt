@@ -3,7 +3,7 @@ ghost use Rattle.std.specs.Prelude.{◌≡◌, ◌≤◌, ◌+◌, min};
 ghost use Rattle.std.specs.List.{list_all};
 ghost use Rattle.fc_syntax.specs.View.{binders_of, con_of, cons_of, decl_of};
 ghost use Rattle.fc_model.specs.ReadFaults.{co_count, con_counts_fit, type_count, counts_fit as spec_counts_fit};
-ghost use Rattle.fc_reader.specs.Halting.{IsJudged};
+ghost use Rattle.fc_reader.specs.Halting.{IsMeasured};
 ghost use Rattle.fc_reader.specs.declared.limits.Halt.TheVariants.{Stop as stopped};
 ghost use Rattle.fc_read_parts.specs.declared.parts.Stop.TheVariants.{Memory as memory_stop};
 
@@ -39,7 +39,7 @@ impl From<Memory> for Halt {
 
 /// What a declaration is to the limits.
 #[derive(Debug, Drop)]
-pub(crate) enum Judged {
+pub(crate) enum Measured {
     /// It is too deep.
     Deep,
     /// It has too many parts, or is too large with those before it.
@@ -117,16 +117,16 @@ fn counts_fit(decl: &Decl) -> bool
 }
 
 /// What a declaration is to the limits, behind others of this size.
-pub(crate) fn judge(decl: &Decl, size: u64) -> Judged
+pub(crate) fn measure(decl: &Decl, size: u64) -> Measured
     requires { size ≤ 400000 }
-    ensures { IsJudged (decl_of decl.now) size result }
+    ensures { IsMeasured (decl_of decl.now) size result }
 {
     if depth(decl, MOST_DEEP + 1) > MOST_DEEP {
-        return Judged::Deep;
+        return Measured::Deep;
     }
     let all = size + size_of_decl(decl, MOST_PIECES + 1);
     if !counts_fit(decl) || all > MOST_PIECES {
-        return Judged::Much;
+        return Measured::Much;
     }
-    Judged::Fits(all)
+    Measured::Fits(all)
 }

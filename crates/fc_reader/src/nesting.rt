@@ -5,33 +5,33 @@ ghost use Rattle.fc_model.specs.Words.{toks};
 ghost use Rattle.fc_model.specs.ReadFaults.{NestsWithin};
 ghost use Rattle.fc_reader.specs.Nested.{IsDeepBefore, IsPart, IsTooDeep, StepsTo};
 
-use fc_read_parts::{Class, first};
+use fc_read_parts::{Terminal, first};
 use fc_syntax::Token;
 
 /// Brackets nest no deeper than this.
 const MOST_BRACKETS: usize = 2000;
 
 /// The level behind a token, none where it is a bracket that nests too deep.
-fn level_behind(class: Class, level: usize) -> Option<usize>
+fn level_behind(class: Terminal, level: usize) -> Option<usize>
     requires { level ≤ 2000 }
     ensures none { IfNone result (IsTooDeep class level) }
     ensures some { IfSome result (λ next. StepsTo class level next) }
     ensures bounded { IfSome result (λ next. next ≤ 2000) }
 {
     match class {
-        Class::Open => {
+        Terminal::Open => {
             if level >= MOST_BRACKETS {
                 return None;
             }
             Some(level + 1)
         }
-        Class::Close => Some(level.saturating_sub(1)),
-        Class::Key(_) => Some(level),
-        Class::Lower => Some(level),
-        Class::Upper => Some(level),
-        Class::Literal(_) => Some(level),
-        Class::Number(_) => Some(level),
-        Class::Other => Some(level),
+        Terminal::Close => Some(level.saturating_sub(1)),
+        Terminal::Key(_) => Some(level),
+        Terminal::Lower => Some(level),
+        Terminal::Upper => Some(level),
+        Terminal::Literal(_) => Some(level),
+        Terminal::Number(_) => Some(level),
+        Terminal::Other => Some(level),
     }
 }
 

@@ -6,7 +6,7 @@ ghost use Rattle.fc_model.specs.Words.{toks};
 ghost use Rattle.fc_model.specs.Canonical.{IsBuilt, IsFormed};
 ghost use Rattle.fc_model.specs.Texts.{ModuleAt};
 ghost use Rattle.fc_model.specs.ReadFaults.{byte_of, decls_within, ReadsTo};
-ghost use Rattle.fc_reader.specs.Halting.{Refuses};
+ghost use Rattle.fc_reader.specs.Halting.{RefusesModule};
 ghost use Rattle.fc_reader.specs.Refusals.{IsReadRefusal};
 ghost use Rattle.fc_reader.specs.Outcomes.{IsRefusalAt, IsRefusalOf};
 
@@ -23,7 +23,7 @@ fn read_whole(alloc: Global, bytes: &[u8], tokens: &[Token]) -> Result<Module, H
     requires { AreSlices bytes.now tokens.now }
     ensures found { IfOk result (λ m. ModuleAt (toks bytes.now tokens.now) (module_of m) []) }
     ensures within { IfOk result (λ m. decls_within (module_of m) ≡ true) }
-    ensures fault { IfErr result (Refuses (toks bytes.now tokens.now)) }
+    ensures fault { IfErr result (RefusesModule (toks bytes.now tokens.now)) }
 {
     match read_module_form(alloc, bytes, tokens) {
         Err(halt) => Err(halt),

@@ -1,69 +1,16 @@
--- Lists that are built item by item.
-use Rattle.std.proofs.Common.{◌≡◌, ℕ, ◌++◌, List, [], ◌∷◌, map, Result, Ok, Err, refl, ap}
+-- The parts of expressions, built item by item.
+use Rattle.std.proofs.Common.{◌≡◌, ℕ, ◌++◌, List, [], ◌∷◌, Result, Ok, Err, refl, ap}
 use Rattle.fc_syntax.specs.declared.ty.Ref.{Ref}
-use Rattle.fc_syntax.specs.declared.co.Co as G
 use Rattle.fc_syntax.specs.declared.expr.Expr as E
 use Rattle.fc_syntax.specs.declared.expr.Arg as A
 use Rattle.fc_syntax.specs.declared.expr.Bind as RustBind
 use Rattle.fc_syntax.specs.declared.expr.JoinBind as RustJoin
 use Rattle.fc_syntax.specs.declared.expr.Alt as RustAlt
 use Rattle.fc_model.specs.Faulting.{F}
-use Rattle.fc_model.specs.Nameless.{NCos, NoNCos, MoreNCos, NExprs, NoNExprs, MoreNExprs, NArgs, NoNArgs, MoreNArgs, NBinds, NoNBinds, MoreNBinds, NJoins, NoNJoins, MoreNJoins, NAlts, NoNAlts, MoreNAlts}
-use Rattle.fc_model.specs.NamelessView.{nco_of, ncos_of, nexpr_of, nexprs_of, narg_of, nargs_of, nbind_of, nbinds_of, njoin_of, njoins_of, nalt_of, nalts_of}
-use Rattle.fc_model.specs.Resolution.{then_item, then_co, then_expr, then_arg, then_bind, then_join, then_alt}
-use Rattle.fc_resolve.specs.Building.{with_items, cos_before, with_cos, exprs_before, with_exprs, args_before, with_args, binds_before, with_binds, joins_before, with_joins, alts_before, with_alts}
-
-append_item : {X Y : Type 0} (view : X → Y) (items : List X) (x : X) (rest : List Y) → map view items ++ view x ∷ rest ≡ map view (items ++ x ∷ []) ++ rest
-append_item view [] x rest = refl
-append_item view (y ∷ items) x rest = ap (λ zs. view y ∷ zs) (append_item view items x rest)
-
-append_none : {X Y : Type 0} (view : X → Y) (items : List X) → map view items ++ [] ≡ map view items
-append_none view [] = refl
-append_none view (y ∷ items) = ap (λ zs. view y ∷ zs) (append_none view items)
-
-pub with_items_more : {X Y : Type 0} (view : X → Y) (items : List X) (x : X) (r : Result (List Y) F) → with_items view items (then_item (view x) r) ≡ with_items view (items ++ x ∷ []) r
-unfolding with_items
-with_items_more view items x (Ok rest) = ap (λ z. Ok z) (append_item view items x rest)
-with_items_more view items x (Err f) = refl
-
-pub with_items_end : {X Y : Type 0} (view : X → Y) (items : List X) → with_items view items (Ok []) ≡ Ok (map view items)
-unfolding with_items
-with_items_end view items = ap (λ z. Ok z) (append_none view items)
-
-pub with_items_none : {X Y : Type 0} (view : X → Y) (r : Result (List Y) F) → with_items view [] r ≡ r
-unfolding with_items
-with_items_none view (Ok rest) = refl
-with_items_none view (Err f) = refl
-
-pub with_items_err : {X Y : Type 0} (view : X → Y) (items : List X) (f : F) → with_items view items (Err f) ≡ Err f
-unfolding with_items
-with_items_err view items f = refl
-
-append_co : (items : List (G.Co ℕ)) (x : G.Co ℕ) (rest : NCos) → cos_before items (MoreNCos (nco_of x) rest) ≡ cos_before (items ++ x ∷ []) rest
-append_co [] x rest = refl
-append_co (y ∷ items) x rest = ap (λ xs. MoreNCos (nco_of y) xs) (append_co items x rest)
-
-append_no_co : (items : List (G.Co ℕ)) → cos_before items NoNCos ≡ ncos_of items
-append_no_co [] = refl
-append_no_co (y ∷ items) = ap (λ xs. MoreNCos (nco_of y) xs) (append_no_co items)
-
-pub with_cos_more : (items : List (G.Co ℕ)) (x : G.Co ℕ) (r : Result NCos F) → with_cos items (then_co (nco_of x) r) ≡ with_cos (items ++ x ∷ []) r
-unfolding with_cos
-with_cos_more items x (Ok rest) = ap (λ z. Ok z) (append_co items x rest)
-with_cos_more items x (Err f) = refl
-
-pub with_cos_end : (items : List (G.Co ℕ)) → with_cos items (Ok NoNCos) ≡ Ok (ncos_of items)
-unfolding with_cos
-with_cos_end items = ap (λ z. Ok z) (append_no_co items)
-
-pub with_cos_none : (r : Result NCos F) → with_cos [] r ≡ r
-unfolding with_cos
-with_cos_none (Ok rest) = refl
-with_cos_none (Err f) = refl
-
-pub with_cos_err : (items : List (G.Co ℕ)) (f : F) → with_cos items (Err f) ≡ Err f
-unfolding with_cos
-with_cos_err items f = refl
+use Rattle.fc_model.specs.Nameless.{NExprs, NoNExprs, MoreNExprs, NArgs, NoNArgs, MoreNArgs, NBinds, NoNBinds, MoreNBinds, NJoins, NoNJoins, MoreNJoins, NAlts, NoNAlts, MoreNAlts}
+use Rattle.fc_model.specs.NamelessView.{nexpr_of, nexprs_of, narg_of, nargs_of, nbind_of, nbinds_of, njoin_of, njoins_of, nalt_of, nalts_of}
+use Rattle.fc_model.specs.Resolution.{then_expr, then_arg, then_bind, then_join, then_alt}
+use Rattle.fc_resolve.specs.Building.{exprs_before, with_exprs, args_before, with_args, binds_before, with_binds, joins_before, with_joins, alts_before, with_alts}
 
 append_expr : (items : List (E.Expr ℕ Ref)) (x : E.Expr ℕ Ref) (rest : NExprs) → exprs_before items (MoreNExprs (nexpr_of x) rest) ≡ exprs_before (items ++ x ∷ []) rest
 append_expr [] x rest = refl
@@ -195,4 +142,4 @@ pub with_alts_err : (items : List (RustAlt.Alt ℕ Ref)) (f : F) → with_alts i
 unfolding with_alts
 with_alts_err items f = refl
 
-pub ruleset building_rules = (with_items_more, with_items_end, with_items_none, with_items_err, with_cos_more, with_cos_end, with_cos_none, with_cos_err, with_exprs_more, with_exprs_end, with_exprs_none, with_exprs_err, with_args_more, with_args_end, with_args_none, with_args_err, with_binds_more, with_binds_end, with_binds_none, with_binds_err, with_joins_more, with_joins_end, with_joins_none, with_joins_err, with_alts_more, with_alts_end, with_alts_none, with_alts_err)
+pub ruleset building_rules = (with_exprs_more, with_exprs_end, with_exprs_none, with_exprs_err, with_args_more, with_args_end, with_args_none, with_args_err, with_binds_more, with_binds_end, with_binds_none, with_binds_err, with_joins_more, with_joins_end, with_joins_none, with_joins_err, with_alts_more, with_alts_end, with_alts_none, with_alts_err)

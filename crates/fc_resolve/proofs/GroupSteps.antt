@@ -9,15 +9,17 @@ use Rattle.fc_syntax.specs.declared.expr.Bind as RustBind
 use Rattle.fc_syntax.specs.declared.expr.JoinBind as RustJoin
 use Rattle.fc_syntax.specs.declared.module.ConDecl as RustCon
 use Rattle.fc_syntax.specs.declared.module.Decl as RustDecl
+use Rattle.fc_model.specs.Declaring.{decl_word}
 use Rattle.fc_model.specs.Faulting.{need, under, and_then, within}
 use Rattle.fc_model.specs.NamelessView.{nbind_of, njoin_of, ncon_of, ndecl_of}
-use Rattle.fc_model.specs.Resolution.{Top, Locals, WordSet, plus, then_bind, then_join, resolved_bind, resolved_binds, resolved_join, resolved_joins, resolved_con, resolved_cons, Words, behind, decl_word, resolved_decl, resolved_decls}
+use Rattle.fc_model.specs.Resolution.{Top, Locals, WordSet, plus, then_bind, then_join, resolved_bind, resolved_binds, resolved_join, resolved_joins, resolved_con, resolved_cons, Words, behind, resolved_decl, resolved_decls}
 use Rattle.fc_model.specs.Says.{Refuses, fault_of}
 use Rattle.fc_model.specs.declared.flaw.Flawed.{Flawed}
 use Rattle.fc_model.specs.declared.flaw.Flawed.TheVariants.{Memory, Flaw as OfFlaw}
-use Rattle.fc_resolve.specs.Building.{with_binds, with_joins, with_items}
+use Rattle.fc_resolve_parts.specs.Building.{with_items}
+use Rattle.fc_resolve_parts.proofs.ListSteps.{item_more}
+use Rattle.fc_resolve.specs.Building.{with_binds, with_joins}
 use Rattle.fc_resolve.proofs.Building.{with_binds_err, with_binds_more, with_joins_err, with_joins_more}
-use Rattle.fc_resolve.proofs.ListSteps.{item_more}
 
 pub bind_more : (top : Top) (s : Locals) (earlier earlier' : WordSet) (out out' : List (RustBind.Bind ℕ Ref)) (at at' : ℕ) (b : RustBind.Bind Word Name) (rest : List (RustBind.Bind Word Name)) (next : RustBind.Bind ℕ Ref)
     → under at (need (not (earlier b.name)) Duplicate (resolved_bind top s (bind_of b))) ≡ Ok (nbind_of next)

@@ -1,27 +1,14 @@
--- What is resolved so far, before what is still to come.
-use Rattle.std.specs.Prelude.{ℕ, List, [], ◌∷◌, ◌++◌, map, Result, Ok, Err}
+-- The parts of expressions that are resolved so far, before what is still to come.
+use Rattle.std.specs.Prelude.{ℕ, List, [], ◌∷◌, Result, Ok, Err}
 use Rattle.fc_syntax.specs.declared.ty.Ref.{Ref}
-use Rattle.fc_syntax.specs.declared.co.Co as G
 use Rattle.fc_syntax.specs.declared.expr.Expr as E
 use Rattle.fc_syntax.specs.declared.expr.Arg as A
 use Rattle.fc_syntax.specs.declared.expr.Bind as RustBind
 use Rattle.fc_syntax.specs.declared.expr.JoinBind as RustJoin
 use Rattle.fc_syntax.specs.declared.expr.Alt as RustAlt
 use Rattle.fc_model.specs.Faulting.{F}
-use Rattle.fc_model.specs.Nameless.{NCos, MoreNCos, NExprs, MoreNExprs, NArgs, MoreNArgs, NBinds, MoreNBinds, NJoins, MoreNJoins, NAlts, MoreNAlts}
-use Rattle.fc_model.specs.NamelessView.{nco_of, nexpr_of, narg_of, nbind_of, njoin_of, nalt_of}
-
-unfoldable pub with_items : {X Y : Type 0} → (X → Y) → List X → Result (List Y) F → Result (List Y) F
-with_items view items (Ok rest) = Ok (map view items ++ rest)
-with_items view items (Err f) = Err f
-
-abbrev pub cos_before : List (G.Co ℕ) → NCos → NCos
-cos_before [] rest = rest
-cos_before (x ∷ items) rest = MoreNCos (nco_of x) (cos_before items rest)
-
-unfoldable pub with_cos : List (G.Co ℕ) → Result NCos F → Result NCos F
-with_cos items (Ok rest) = Ok (cos_before items rest)
-with_cos items (Err f) = Err f
+use Rattle.fc_model.specs.Nameless.{NExprs, MoreNExprs, NArgs, MoreNArgs, NBinds, MoreNBinds, NJoins, MoreNJoins, NAlts, MoreNAlts}
+use Rattle.fc_model.specs.NamelessView.{nexpr_of, narg_of, nbind_of, njoin_of, nalt_of}
 
 abbrev pub exprs_before : List (E.Expr ℕ Ref) → NExprs → NExprs
 exprs_before [] rest = rest

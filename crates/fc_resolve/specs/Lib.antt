@@ -1,3 +1,1 @@
 pub mod Building
-pub mod DeclaredWords
-pub mod Entered

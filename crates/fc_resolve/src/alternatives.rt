@@ -2,20 +2,18 @@
 ghost use Rattle.std.specs.Prelude.{◌≡◌, Ok, length, IfOk};
 ghost use Rattle.fc_syntax.specs.Hints as kept;
 ghost use Rattle.fc_syntax.specs.View.{alt_of, alts_of, binders_of, expr_of};
+ghost use Rattle.fc_model.specs.DeclaredWords.{top_by};
 ghost use Rattle.fc_model.specs.Faulting.{under};
 ghost use Rattle.fc_model.specs.NamelessView.{nalt_of, nalts_of, nexpr_of};
 ghost use Rattle.fc_model.specs.Resolution.{Value, enter_all, with_term, resolved_expr as expr_resolved, resolved_head as head_resolved, resolved_alt as alt_resolved, resolved_alts as alts_resolved};
 ghost use Rattle.fc_model.specs.Says.{Says};
 ghost use Rattle.fc_scope.specs.ScopeWords.{locals_of, with_binders};
-ghost use Rattle.fc_resolve.specs.DeclaredWords.{top_by};
 
-use crate::binders::{Entered, resolved_binders};
-use crate::declared::Declared;
 use crate::expressions::expr_part;
-use crate::names::declared;
-use fc_model::{Flawed, deeper, next_part};
+use fc_model::{Declared, Flawed, deeper, next_part};
+use fc_resolve_parts::{Entered, declared, resolved_binders};
 use fc_scope::{Binders, Scope};
-use fc_syntax::{Alt, Binder, Expr, Head, Memory, NAlt, NExpr, Seq, Text};
+use fc_syntax::{Alt, Binder, Expr, Head, Memory, NAlt, NExpr, Seq, Text, part};
 use std::alloc::Global;
 
 /// What an alternative is for. The word of a constructor that is not in scope is `Unbound`.
@@ -58,7 +56,7 @@ fn alternatives<'x>(
     ensures words { IfOk result (λ n. kept.alts_hints (alts_of n) ≡ kept.alts_hints (alts_of alts.now)) }
 {
     let mut out = Seq::new(alloc);
-    let mut at = 3u32;
+    let mut at = part::FIRST_ALTERNATIVE;
     for alt in alts {
         let next = alternative_part(alloc, top, &*scope, alt, at)?;
         out.push(next)?;

@@ -3,18 +3,17 @@ ghost use Rattle.std.specs.Prelude.{◌≡◌, Ok, OnOk, length, not, IfOk, flat
 ghost use Rattle.fc_syntax.specs.declared.fault.FaultKind.TheVariants.{Duplicate};
 ghost use Rattle.fc_syntax.specs.Hints as kept;
 ghost use Rattle.fc_syntax.specs.View.{binders_of, con_of, cons_of, tys_of};
+ghost use Rattle.fc_model.specs.DeclaredWords.{top_by};
+ghost use Rattle.fc_model.specs.Declaring.{con_words};
 ghost use Rattle.fc_model.specs.Faulting.{need, under};
 ghost use Rattle.fc_model.specs.NamelessView.{ncon_of, ncons_of, ntys_of};
-ghost use Rattle.fc_model.specs.Resolution.{con_words, enter_all, no_locals, plus_all, resolved_con as con_resolved, resolved_cons as cons_resolved, resolved_tys as tys_resolved};
+ghost use Rattle.fc_model.specs.Resolution.{enter_all, no_locals, plus_all, resolved_con as con_resolved, resolved_cons as cons_resolved, resolved_tys as tys_resolved};
 ghost use Rattle.fc_model.specs.Says.{Says};
 ghost use Rattle.fc_model.specs.WordSets.{set_of};
 ghost use Rattle.fc_scope.specs.ScopeWords.{locals_of, with_binders};
-ghost use Rattle.fc_resolve.specs.DeclaredWords.{top_by};
 
-use crate::binders::{Entered, resolved_binders};
-use crate::declared::Declared;
-use crate::types::resolved_tys;
-use fc_model::{Flawed, WordSet, deeper, flaw_here, next_part};
+use fc_model::{Declared, Flawed, WordSet, deeper, flaw_here, next_part};
+use fc_resolve_parts::{Entered, resolved_binders, resolved_tys};
 use fc_scope::{Binders, Names, Scope};
 use fc_syntax::{Binder, ConDecl, FaultKind, Memory, NConDecl, NTy, Seq, Ty};
 use std::alloc::Global;
@@ -96,7 +95,7 @@ fn constructor_part<'x>(
 }
 
 /// Constructors, which are the parts from this number on and whose words come behind those of terms before.
-#[tactic(auto, using(crate::proofs::Building::building_rules, crate::proofs::WordSteps::word_rules, std::proofs::lemmas::Grind::common_steps))]
+#[tactic(auto, using(fc_resolve_parts::proofs::Building::building_rules, crate::proofs::WordSteps::word_rules, std::proofs::lemmas::Grind::common_steps))]
 fn constructors<'x>(
     alloc: Global,
     top: &Declared,

@@ -1,28 +1,30 @@
 //! Declarations, each behind the words of those before.
 ghost use Rattle.std.specs.Prelude.{◌≡◌, [], ◌++◌, Ok, OnOk, IfOk, flat_map, map};
+ghost use Rattle.fc_syntax.specs.declared.ty.Name.{Name};
 ghost use Rattle.fc_syntax.specs.Tree.{DAxiom, DData, DDef, DFamily, DNew, DWrap};
 ghost use Rattle.fc_syntax.specs.Hints as kept;
 ghost use Rattle.fc_syntax.specs.View.{cons_of, decl_of, decls_of, expr_of, kind_of, params_of, plains_of, ty_of};
+ghost use Rattle.fc_model.specs.DeclaredWords.{top_by, words_by_space};
+ghost use Rattle.fc_model.specs.Declaring.{decl_word};
 ghost use Rattle.fc_model.specs.Faulting.{under, within};
-ghost use Rattle.fc_model.specs.NamelessView.{ndecl_of, ndecls_of, nty_of};
-ghost use Rattle.fc_model.specs.Resolution.{behind, resolved_decl as decl_resolved, resolved_decls as decls_resolved, decl_word, resolved_ty as ty_resolved};
+ghost use Rattle.fc_model.specs.Nameless.{NDef, NWrap};
+ghost use Rattle.fc_model.specs.NamelessView.{ndecl_of, ndecls_of, nexpr_of, nty_of};
+ghost use Rattle.fc_model.specs.Resolution.{behind, resolved_decl as decl_resolved, resolved_decls as decls_resolved, resolved_ty as ty_resolved};
 ghost use Rattle.fc_model.specs.Says.{Says};
-ghost use Rattle.fc_resolve.specs.DeclaredWords.{top_by, words_by_space};
 
 use crate::constructors::constructors_in_params;
-use crate::declared::{Declared, Spaces};
 use crate::expressions::right_side;
-use crate::params::{copied_params, copied_plains, param_names, plain_names, ty_in_params};
-use crate::types::ty_part;
-use fc_model::{Flawed, flaw_here, in_declaration, next_part};
+use fc_model::{Declared, Flawed, Spaces, flaw_here, in_declaration, next_part, word_of};
+use fc_resolve_parts::{param_names, plain_names, ty_in_params, ty_part};
 use fc_scope::Scope;
 use fc_syntax::{
-    ConDecl, Decl, Expr, FaultKind, Kind, Memory, NDecl, NTy, Param, Plain, Seq, Text, Ty,
+    ConDecl, Decl, Expr, FaultKind, Kind, Memory, NDecl, NExpr, NTy, Param, Plain, Seq, Text, Ty,
+    copy_params, copy_plains, part,
 };
 use std::alloc::Global;
 
 /// A data type, whose words come behind those of declarations before.
-#[tactic(auto, unfolding(crate::specs::DeclaredWords::words_by_space))]
+#[tactic(auto, unfolding(fc_model::specs::DeclaredWords::words_by_space))]
 fn data_type(
     alloc: Global,
     top: &Declared,
@@ -33,7 +35,7 @@ fn data_type(
 ) -> Result<NDecl, Flawed>
     ensures form { Says ndecl_of result (decl_resolved (top_by top.now) (words_by_space earlier.old) (DData name.now (params_of params.now) (cons_of cons.now))) }
     ensures words { IfOk result (λ n. kept.decl_hints (decl_of n) ≡ map kept.param_hint (params_of params.now) ++ flat_map kept.con_hints (cons_of cons.now)) }
-    ensures behind { OnOk result (words_by_space earlier.new ≡ behind (DData name.now (params_of params.now) (cons_of cons.now)) (words_by_space earlier.old)) }
+    ensures behind { OnOk result (words_by_space earlier.new ≡ behind {V = Name} (DData name.now (params_of params.now) (cons_of cons.now)) (words_by_space earlier.old)) }
 {
     if earlier.types.has(name) {
         return Err(flaw_here(alloc, FaultKind::Duplicate));
@@ -42,11 +44,11 @@ fn data_type(
     let cons = constructors_in_params(alloc, top, &names, cons, &mut earlier.terms)?;
     earlier.types.add(alloc, name)?;
     let name = name.copy(alloc)?;
-    let params = copied_params(alloc, params)?;
+    let params = copy_params(alloc, params)?;
     Ok(NDecl::DataType(name, params, cons))
 }
 
-#[tactic(auto, unfolding(crate::specs::DeclaredWords::words_by_space))]
+#[tactic(auto, unfolding(fc_model::specs::DeclaredWords::words_by_space))]
 fn new_type(
     alloc: Global,
     top: &Declared,
@@ -68,12 +70,12 @@ fn new_type(
         return Err(flaw_here(alloc, FaultKind::Duplicate));
     }
     let name = name.copy(alloc)?;
-    let params = copied_params(alloc, params)?;
+    let params = copy_params(alloc, params)?;
     let coercion = coercion.copy(alloc)?;
     Ok(NDecl::NewType(name, params, t, coercion))
 }
 
-#[tactic(auto, unfolding(crate::specs::DeclaredWords::words_by_space))]
+#[tactic(auto, unfolding(fc_model::specs::DeclaredWords::words_by_space))]
 fn family(
     alloc: Global,
     top: &Declared,
@@ -90,12 +92,12 @@ fn family(
     }
     let _names = plain_names(alloc, params)?;
     let name = name.copy(alloc)?;
-    let params = copied_plains(alloc, params)?;
+    let params = copy_plains(alloc, params)?;
     let kind = kind.copy(alloc)?;
     Ok(NDecl::Family(name, params, kind))
 }
 
-#[tactic(auto, unfolding(crate::specs::DeclaredWords::words_by_space))]
+#[tactic(auto, unfolding(fc_model::specs::DeclaredWords::words_by_space))]
 fn equation(
     alloc: Global,
     top: &Declared,
@@ -115,7 +117,7 @@ fn equation(
     let left = ty_in_params(alloc, top, &names, left, names.len())?;
     let right = ty_in_params(alloc, top, &names, right, next_part(names.len())?)?;
     let name = name.copy(alloc)?;
-    let params = copied_plains(alloc, params)?;
+    let params = copy_plains(alloc, params)?;
     Ok(NDecl::Axiom(name, params, left, right))
 }
 
@@ -125,49 +127,29 @@ fn definition_type(alloc: Global, top: &Declared, t: &Ty) -> Result<NTy, Flawed>
     ensures words { IfOk result (λ n. kept.ty_hints (ty_of n) ≡ kept.ty_hints (ty_of t.now)) }
 {
     let scope = Scope::End;
-    ty_part(alloc, top, &scope, t, 0)
+    ty_part(alloc, top, &scope, t, part::TYPE)
 }
 
-#[tactic(auto, unfolding(crate::specs::DeclaredWords::words_by_space))]
-fn definition(
+/// The type and the right side of a definition or a wrapper, whose word comes behind those of declarations before.
+#[tactic(auto, unfolding(fc_model::specs::DeclaredWords::words_by_space))]
+fn type_and_right_side(
     alloc: Global,
     top: &Declared,
     earlier: &Spaces,
     name: &Text,
     t: &Ty,
     e: &Expr,
-) -> Result<NDecl, Flawed>
-    ensures form { Says ndecl_of result (decl_resolved (top_by top.now) (words_by_space earlier.now) (DDef name.now (ty_of t.now) (expr_of e.now))) }
-    ensures words { IfOk result (λ n. kept.decl_hints (decl_of n) ≡ kept.ty_hints (ty_of t.now) ++ kept.expr_hints (expr_of e.now)) }
+) -> Result<(NTy, NExpr), Flawed>
+    ensures definition { Says (λ p. NDef name.now (nty_of p.0) (nexpr_of p.1)) result (decl_resolved (top_by top.now) (words_by_space earlier.now) (DDef name.now (ty_of t.now) (expr_of e.now))) }
+    ensures wrapper { Says (λ p. NWrap name.now (nty_of p.0) (nexpr_of p.1)) result (decl_resolved (top_by top.now) (words_by_space earlier.now) (DWrap name.now (ty_of t.now) (expr_of e.now))) }
+    ensures words { IfOk result (λ p. kept.ty_hints (ty_of p.0) ++ kept.expr_hints (expr_of p.1) ≡ kept.ty_hints (ty_of t.now) ++ kept.expr_hints (expr_of e.now)) }
 {
     if earlier.terms.has(name) {
         return Err(flaw_here(alloc, FaultKind::Duplicate));
     }
     let t = definition_type(alloc, top, t)?;
     let e = right_side(alloc, top, e)?;
-    let name = name.copy(alloc)?;
-    Ok(NDecl::Def(name, t, e))
-}
-
-#[tactic(auto, unfolding(crate::specs::DeclaredWords::words_by_space))]
-fn wrapper(
-    alloc: Global,
-    top: &Declared,
-    earlier: &Spaces,
-    name: &Text,
-    t: &Ty,
-    e: &Expr,
-) -> Result<NDecl, Flawed>
-    ensures form { Says ndecl_of result (decl_resolved (top_by top.now) (words_by_space earlier.now) (DWrap name.now (ty_of t.now) (expr_of e.now))) }
-    ensures words { IfOk result (λ n. kept.decl_hints (decl_of n) ≡ kept.ty_hints (ty_of t.now) ++ kept.expr_hints (expr_of e.now)) }
-{
-    if earlier.terms.has(name) {
-        return Err(flaw_here(alloc, FaultKind::Duplicate));
-    }
-    let t = definition_type(alloc, top, t)?;
-    let e = right_side(alloc, top, e)?;
-    let name = name.copy(alloc)?;
-    Ok(NDecl::Wrap(name, t, e))
+    Ok((t, e))
 }
 
 /// A declaration behind the words of those before, to which it adds its own.
@@ -208,28 +190,15 @@ fn declaration(
             Ok(n)
         }
         Decl::Def(name, t, e) => {
-            let n = definition(alloc, top, earlier, name, t, e)?;
+            let (t, e) = type_and_right_side(alloc, top, earlier, name, t, e)?;
             earlier.add(alloc, decl)?;
-            Ok(n)
+            Ok(NDecl::Def(name.copy(alloc)?, t, e))
         }
         Decl::Wrap(name, t, e) => {
-            let n = wrapper(alloc, top, earlier, name, t, e)?;
+            let (t, e) = type_and_right_side(alloc, top, earlier, name, t, e)?;
             earlier.add(alloc, decl)?;
-            Ok(n)
+            Ok(NDecl::Wrap(name.copy(alloc)?, t, e))
         }
-    }
-}
-
-fn word_of(decl: &Decl) -> &Text
-    ensures { result.now ≡ decl_word (decl_of decl.now) }
-{
-    match decl {
-        Decl::DataType(name, _, _) => name,
-        Decl::NewType(name, _, _, _) => name,
-        Decl::Family(name, _, _) => name,
-        Decl::Axiom(name, _, _, _) => name,
-        Decl::Def(name, _, _) => name,
-        Decl::Wrap(name, _, _) => name,
     }
 }
 
@@ -251,7 +220,7 @@ fn declaration_within(
 }
 
 /// Declarations behind the words of those before, to which they add their own.
-#[tactic(auto, using(crate::proofs::Building::building_rules, crate::proofs::WordSteps::word_rules, std::proofs::lemmas::Grind::common_steps))]
+#[tactic(auto, using(fc_resolve_parts::proofs::Building::building_rules, crate::proofs::WordSteps::word_rules, std::proofs::lemmas::Grind::common_steps))]
 pub fn resolved_decls(
     alloc: Global,
     top: &Declared,

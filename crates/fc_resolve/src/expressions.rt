@@ -2,23 +2,21 @@
 ghost use Rattle.std.specs.Prelude.{◌≡◌, Ok, [], IfOk};
 ghost use Rattle.fc_syntax.specs.Hints as kept;
 ghost use Rattle.fc_syntax.specs.View.{arg_of, args_of, binder_of, expr_of, exprs_of};
+ghost use Rattle.fc_model.specs.DeclaredWords.{top_by};
 ghost use Rattle.fc_model.specs.Faulting.{under};
 ghost use Rattle.fc_model.specs.NamelessView.{narg_of, nargs_of, nexpr_of, nexprs_of};
 ghost use Rattle.fc_model.specs.Resolution.{enter, found_term, join_index, no_locals, resolved_var, resolved_expr as expr_resolved, resolved_exprs as exprs_resolved, resolved_arg as arg_resolved, resolved_args as args_resolved};
 ghost use Rattle.fc_model.specs.Says.{Says};
 ghost use Rattle.fc_scope.specs.ScopeWords.{locals_of};
-ghost use Rattle.fc_resolve.specs.DeclaredWords.{top_by};
 
 use crate::alternatives::alternatives_below;
-use crate::binders::first_binder;
-use crate::coercions::{co_part, resolved_co};
-use crate::declared::Declared;
 use crate::groups::{below_joins, below_values, bind_names, group, join_group, join_names};
-use crate::names::declared;
-use crate::types::{resolved_ty, ty_part};
-use fc_model::{Flawed, deeper, flaw_here, next_part};
+use fc_model::{Declared, Flawed, deeper, flaw_here, next_part};
+use fc_resolve_parts::{co_part, declared, first_binder, resolved_co, resolved_ty, ty_part};
 use fc_scope::{Found, Scope};
-use fc_syntax::{Arg, Binder, Expr, FaultKind, Memory, NArg, NExpr, Name, Ref, Seq, Text, boxed};
+use fc_syntax::{
+    Arg, Binder, Expr, FaultKind, Memory, NArg, NExpr, Name, Ref, Seq, Text, boxed, part,
+};
 use std::alloc::Global;
 
 /// A variable: the innermost binder of its word where it has no module, else a definition. The word of a join point is `Unbound`.
@@ -70,8 +68,8 @@ fn resolved_expr<'x>(
         Expr::Var(name) => variable(alloc, top, &*scope, name),
         Expr::Lit(n) => Ok(NExpr::Lit(*n)),
         Expr::App(f, a) => {
-            let f = expr_part(alloc, top, &*scope, f, 0)?;
-            let a = arg_part(alloc, top, &*scope, a, 1)?;
+            let f = expr_part(alloc, top, &*scope, f, part::HEAD)?;
+            let a = arg_part(alloc, top, &*scope, a, part::ARGUMENT)?;
             Ok(NExpr::App(boxed(alloc, f)?, boxed(alloc, a)?))
         }
         Expr::Lam(binder, e) => {
@@ -87,9 +85,9 @@ fn resolved_expr<'x>(
             Ok(NExpr::Let(*recursive, members, boxed(alloc, e)?))
         }
         Expr::Case(e, word, t, u, alts) => {
-            let e = expr_part(alloc, top, &*scope, e, 0)?;
-            let t = ty_part(alloc, top, &*scope, t, 1)?;
-            let u = ty_part(alloc, top, &*scope, u, 2)?;
+            let e = expr_part(alloc, top, &*scope, e, part::SCRUTINEE)?;
+            let t = ty_part(alloc, top, &*scope, t, part::SCRUTINEE_TYPE)?;
+            let u = ty_part(alloc, top, &*scope, u, part::ANSWER_TYPE)?;
             let alts = alternatives_below(alloc, top, &*scope, alts.as_slice(), word)?;
             let word = word.copy(alloc)?;
             Ok(NExpr::Case(boxed(alloc, e)?, word, t, u, alts))
@@ -108,9 +106,9 @@ fn resolved_expr<'x>(
             let operands = resolved_exprs(alloc, top, &*scope, operands.as_slice())?;
             Ok(NExpr::Prim(*op, operands))
         }
-        Expr::Fail(t) => Ok(NExpr::Fail(ty_part(alloc, top, &*scope, t, 0)?)),
+        Expr::Fail(t) => Ok(NExpr::Fail(ty_part(alloc, top, &*scope, t, part::TYPE)?)),
         Expr::Join(recursive, t, joins, e) => {
-            let t = ty_part(alloc, top, &*scope, t, 0)?;
+            let t = ty_part(alloc, top, &*scope, t, part::TYPE)?;
             let joins = joins.as_slice();
             let names = join_names(alloc, joins)?;
             let members = join_group(alloc, top, &*scope, joins, *recursive, &names)?;
@@ -158,15 +156,15 @@ fn below<'x>(
     match binder {
         Binder::Value(word, _) => {
             let inner = Scope::Value(&*word, &*scope);
-            expr_part(alloc, top, &inner, e, 1)
+            expr_part(alloc, top, &inner, e, part::BODY)
         }
         Binder::OfType(word, _) => {
             let inner = Scope::Type(&*word, &*scope);
-            expr_part(alloc, top, &inner, e, 1)
+            expr_part(alloc, top, &inner, e, part::BODY)
         }
         Binder::OfCo(word, _, _, _) => {
             let inner = Scope::Coercion(&*word, &*scope);
-            expr_part(alloc, top, &inner, e, 1)
+            expr_part(alloc, top, &inner, e, part::BODY)
         }
     }
 }
@@ -257,5 +255,5 @@ pub fn right_side(alloc: Global, top: &Declared, e: &Expr) -> Result<NExpr, Flaw
     ensures words { IfOk result (λ n. kept.expr_hints (expr_of n) ≡ kept.expr_hints (expr_of e.now)) }
 {
     let scope = Scope::End;
-    expr_part(alloc, top, &scope, e, 1)
+    expr_part(alloc, top, &scope, e, part::RIGHT_SIDE)
 }

@@ -3,22 +3,20 @@ ghost use Rattle.std.specs.Prelude.{◌≡◌, ◌+◌, Ok, IfOk, if◌then◌el
 ghost use Rattle.fc_syntax.specs.declared.fault.FaultKind.TheVariants.{Duplicate};
 ghost use Rattle.fc_syntax.specs.Hints as kept;
 ghost use Rattle.fc_syntax.specs.View.{bind_of, binds_of, expr_of, join_of, joins_of};
+ghost use Rattle.fc_model.specs.DeclaredWords.{top_by};
 ghost use Rattle.fc_model.specs.Faulting.{need, under};
 ghost use Rattle.fc_model.specs.NamelessView.{nbind_of, nbinds_of, nexpr_of, njoin_of, njoins_of};
 ghost use Rattle.fc_model.specs.Resolution.{bind_words, join_words, enter_joins, enter_values, no_word, resolved_expr as expr_resolved, resolved_bind as bind_resolved, resolved_binds as binds_resolved, resolved_join as join_resolved, resolved_joins as joins_resolved};
 ghost use Rattle.fc_model.specs.Says.{Says};
 ghost use Rattle.fc_scope.specs.Among.{among};
 ghost use Rattle.fc_scope.specs.ScopeWords.{locals_of};
-ghost use Rattle.fc_resolve.specs.DeclaredWords.{top_by};
 
 use crate::alternatives::below_binders;
-use crate::binders::{Entered, resolved_binders};
-use crate::declared::Declared;
 use crate::expressions::expr_part;
-use crate::types::ty_part;
-use fc_model::{Flawed, deeper, flaw_here, next_part};
+use fc_model::{Declared, Flawed, deeper, flaw_here, next_part};
+use fc_resolve_parts::{Entered, resolved_binders, ty_part};
 use fc_scope::{Names, Scope};
-use fc_syntax::{Bind, Expr, FaultKind, JoinBind, Memory, NBind, NExpr, NJoinBind, Seq};
+use fc_syntax::{Bind, Expr, FaultKind, JoinBind, Memory, NBind, NExpr, NJoinBind, Seq, part};
 use std::alloc::Global;
 
 /// The words of a let group.
@@ -141,8 +139,8 @@ fn new_bind<'x>(
     if earlier.has(&bind.name) {
         return Err(flaw_here(alloc, FaultKind::Duplicate));
     }
-    let ty = ty_part(alloc, top, &*scope, &bind.ty, 0)?;
-    let rhs = expr_part(alloc, top, &*scope, &bind.rhs, 1)?;
+    let ty = ty_part(alloc, top, &*scope, &bind.ty, part::TYPE)?;
+    let rhs = expr_part(alloc, top, &*scope, &bind.rhs, part::RIGHT_SIDE)?;
     let name = bind.name.copy(alloc)?;
     Ok(NBind { name, ty, rhs })
 }
@@ -202,7 +200,7 @@ fn resolved_joins<'x>(
 {
     let mut out = Seq::new(alloc);
     let mut earlier = Names::new(alloc);
-    let mut at = 1u32;
+    let mut at = part::FIRST_JOIN;
     for join in joins {
         let next = join_part(alloc, top, &*scope, join, &earlier, at)?;
         earlier.add(alloc, &join.name)?;

@@ -2,30 +2,23 @@
 #![tactic(auto)]
 
 mod alternatives;
-mod binders;
-mod coercions;
 mod constructors;
 mod declarations;
-mod declared;
 mod expressions;
 mod groups;
-mod names;
-mod params;
-mod types;
 
 ghost use Rattle.std.specs.Prelude.{◌≡◌, Ok, IfOk};
 ghost use Rattle.fc_syntax.specs.Hints as kept;
 ghost use Rattle.fc_syntax.specs.View.{decls_of, module_of};
+ghost use Rattle.fc_model.specs.DeclaredWords.{top_by, words_by_space};
 ghost use Rattle.fc_model.specs.Faulting.{and_then};
 ghost use Rattle.fc_model.specs.Nameless.{NModuleOf};
 ghost use Rattle.fc_model.specs.NamelessView.{ndecls_of, nmodule_of};
 ghost use Rattle.fc_model.specs.Resolution.{resolved_decls as decls_resolved, resolved_or_fault};
 ghost use Rattle.fc_model.specs.Says.{Says};
-ghost use Rattle.fc_resolve.specs.DeclaredWords.{top_by, words_by_space};
 
 use crate::declarations::resolved_decls;
-use crate::declared::{Declared, Spaces};
-use fc_model::Flawed;
+use fc_model::{Declared, Flawed, Spaces};
 use fc_syntax::{Memory, Module, NDecl, NModule, Seq, copy_words};
 use std::alloc::Global;
 

@@ -1,5 +1,5 @@
 -- The table of a group's words, with one word more, and what it says.
-use Rattle.std.proofs.Common.{◌≡◌, ℕ, ◌+◌, ◌-◌, ◌≤◌, List, [], ◌∷◌, ◌++◌, reverse, Bool, true, false, cond, bytes_eq, if◌then◌else◌, Option, Some, None, is_some, option_map, refl, sym, ap, ◌∙◌, subst, arith, length-append}
+use Rattle.std.proofs.Common.{◌≡◌, ℕ, ◌+◌, ◌-◌, ◌<◌, ◌≤◌, List, [], ◌∷◌, ◌++◌, length, reverse, Bool, true, false, cond, bytes_eq, if◌then◌else◌, Option, Some, None, is_some, option_map, refl, sym, ap, ◌∙◌, subst, arith, length-append}
 use Rattle.std.proofs.lemmas.List.{reverse-append}
 use Rattle.fc_syntax.specs.Tree.{Word}
 use Rattle.fc_model.specs.Resolution.{index_of}
@@ -48,6 +48,16 @@ nowhere count None h = refl
 
 pub last_nowhere : (ws : List Word) (count : ℕ) (last : Word → Option ℕ) (w : Word) → IsTied ws count last → last w ≡ None → index_of (reverse ws) w ≡ None
 last_nowhere ws count last w h is = nowhere count (index_of (reverse ws) w) (subst (AreOfOnePlace count (index_of (reverse ws) w)) is (h.last_is w))
+
+-- a distance is below the number of the words
+below_step : (b : Bool) (o : Option ℕ) (d n : ℕ) → ((e : ℕ) → o ≡ Some e → e < n) → (if b then Some 0 else option_map (λ i. i + 1) o) ≡ Some d → d < n + 1
+below_step true o d n h is = let at : 0 ≡ d = cc in omega (arith, at)
+below_step false (Some e) d n h is = let at : e + 1 ≡ d = cc in omega (arith, at, h e refl)
+below_step false None d n h is = absurd cc
+
+pub index_below : (ws : List Word) (w : Word) (d : ℕ) → index_of ws w ≡ Some d → d < length ws
+index_below [] w d is = absurd cc
+index_below (v ∷ ws) w d is = subst (λ n. d < n) (omega arith) (below_step (bytes_eq v w) (index_of ws w) d (length ws) (index_below ws w) is)
 
 -- a word with a distance is among the words
 among_step : (b : Bool) (o : Option ℕ) (a : Bool) → is_some o ≡ a → is_some (if b then Some 0 else option_map (λ i. i + 1) o) ≡ (if b then true else a)

@@ -4,7 +4,10 @@
 mod binders;
 mod names;
 mod scope;
+mod table;
+mod words;
 
 pub use binders::Binders;
 pub use names::Names;
 pub use scope::{Found, Scope};
+pub use words::{coercion_word, join_word, type_word, value_word};

@@ -1,35 +1,76 @@
 //! The words of a group of binders.
-ghost use Rattle.std.specs.Prelude.{◌≡◌, [], ◌∷◌, OnOk, length, slice_get};
+ghost use Rattle.std.specs.Prelude.{◌≡◌, ◌≤◌, ◌<◌, ◌+◌, [], ◌∷◌, IfSome, OnOk, Some, if◌then◌else◌, length, option_map, reverse, slice_get};
 ghost use Rattle.std.specs.Option.{option_copied};
 ghost use Rattle.fc_model.specs.Resolution.{index_of};
 ghost use Rattle.fc_scope.specs.Among.{among};
 
+use crate::table::Table;
 use fc_syntax::{Memory, Text};
-use indexmap::IndexMap;
 use std::alloc::Global;
 use std::marker::Model;
+
+/// The number of words up to which each is looked at, before there is a table.
+const FEW: usize = 8;
 
 /// The words of binders of one space that stand together. Contracts see the list of the words, the last one that was put in first. A
 /// word may be there more than once, and the last binder of it counts.
 pub struct Names {
-    words: Vec<Text>,
-    count: u32,
-    last: IndexMap<String, u32>,
+    few: Vec<Text>,
+    many: Table,
 }
 
 impl Model for Names {
-    ghost use Rattle.std.specs.Prelude.{List, ℕ, reverse};
-    ghost use Rattle.std.specs.HashMap.{get_by_text};
+    ghost use Rattle.std.specs.Prelude.{List, ℕ, ◌++◌, length, reverse};
     ghost use Rattle.std.specs.Coded.{coded_list, coded_ℕ};
-    ghost use Rattle.fc_scope.specs.Tied.{IsTied};
+    ghost use Rattle.fc_scope.specs.Apart.{AreApart};
 
     ghost Value = { List (List ℕ) };
 
     ghost coded = { coded_list (coded_list coded_ℕ) };
 
-    ghost view = { λ n. reverse n.words.items };
+    ghost view = { λ n. n.many ++ reverse n.few.items };
 
-    ghost invariant = { λ n. IsTied n.words.items n.count (get_by_text n.last) };
+    ghost invariant = { λ n. AreApart (length n.few.items) n.many };
+}
+
+/// A distance from one word further in, where the word there is the one that is sought or not.
+fn one_further(distance: Option<u32>, here: bool) -> Option<u32>
+    requires { IfSome distance (λ d. d < 8) }
+    ensures { result ≡ (if here then Some 0 else option_map (λ i. i + 1) distance) }
+{
+    if here {
+        Some(0)
+    } else {
+        match distance {
+            Some(distance) => Some(distance + 1),
+            None => None,
+        }
+    }
+}
+
+/// The distance to the last place of a word among few.
+fn distance_among(words: &[Text], word: &Text) -> Option<u32>
+    requires { length words.now ≤ 8 }
+    ensures { result ≡ index_of (reverse words.now) word.now }
+{
+    let mut distance = None;
+    for other in words {
+        distance = one_further(distance, other.as_str() == word.as_str());
+    }
+    distance
+}
+
+/// The word at a distance among few.
+fn word_among(words: &[Text], distance: u32) -> Option<&Text>
+    ensures { option_copied result ≡ slice_get (reverse words.now) distance }
+{
+    let count = words.len();
+    let place = distance as usize;
+    if place < count {
+        Some(&words[count - 1 - place])
+    } else {
+        None
+    }
 }
 
 impl Names {
@@ -38,9 +79,8 @@ impl Names {
         ensures { result ≡ [] }
     {
         Names {
-            words: Vec::new(alloc),
-            count: 0,
-            last: IndexMap::new(alloc),
+            few: Vec::new(alloc),
+            many: Table::new(alloc),
         }
     }
 
@@ -48,22 +88,15 @@ impl Names {
     pub fn add(&mut self, alloc: Global, word: &Text) -> Result<(), Memory>
         ensures { OnOk result (self.new ≡ word.now ∷ self.old) }
     {
-        let count = match self.count.checked_add(1) {
-            Some(count) => count,
-            None => return Err(Memory),
-        };
-        let key = String::from_str(alloc, word.as_str())?;
-        let word = word.copy(alloc)?;
-        self.words.push(word)?;
-        match self.last.insert(key, count) {
-            Ok(_) => {
-                self.count = count;
-                Ok(())
+        if self.few.len() < FEW {
+            let word = word.copy(alloc)?;
+            self.few.push(word)?;
+            Ok(())
+        } else {
+            if self.many.len() >= u32::MAX - 8 {
+                return Err(Memory);
             }
-            Err(_) => {
-                let _word = self.words.pop();
-                Err(Memory)
-            }
+            self.many.add(alloc, word)
         }
     }
 
@@ -71,16 +104,19 @@ impl Names {
     pub fn len(&self) -> u32
         ensures { result ≡ length self.now }
     {
-        self.count
+        self.many.len() + self.few.len() as u32
     }
 
     /// The distance to the last binder of a word: how many words were put in behind it. Takes no memory.
     pub fn distance(&self, word: &Text) -> Option<u32>
         ensures { result ≡ index_of self.now word.now }
     {
-        match self.last.get(word.as_str()) {
-            None => None,
-            Some(last) => Some(self.count - *last),
+        match self.many.distance(word) {
+            Some(distance) => Some(distance),
+            None => match distance_among(self.few.as_slice(), word) {
+                Some(distance) => Some(distance + self.many.len()),
+                None => None,
+            },
         }
     }
 
@@ -95,20 +131,18 @@ impl Names {
     pub fn word(&self, distance: u32) -> Option<&Text>
         ensures { option_copied result ≡ slice_get self.now distance }
     {
-        if distance < self.count {
-            Some(&self.words[(self.count - 1 - distance) as usize])
-        } else {
-            None
+        match self.many.word(distance) {
+            Some(word) => Some(word),
+            None => word_among(
+                self.few.as_slice(),
+                distance.saturating_sub(self.many.len()),
+            ),
         }
     }
 }
 
 impl Drop for Names {
     fn drop(self) {
-        let Names {
-            words: _,
-            count: _,
-            last: _,
-        } = self;
+        let Names { few: _, many: _ } = self;
     }
 }

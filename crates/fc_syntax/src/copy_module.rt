@@ -142,8 +142,9 @@ fn copy_tys<L: Variable>(alloc: Global, items: &[Ty<L>]) -> Result<Seq<Ty<L>>, M
     Ok(all)
 }
 
+/// The same parameters again. Fails only where memory is wanting.
 #[tactic(auto, using(std::proofs::lemmas::List::map_push, std::proofs::lemmas::Grind::common_steps))]
-fn copy_params(alloc: Global, items: &[Param]) -> Result<Seq<Param>, Memory>
+pub fn copy_params(alloc: Global, items: &[Param]) -> Result<Seq<Param>, Memory>
     ensures { IfOk result (λ s. params_of s ≡ params_of items.now) }
 {
     let mut all = Seq::new(alloc);
@@ -153,8 +154,9 @@ fn copy_params(alloc: Global, items: &[Param]) -> Result<Seq<Param>, Memory>
     Ok(all)
 }
 
+/// The same parameters without roles again. Fails only where memory is wanting.
 #[tactic(auto, using(std::proofs::lemmas::List::map_push, std::proofs::lemmas::Grind::common_steps))]
-fn copy_plains(alloc: Global, items: &[Plain]) -> Result<Seq<Plain>, Memory>
+pub fn copy_plains(alloc: Global, items: &[Plain]) -> Result<Seq<Plain>, Memory>
     ensures { IfOk result (λ s. plains_of s ≡ plains_of items.now) }
 {
     let mut all = Seq::new(alloc);

@@ -8,10 +8,13 @@ mod copy;
 mod copy_module;
 mod expr;
 mod fault;
+pub mod generic;
 mod instances;
 mod keyword;
 mod limits;
+mod make;
 mod module;
+pub mod part;
 mod seq;
 mod text;
 mod token;
@@ -19,7 +22,7 @@ mod ty;
 
 pub use boxes::{boxed, boxed_copy};
 pub use copy::Variable;
-pub use copy_module::copy_words;
+pub use copy_module::{copy_params, copy_plains, copy_words};
 pub use expr::{Head, PrimOp};
 pub use fault::{Fault, FaultKind, Memory, Place, Refusal};
 pub use instances::{

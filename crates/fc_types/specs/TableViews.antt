@@ -24,8 +24,8 @@ numbered c = record { data_word = c.data_word.now; params = c.params.now; number
 abbrev pub constructor_of : DeclaredCon → Constructor
 constructor_of c = constructor_at (numbered c)
 
-abbrev pub type_at : {S : Type 0} → IndexMap (Bor (List ℕ)) (Bor (Decl ℕ Ref)) S → Word → Option (Decl ℕ Ref)
-type_at table w = option_map (λ d. d.now) (at table w)
+abbrev pub type_decl_at : {S : Type 0} → IndexMap (Bor (List ℕ)) (Bor (Decl ℕ Ref)) S → Word → Option (Decl ℕ Ref)
+type_decl_at table w = option_map (λ d. d.now) (at table w)
 
 abbrev pub definition_at : {S : Type 0} → IndexMap (Bor (List ℕ)) (Bor (Ty ℕ)) S → Word → Option (Ty ℕ)
 definition_at table w = option_map (λ t. t.now) (at table w)
@@ -35,7 +35,7 @@ numbered_at table w = option_map numbered (at table w)
 
 -- the table has the first type of each word
 abbrev pub HasTypes : {S : Type 0} → List (Decl ℕ Ref) → IndexMap (Bor (List ℕ)) (Bor (Decl ℕ Ref)) S → Type 0
-HasTypes ds table = (w : Word) → type_at table w ≡ first_type_decl ds w
+HasTypes ds table = (w : Word) → type_decl_at table w ≡ first_type_decl ds w
 
 -- the table has the type of the first definition of each word
 abbrev pub HasDefinitions : {S : Type 0} → List (Decl ℕ Ref) → IndexMap (Bor (List ℕ)) (Bor (Ty ℕ)) S → Type 0

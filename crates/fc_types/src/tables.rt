@@ -7,7 +7,7 @@ ghost use Rattle.fc_syntax.specs.declared.ty.Ref.{Ref};
 ghost use Rattle.fc_model.specs.Typing.{first_of};
 ghost use Rattle.fc_types.specs.FirstDeclared.{Numbered, first_constructor, first_definition, first_type_decl, numbered_among};
 ghost use Rattle.fc_types.specs.Tables.{at};
-ghost use Rattle.fc_types.specs.TableViews.{HasConstructors, HasDefinitions, HasTypes, definition_at, numbered_at, type_at};
+ghost use Rattle.fc_types.specs.TableViews.{HasConstructors, HasDefinitions, HasTypes, definition_at, numbered_at, type_decl_at};
 
 use fc_syntax::{Memory, NConDecl, NDecl, NTy, Param, Seq, Text};
 use indexmap::IndexMap;
@@ -45,7 +45,7 @@ fn put_first<'a, V: Drop>(
 /// Puts a declaration in, where it is the first type of its word.
 #[tactic(auto, using(crate::proofs::FirstPuts::put_seen))]
 fn add_type<'a>(types: &mut IndexMap<&'a str, &'a NDecl>, decl: &'a NDecl) -> Result<(), Memory>
-    ensures { OnOk result ((w : Word) (rest : List (Decl ℕ Ref)) → first_of (type_at types.new w) (first_type_decl rest w) ≡ first_of (type_at types.old w) (first_type_decl (decl.now ∷ rest) w)) }
+    ensures { OnOk result ((w : Word) (rest : List (Decl ℕ Ref)) → first_of (type_decl_at types.new w) (first_type_decl rest w) ≡ first_of (type_decl_at types.old w) (first_type_decl (decl.now ∷ rest) w)) }
 {
     match decl {
         NDecl::DataType(word, _, _) => put_first(types, word.as_str(), decl),

@@ -1,5 +1,6 @@
 use Rattle.std.proofs.Common.{arith, rules, ◌≡◌, ℕ, ◌+◌, ◌∙◌, ◌∷◌, Err, ap, drop, if◌then◌else◌, length, subst, sym}
 use Rattle.fc_syntax.specs.View.{binds_of, expr_of, joins_of}
+use Rattle.fc_model.specs.DeclaredWords.{top_by}
 use Rattle.fc_model.specs.Faulting.{under}
 use Rattle.fc_model.specs.NamelessView.{nbinds_of, nexpr_of, njoins_of}
 use Rattle.fc_model.specs.Resolution.{Locals, bind_words, enter_joins, enter_values, join_words, no_word, resolved_binds, resolved_expr, resolved_joins}
@@ -8,7 +9,6 @@ use Rattle.fc_model.proofs.Lists.{drop_item}
 use Rattle.fc_scope.specs.Among.{among}
 use Rattle.fc_scope.specs.ScopeWords.{locals_of}
 use Rattle.fc_resolve.specs.Building.{with_binds, with_joins}
-use Rattle.fc_resolve.specs.DeclaredWords.{top_by}
 use Rattle.fc_resolve.proofs.GroupSteps.{bind_refused, join_refused}
 use Rattle.fc_resolve.proofs.InsideGroups.{as_many, joins_entered, values_entered}
 use Rattle.fc_resolve.proofs.+resolve.Goals as goal

@@ -1,11 +1,11 @@
 use Rattle.std.proofs.Common.{◌≡◌, drop, take}
 use Rattle.fc_syntax.specs.Hints.{alts_hints, args_hints, binds_hints, exprs_hints, joins_hints}
 use Rattle.fc_syntax.specs.View.{alts_of, args_of, binds_of, exprs_of, joins_of}
+use Rattle.fc_model.specs.DeclaredWords.{top_by}
 use Rattle.fc_model.specs.Resolution.{no_word, resolved_alts, resolved_args, resolved_binds, resolved_exprs, resolved_joins}
 use Rattle.fc_scope.specs.Among.{among}
 use Rattle.fc_scope.specs.ScopeWords.{locals_of}
 use Rattle.fc_resolve.specs.Building.{with_alts, with_args, with_binds, with_exprs, with_joins}
-use Rattle.fc_resolve.specs.DeclaredWords.{top_by}
 use Rattle.fc_resolve.proofs.+resolve.Given as goal
 
 -- what is resolved, with what is still to come, answers as the whole

@@ -1,11 +1,11 @@
 use Rattle.std.proofs.Common.{Ok, subst}
 use Rattle.fc_syntax.specs.View.{decls_of}
+use Rattle.fc_model.specs.DeclaredWords.{top_by}
 use Rattle.fc_model.specs.Faulting.{and_then}
 use Rattle.fc_model.specs.Nameless.{NModuleOf}
 use Rattle.fc_model.specs.NamelessView.{nmodule_of}
 use Rattle.fc_model.specs.Resolution.{Top, Words, no_words, resolved_decls}
 use Rattle.fc_model.specs.Says.{Says}
-use Rattle.fc_resolve.specs.DeclaredWords.{top_by}
 use Rattle.fc_resolve.proofs.resolve.Goals as goal
 
 pub returns-clause-form : goal.returns-clause-form

@@ -1,11 +1,11 @@
 use Rattle.std.proofs.Common.{take}
 use Rattle.fc_syntax.specs.View.{binders_of}
 use Rattle.fc_model.specs.NamelessView.{nbinders_of}
+use Rattle.fc_model.specs.DeclaredWords.{top_by, words_by_space}
 use Rattle.fc_scope.specs.ScopeWords.{locals_of, with_binders}
-use Rattle.fc_naming.specs.Known.{top_by, words_by}
 use Rattle.fc_naming.specs.Named.{TakeWords}
 use Rattle.fc_naming.proofs.binders.named_binders.Given as goal
 
 abbrev pub invariant-loop-binder : goal.invariant-loop-binder
 invariant-loop-binder l =
-    TakeWords (top_by l.top) (locals_of l.scope) (words_by l.fn.taken) (nbinders_of (take l.binder-index l.binders)) (binders_of l.out) (with_binders l.words (locals_of l.scope)) (words_by l.taken)
+    TakeWords (top_by l.top) (locals_of l.scope) (words_by_space l.fn.taken) (nbinders_of (take l.binder-index l.binders)) (binders_of l.out) (with_binders l.words (locals_of l.scope)) (words_by_space l.taken)

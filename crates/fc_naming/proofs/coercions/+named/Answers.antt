@@ -1,5 +1,6 @@
 use Rattle.std.proofs.Common.{arith, rules}
-use Rattle.fc_naming.proofs.NamedTypes.{each_all, each_start, each_step, named_cos}
+use Rattle.fc_naming.proofs.Each.{each_all, each_start, each_step}
+use Rattle.fc_naming.proofs.NamedTypes.{named_cos}
 use Rattle.fc_naming.proofs.coercions.+named.Goals as goal
 
 pub named_cos-loop-g-init : goal.named_cos-loop-g-init

@@ -1,10 +1,10 @@
 use Rattle.std.proofs.Common.{take}
 use Rattle.fc_syntax.specs.View.{con_of}
 use Rattle.fc_model.specs.NamelessView.{ncon_of}
+use Rattle.fc_model.specs.DeclaredWords.{top_by}
 use Rattle.fc_scope.specs.ScopeWords.{locals_of}
-use Rattle.fc_naming.specs.Known.{top_by}
-use Rattle.fc_naming.specs.Named.{AreEach}
 use Rattle.fc_naming.specs.Declarations.{IsNamedCon}
+use Rattle.fc_naming.proofs.Each.{AreEach}
 use Rattle.fc_naming.proofs.declarations.named_cons.Given as goal
 
 abbrev pub invariant-loop-con : goal.invariant-loop-con

@@ -1,5 +1,5 @@
 use Rattle.std.proofs.Common.{arith, rules}
-use Rattle.fc_naming.proofs.NamedTypes.{each_all, each_start, each_step}
+use Rattle.fc_naming.proofs.Each.{each_all, each_start, each_step}
 use Rattle.fc_naming.proofs.NamedDeclarations.{named_decls}
 use Rattle.fc_naming.proofs.declarations.named_decls.Goals as goal
 

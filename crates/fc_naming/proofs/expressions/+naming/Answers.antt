@@ -3,10 +3,10 @@ use Rattle.fc_syntax.specs.View.{binder_of, binds_of, joins_of}
 use Rattle.fc_syntax.proofs.View.{view_rules}
 use Rattle.fc_model.specs.Resolution.{bind_words, enter, join_words}
 use Rattle.fc_scope.specs.ScopeWords.{locals_of, with_binders, with_joins, with_values}
+use Rattle.fc_naming.proofs.Each.{each_all, each_start, each_step}
 use Rattle.fc_naming.proofs.NamedExpressions.{bind_words_step, expr_as, expr_in, join_words_step, literal_as, named_alts, named_args, named_binds, named_exprs, named_joins}
 use Rattle.fc_naming.proofs.Groups.{named_below, named_lambda}
 use Rattle.fc_naming.proofs.NamedGroups.{below_in, binds_else, binds_then, joins_else, joins_then}
-use Rattle.fc_naming.proofs.NamedTypes.{each_all, each_start, each_step}
 use Rattle.fc_naming.proofs.expressions.+naming.Goals as goal
 use Rattle.fc_naming.proofs.expressions.+naming.Goals.{let_binds-then-recursive+in_ok-binds, let_binds-else-recursive+in_ok-binds-2, join_members-then-recursive+in_ok-joins, join_members-else-recursive+in_ok-joins-2}
 

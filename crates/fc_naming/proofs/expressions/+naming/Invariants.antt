@@ -2,9 +2,10 @@ use Rattle.std.proofs.Common.{◌≡◌, take}
 use Rattle.fc_syntax.specs.View.{arg_of, binders_of, binds_of, expr_of, joins_of, ty_of}
 use Rattle.fc_model.specs.NamelessView.{narg_of, nbinders_of, nexpr_of, nty_of}
 use Rattle.fc_model.specs.Resolution.{bind_words, join_words}
+use Rattle.fc_model.specs.DeclaredWords.{top_by}
 use Rattle.fc_scope.specs.ScopeWords.{locals_of}
-use Rattle.fc_naming.specs.Known.{top_by}
-use Rattle.fc_naming.specs.Named.{AreEach, IsNamedArg, IsNamedBelow, IsNamedExpr, IsNamedHead, IsNamedTy}
+use Rattle.fc_naming.specs.Named.{IsNamedArg, IsNamedBelow, IsNamedExpr, IsNamedHead, IsNamedTy}
+use Rattle.fc_naming.proofs.Each.{AreEach}
 use Rattle.fc_naming.proofs.expressions.+naming.Given as goal
 
 abbrev pub invariant-named_args-loop-arg : goal.invariant-named_args-loop-arg

@@ -1,16 +1,17 @@
 use Rattle.std.proofs.Common.{refl}
+use Rattle.fc_model.specs.DeclaredWords.{words_by_space}
 use Rattle.fc_scope.specs.ScopeWords.{locals_of}
-use Rattle.fc_naming.specs.Known.{words_by}
 use Rattle.fc_naming.proofs.members.point_words.Goals as goal
 
 pub returns-clause-counted : goal.returns-clause-counted
 returns-clause-counted c = c.in_ok-group.ensures.counted
 
 pub returns-clause-around : goal.returns-clause-around
+unfolding words_by_space
 returns-clause-around c = record {
   items = c.args.joins.now;
   members = refl;
-  taken = words_by c.in_ok-taken.taken;
+  taken = words_by_space c.in_ok-taken.taken;
   distinct = c.in_ok-group.ensures.distinct;
   counted = c.in_ok-group.ensures.counted;
   joins = c.in_ok-group.ensures.joins (locals_of c.args.scope.now);

@@ -1,5 +1,6 @@
 use Rattle.std.proofs.Common.{rules}
-use Rattle.fc_naming.proofs.Collecting.{below_uses, binders_below, expr_below}
+use Rattle.fc_used_words.proofs.Collecting.{binders_below, expr_below}
+use Rattle.fc_naming.proofs.ScopeUses.{below_uses}
 use Rattle.fc_naming.proofs.taken.used_below.Goals as goal
 
 pub returns : goal.returns

@@ -1,5 +1,6 @@
 use Rattle.std.proofs.Common.{rules}
-use Rattle.fc_naming.proofs.Collecting.{expr_below, join_uses_alone, join_uses_group, joins_below}
+use Rattle.fc_used_words.proofs.Collecting.{expr_below, joins_below}
+use Rattle.fc_naming.proofs.ScopeUses.{join_uses_alone, join_uses_group}
 use Rattle.fc_naming.proofs.taken.used_in_join.Goals as goal
 use Rattle.fc_naming.proofs.taken.used_in_join.Goals.{then-recursive+in_ok-use_joins, else-recursive}
 

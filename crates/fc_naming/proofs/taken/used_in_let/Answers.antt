@@ -1,5 +1,6 @@
 use Rattle.std.proofs.Common.{rules}
-use Rattle.fc_naming.proofs.Collecting.{expr_below, let_uses_alone, let_uses_group, binds_below}
+use Rattle.fc_used_words.proofs.Collecting.{expr_below, binds_below}
+use Rattle.fc_naming.proofs.ScopeUses.{let_uses_alone, let_uses_group}
 use Rattle.fc_naming.proofs.taken.used_in_let.Goals as goal
 use Rattle.fc_naming.proofs.taken.used_in_let.Goals.{then-recursive+in_ok-use_binds, else-recursive}
 

@@ -1,5 +1,6 @@
 use Rattle.std.proofs.Common.{arith, rules}
-use Rattle.fc_naming.proofs.NamedTypes.{each_all, each_start, each_step, named_tys}
+use Rattle.fc_naming.proofs.Each.{each_all, each_start, each_step}
+use Rattle.fc_naming.proofs.NamedTypes.{named_tys}
 use Rattle.fc_naming.proofs.types.named_tys.Goals as goal
 
 pub loop-t-init : goal.loop-t-init

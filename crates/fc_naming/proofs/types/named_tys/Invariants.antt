@@ -1,9 +1,10 @@
 use Rattle.std.proofs.Common.{take}
 use Rattle.fc_syntax.specs.View.{ty_of}
 use Rattle.fc_model.specs.NamelessView.{nty_of}
+use Rattle.fc_model.specs.DeclaredWords.{top_by}
 use Rattle.fc_scope.specs.ScopeWords.{locals_of}
-use Rattle.fc_naming.specs.Known.{top_by}
-use Rattle.fc_naming.specs.Named.{AreEach, IsNamedTy}
+use Rattle.fc_naming.specs.Named.{IsNamedTy}
+use Rattle.fc_naming.proofs.Each.{AreEach}
 use Rattle.fc_naming.proofs.types.named_tys.Given as goal
 
 abbrev pub invariant-loop-t : goal.invariant-loop-t

@@ -1,17 +1,18 @@
 use Rattle.std.proofs.Common.{arith, ◌≡◌, ◌+◌, ◌∷◌, Ok, drop, sym, ap, ◌∙◌}
 use Rattle.std.proofs.lemmas.List.{drop_all}
 use Rattle.fc_syntax.specs.View.{con_of, cons_of}
+use Rattle.fc_model.specs.DeclaredWords.{top_by}
+use Rattle.fc_model.specs.Declaring.{con_words}
 use Rattle.fc_model.specs.NamelessView.{ncon_of}
-use Rattle.fc_model.specs.Resolution.{con_words, plus_all, resolved_cons}
+use Rattle.fc_model.specs.Resolution.{plus_all, resolved_cons}
 use Rattle.fc_model.specs.WordSets.{set_of}
 use Rattle.fc_model.specs.Worded.{bare_con}
 use Rattle.fc_model.proofs.Lists.{drop_item}
 use Rattle.fc_scope.specs.ScopeWords.{locals_of}
-use Rattle.fc_resolve.specs.Building.{with_items}
-use Rattle.fc_resolve.specs.DeclaredWords.{top_by}
-use Rattle.fc_resolve.proofs.Building.{with_items_end}
+use Rattle.fc_resolve_parts.specs.Building.{with_items}
+use Rattle.fc_resolve_parts.proofs.Building.{with_items_end}
+use Rattle.fc_resolve_parts.proofs.ListSteps.{map_twice}
 use Rattle.fc_resolve.proofs.GroupSteps.{constructor_more}
-use Rattle.fc_resolve.proofs.ListSteps.{map_twice}
 use Rattle.fc_resolve.proofs.WordSteps.{cons_keep}
 use Rattle.fc_resolve.proofs.constructors.constructors.Goals as goal
 

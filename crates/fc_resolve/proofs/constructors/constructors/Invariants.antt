@@ -1,12 +1,13 @@
 use Rattle.std.proofs.Common.{◌≡◌, drop, flat_map, take}
 use Rattle.fc_syntax.specs.Hints as kept
 use Rattle.fc_syntax.specs.View.{cons_of}
+use Rattle.fc_model.specs.DeclaredWords.{top_by}
+use Rattle.fc_model.specs.Declaring.{con_words}
 use Rattle.fc_model.specs.NamelessView.{ncon_of}
-use Rattle.fc_model.specs.Resolution.{con_words, plus_all, resolved_cons}
+use Rattle.fc_model.specs.Resolution.{plus_all, resolved_cons}
 use Rattle.fc_model.specs.WordSets.{set_of}
 use Rattle.fc_scope.specs.ScopeWords.{locals_of}
-use Rattle.fc_resolve.specs.Building.{with_items}
-use Rattle.fc_resolve.specs.DeclaredWords.{top_by}
+use Rattle.fc_resolve_parts.specs.Building.{with_items}
 use Rattle.fc_resolve.proofs.constructors.constructors.Given as goal
 
 -- what is resolved, with what is still to come, answers as the whole, and leaves the words of the whole

@@ -1,15 +1,15 @@
 use Rattle.std.proofs.Common.{arith, ◌≡◌, ◌+◌, ◌∷◌, Ok, drop, ap, ◌∙◌}
 use Rattle.std.proofs.lemmas.List.{drop_all}
 use Rattle.fc_syntax.specs.View.{decl_of, decls_of}
+use Rattle.fc_model.specs.DeclaredWords.{top_by, words_by_space}
 use Rattle.fc_model.specs.NamelessView.{ndecl_of}
 use Rattle.fc_model.specs.Resolution.{resolved_decls}
 use Rattle.fc_model.specs.Worded.{bare_decl}
 use Rattle.fc_model.proofs.Lists.{drop_item}
-use Rattle.fc_resolve.specs.Building.{with_items}
-use Rattle.fc_resolve.specs.DeclaredWords.{top_by, words_by_space}
-use Rattle.fc_resolve.proofs.Building.{with_items_end}
+use Rattle.fc_resolve_parts.specs.Building.{with_items}
+use Rattle.fc_resolve_parts.proofs.Building.{with_items_end}
+use Rattle.fc_resolve_parts.proofs.ListSteps.{map_twice}
 use Rattle.fc_resolve.proofs.GroupSteps.{declaration_more}
-use Rattle.fc_resolve.proofs.ListSteps.{map_twice}
 use Rattle.fc_resolve.proofs.WordSteps.{decls_keep}
 use Rattle.fc_resolve.proofs.declarations.resolved_decls.Goals as goal
 

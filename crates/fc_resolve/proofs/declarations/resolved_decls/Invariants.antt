@@ -1,10 +1,10 @@
 use Rattle.std.proofs.Common.{◌≡◌, drop, take}
 use Rattle.fc_syntax.specs.Hints.{decls_hints}
 use Rattle.fc_syntax.specs.View.{decls_of}
+use Rattle.fc_model.specs.DeclaredWords.{top_by, words_by_space}
 use Rattle.fc_model.specs.NamelessView.{ndecl_of}
 use Rattle.fc_model.specs.Resolution.{resolved_decls}
-use Rattle.fc_resolve.specs.Building.{with_items}
-use Rattle.fc_resolve.specs.DeclaredWords.{top_by, words_by_space}
+use Rattle.fc_resolve_parts.specs.Building.{with_items}
 use Rattle.fc_resolve.proofs.declarations.resolved_decls.Given as goal
 
 -- what is resolved, with what is still to come, answers as the whole

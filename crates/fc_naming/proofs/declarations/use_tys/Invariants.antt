@@ -1,9 +1,0 @@
-use Rattle.std.proofs.Common.{take}
-use Rattle.fc_model.specs.NamelessView.{ntys_of}
-use Rattle.fc_scope.specs.ScopeWords.{locals_of}
-use Rattle.fc_naming.specs.Known.{counts_of, words_by}
-use Rattle.fc_naming.specs.Used.{AddsTys}
-use Rattle.fc_naming.proofs.declarations.use_tys.Given as goal
-
-abbrev pub invariant-loop-t : goal.invariant-loop-t
-invariant-loop-t l = AddsTys l.own (locals_of l.scope) (counts_of l.inside) (ntys_of (take l.t-index l.types)) (words_by l.fn.used) (words_by l.used)

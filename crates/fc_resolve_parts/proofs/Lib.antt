@@ -1,0 +1,4 @@
+pub mod Building
+pub mod ListSteps
+mod ParamWords
+pub mod WordSteps

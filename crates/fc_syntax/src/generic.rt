@@ -1,0 +1,3 @@
+//! The types of both trees, for what is written once for the named and the nameless one: `L` is what a variable of a type is, `V` what
+//! a variable of a term is.
+pub use crate::module::{ConDecl, Decl, Module};

@@ -1,0 +1,4 @@
+pub mod Around
+pub mod Scoped
+pub mod Standing
+pub mod Used
