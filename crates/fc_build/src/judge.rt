@@ -113,14 +113,16 @@ fn judge_module(alloc: Global, m: Module) -> Judged
     }
 }
 
-/// Judges the bytes of a file.
-fn judge_bytes(alloc: Global, file: &str, bytes: &[u8]) -> Judged
-    requires { length bytes.now ≤ MOST }
-    ensures answer { JudgesBytes file.now bytes.now result }
+/// Judges the bytes of a file, whose memory is given back as soon as they are read.
+fn judge_bytes(alloc: Global, file: &str, bytes: Vec<u8>) -> Judged
+    requires { length bytes.items ≤ MOST }
+    ensures answer { JudgesBytes file.now bytes.items result }
     ensures ready { IsReadyAnswer result }
     ensures nameless { HasNameless result }
 {
-    match read_module(alloc, file, bytes) {
+    let read = read_module(alloc, file, &bytes);
+    drop(bytes);
+    match read {
         Ok(m) => judge_module(alloc, m),
         Err(Refusal::Fault(fault)) => Judged::Refused(fault),
         Err(Refusal::Memory) => Judged::Memory,
@@ -138,7 +140,7 @@ fn judge_file<F: Files>(alloc: Global, files: &mut F, file: &str) -> Judged
     ensures nameless { HasNameless result }
 {
     match files.read(alloc, file, MOST) {
-        ReadAnswer::Ok(bytes) => judge_bytes(alloc, file, &bytes),
+        ReadAnswer::Ok(bytes) => judge_bytes(alloc, file, bytes),
         ReadAnswer::Absent => refused(of_file(alloc, FaultKind::Missing, file, Place::Nowhere)),
         ReadAnswer::TooLong => {
             let limit = Place::Byte(MOST as u32);

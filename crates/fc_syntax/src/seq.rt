@@ -8,6 +8,10 @@ use crate::fault::Memory;
 use std::alloc::Global;
 use std::marker::Model;
 
+/// Up to this many items a list takes no more memory than they need. Most lists of a tree are that short, and a vector that grows by
+/// itself begins with room for four.
+const FEW: usize = 2;
+
 /// A growing list. Contracts see the list of its items, and no allocator or capacity. A tree may hold a `Seq` of itself.
 #[derive(Debug)]
 pub struct Seq<T> {
@@ -95,6 +99,9 @@ impl<T: Drop> Seq<T> {
         ensures ok { OnOk result (self.new ≡ self.old ++ item ∷ []) }
         ensures err { OnErr result (self.new ≡ self.old) }
     {
+        if self.items.len() < FEW {
+            self.items.reserve_exact(1)?;
+        }
         self.items.push(item)?;
         Ok(())
     }
