@@ -1,16 +1,17 @@
 #!/usr/bin/env python3
-"""Builds modules of growing size with the program `coreopt`, and prints for each the seconds, the bytes a second and the peak
-memory. There are five kinds of modules: constants that give a constructor two names of other definitions; functions whose bodies
+"""Lints and builds modules of growing size with the program `coreopt`, and prints for each the seconds, the bytes a second of both and
+the peak memory of a build; the seconds are those of the processor, the least of five runs. There are five kinds of modules: constants that give a constructor two names of other definitions; functions whose bodies
 are lets and applications, a hundred deep; small functions that call others; functions by case; and one alternative of many binders, the
 outermost of which is used many times, which is refused for the number of its binders when all of it was judged. Run it from anywhere, on a
-machine where the program is built (`./coreopt build examples/Shapes.fc`)."""
+machine where the program is built (`./coreopt build examples/Shapes.fc`), or with another program as its only word."""
 import os
 import subprocess
 import sys
 import tempfile
 
 TOP = os.path.dirname(os.path.dirname(os.path.abspath(__file__)))
-PROGRAM = os.path.join(TOP, "crates", "coreopt", "out", "coreopt")
+PROGRAM = os.path.abspath(sys.argv[1]) if len(sys.argv) > 1 else os.path.join(TOP, "crates", "coreopt", "out", "coreopt")
+RUNS = 5
 DEEP = 100
 
 
@@ -72,32 +73,41 @@ def module(kind, count):
     return "\n".join(lines) + ")\n"
 
 
-def peak_of(folder):
-    """Runs the program in a child of its own, so that its peak memory is told alone."""
+def run(folder, command):
+    """Runs the program in a child of its own, so that its seconds and its peak memory are told alone."""
     code = (
-        "import resource, subprocess, sys, time;"
-        "start = time.monotonic();"
-        "status = subprocess.run([sys.argv[1], 'build', 'B.fc'], stdout=subprocess.DEVNULL, stderr=subprocess.DEVNULL).returncode;"
-        "print(status, time.monotonic() - start, resource.getrusage(resource.RUSAGE_CHILDREN).ru_maxrss)"
+        "import resource, subprocess, sys;"
+        "status = subprocess.run([sys.argv[1], sys.argv[2], 'B.fc'], stdout=subprocess.DEVNULL, stderr=subprocess.DEVNULL).returncode;"
+        "used = resource.getrusage(resource.RUSAGE_CHILDREN);"
+        "print(status, used.ru_utime + used.ru_stime, used.ru_maxrss)"
     )
-    said = subprocess.run([sys.executable, "-c", code, PROGRAM], cwd=folder, capture_output=True, text=True, check=True).stdout.split()
+    said = subprocess.run([sys.executable, "-c", code, PROGRAM, command], cwd=folder, capture_output=True, text=True, check=True).stdout.split()
     return int(said[0]), float(said[1]), int(said[2])
+
+
+def best(folder, command, wanted):
+    """The least seconds of some runs, and the peak memory in kilobytes."""
+    runs = [run(folder, command) for _ in range(RUNS)]
+    for status, _, _ in runs:
+        if status != wanted:
+            sys.exit(f"{command}: status {status}")
+    return min(seconds for _, seconds, _ in runs), runs[0][2]
 
 
 def main():
     if not os.access(PROGRAM, os.X_OK):
         sys.exit("the program is not built")
-    print("kind  bytes  definitions or binders  seconds  bytes/second  peak MB")
+    print("kind  bytes  definitions or binders  lint: seconds  bytes/second  build: seconds  bytes/second  peak MB")
     for name, kind, counts, wanted in KINDS:
         for count in counts:
             with tempfile.TemporaryDirectory() as folder:
                 text = module(kind, count)
                 with open(os.path.join(folder, "B.fc"), "w", encoding="ascii") as file:
                     file.write(text)
-                status, seconds, kilobytes = peak_of(folder)
-                if status != wanted:
-                    sys.exit(f"{name}, {count}: status {status}")
-                print(f"{name}  {len(text)}  {count}  {seconds:.2f}  {len(text) / seconds:.0f}  {kilobytes / 1024:.0f}")
+                lint, _ = best(folder, "lint", wanted)
+                build, kilobytes = best(folder, "build", wanted)
+                rates = f"{lint:.2f}  {len(text) / lint:.0f}  {build:.2f}  {len(text) / build:.0f}"
+                print(f"{name}  {len(text)}  {count}  {rates}  {kilobytes / 1024:.0f}")
 
 
 if __name__ == "__main__":

@@ -3,11 +3,11 @@ use Rattle.std.proofs.Common.{◌≡◌, ◌⊎◌, ◌∙◌, ◌∷◌, ℕ, L
 use Rattle.fc_files.specs.Outside.{FileMap, Rose, Told}
 use Rattle.fc_syntax.specs.Tree.{Module, ModuleOf}
 use Rattle.fc_syntax.specs.declared.fault.Fault.{Fault}
-use Rattle.fc_model.specs.Acceptance.{Accepted, FaultOfBytes, FaultOfEntry, FirstFault, too_long, unread, unlinted}
+use Rattle.fc_model.specs.Acceptance.{Accepted, FaultOfBytes, FaultOfEntry, FaultOfModule, FirstFault, as_whole, faulty, too_long, unlinted, unread, whole_fault}
 use Rattle.fc_model.specs.Headers.{written_of}
 use Rattle.fc_model.specs.Linting.{Lints}
 use Rattle.fc_model.specs.ReadFaults.{ReadsTo}
-use Rattle.fc_model.proofs.UnderHeader.{written_is_built, written_is_formed, written_lints}
+use Rattle.fc_model.proofs.UnderHeader.{written_is_formed, written_lints}
 use Rattle.fc_printer.proofs.ReadBack.{canonical_spells}
 use Rattle.fc_reader.proofs.Laws.{no_module, one_module}
 use Rattle.fc_words.specs.Asking.{Asked, Order, Building, Linting, asked}
@@ -29,18 +29,20 @@ use Rattle.fc_build.specs.declared.prepare.Stop.TheVariants as stop
 
 -- A SET WITH A FAULT IS NOT ACCEPTED
 
-not_in_bytes : (file bytes : List ℕ) (f : Fault) (n : Module) → FaultOfBytes file bytes f → ReadsTo bytes n → Lints n → ⊥
-not_in_bytes file bytes f n (too_long over is) reads lints = omega (arith, over, reads.short)
-not_in_bytes file bytes f n (unread fault short first is) reads lints = no_module bytes fault n first reads
-not_in_bytes file bytes f n (unlinted m k def path read fails is) reads lints =
+not_in_module : (file : List ℕ) (m : Module) (f : Fault) → FaultOfModule file m f → whole_fault file m ≡ None → Lints m → ⊥
+not_in_module file m f (as_whole is) none lints = let clash : _ ≡ _ = sym none ∙ is in cc
+not_in_module file m f (unlinted k def path none' fails is) none lints = let clash : _ ≡ _ = sym lints ∙ fails in cc
+
+not_in_bytes : (file bytes : List ℕ) (f : Fault) (n : Module) → FaultOfBytes file bytes f → ReadsTo bytes n → whole_fault file n ≡ None → Lints n → ⊥
+not_in_bytes file bytes f n (too_long over is) reads none lints = omega (arith, over, reads.short)
+not_in_bytes file bytes f n (unread fault short first is) reads none lints = no_module bytes fault n first reads
+not_in_bytes file bytes f n (faulty m read fault) reads none lints =
     let same : m ≡ n = one_module bytes m n read.spelled reads.spelled in
-    let holds : Lints m = subst Lints (sym same) lints in
-    let clash : _ ≡ _ = sym holds ∙ fails in
-    cc
+    not_in_module file m f fault (subst (λ k. whole_fault file k ≡ None) (sym same) none) (subst Lints (sym same) lints)
 
 not_in_entry : (file : List ℕ) (entry : Option (List ℕ)) (f : Fault) (n : Module) → FaultOfEntry file entry f → Accepted (file ∷ []) (λ _. entry) n → ⊥
 not_in_entry file None f n fault accepted = accepted
-not_in_entry file (Some bytes) f n fault accepted = not_in_bytes file bytes f n fault accepted.0 accepted.1
+not_in_entry file (Some bytes) f n fault accepted = not_in_bytes file bytes f n fault accepted.0 accepted.1 accepted.2
 
 exclusive : (files : List (List ℕ)) (m : FileMap) (f : Fault) (n : Module) → FirstFault files m f → Accepted files m n → ⊥
 exclusive [] m f n fault accepted = accepted
@@ -85,7 +87,7 @@ faithful : (m : Module) → IsReady m → IsFaithful m
 faithful (ModuleOf m imports exports hidden ds) ready =
     let read = ModuleOf m imports exports hidden ds in
     record {
-      spells = canonical_spells (written_of read) (written_is_built read ready.built) (written_is_formed read ready.formed);
+      spells = canonical_spells (written_of read) (written_is_formed read ready.formed);
       lints = written_lints read ready.lints;
       name = refl;
       exports = refl;

@@ -1,37 +1,34 @@
 -- What the judge of a list of files answers.
-use Rattle.std.specs.Prelude.{◌≡◌, ℕ, ⊤, List, Option, IsSomeAnd, Ok, Err}
+use Rattle.std.specs.Prelude.{◌≡◌, ℕ, ⊤, List, Option, None, IsSomeAnd, Ok}
 use Rattle.fc_files.specs.Outside.{FileMap}
 use Rattle.fc_syntax.specs.View.{module_of}
-use Rattle.fc_syntax.specs.Tree.{Word, Module}
-use Rattle.fc_model.specs.Acceptance.{Accepted, FaultOfBytes, FaultOfEntry, FirstFault, of_module}
-use Rattle.fc_syntax.specs.declared.fault.FaultKind.{FaultKind}
-use Rattle.fc_model.specs.Faulting.{At}
+use Rattle.fc_syntax.specs.Tree.{Module}
+use Rattle.fc_model.specs.Acceptance.{Accepted, FaultOfBytes, FaultOfEntry, FaultOfModule, FirstFault, whole_fault}
 use Rattle.fc_model.specs.ReadFaults.{ReadsTo}
-use Rattle.fc_model.specs.Canonical.{IsBuilt, IsFormed}
-use Rattle.fc_model.specs.Linting.{Lints, module_lint}
+use Rattle.fc_model.specs.Formed.{IsFormed}
+use Rattle.fc_model.specs.Linting.{Lints}
 use Rattle.fc_model.specs.NamelessView.{nmodule_of}
 use Rattle.fc_model.specs.Resolution.{resolved_or_fault}
 use Rattle.fc_build.specs.declared.judge.Judged.{Judged}
 use Rattle.fc_build.specs.declared.judge.Judged.TheVariants as judged
 
 -- what the answer says of a module
-abbrev pub JudgesModule : Module → Judged → Type 0
-JudgesModule m (judged.Accepted n nameless) = (module_of n ≡ m) × Lints m
-JudgesModule m (judged.Refused f) =
-    (k : FaultKind) × (def : Option Word) × (path : List ℕ) × (module_lint m ≡ Err (At k def path)) × (f ≡ of_module m k def path)
-JudgesModule m judged.ReadFault = ⊥
-JudgesModule m judged.Memory = ⊤
+abbrev pub JudgesModule : List ℕ → Module → Judged → Type 0
+JudgesModule file m (judged.Accepted n nameless) = (module_of n ≡ m) × (whole_fault file m ≡ None) × Lints m
+JudgesModule file m (judged.Refused f) = FaultOfModule file m f
+JudgesModule file m judged.ReadFault = ⊥
+JudgesModule file m judged.Memory = ⊤
 
 -- of the bytes of a file
 abbrev pub JudgesBytes : List ℕ → List ℕ → Judged → Type 0
-JudgesBytes file bytes (judged.Accepted m nameless) = ReadsTo bytes (module_of m) × Lints (module_of m)
+JudgesBytes file bytes (judged.Accepted m nameless) = ReadsTo bytes (module_of m) × (whole_fault file (module_of m) ≡ None) × Lints (module_of m)
 JudgesBytes file bytes (judged.Refused f) = FaultOfBytes file bytes f
 JudgesBytes file bytes judged.ReadFault = ⊥
 JudgesBytes file bytes judged.Memory = ⊤
 
 -- of what the name of a file holds
 abbrev pub JudgesEntry : List ℕ → Option (List ℕ) → Judged → Type 0
-JudgesEntry file entry (judged.Accepted m nameless) = IsSomeAnd entry (λ bytes. ReadsTo bytes (module_of m) × Lints (module_of m))
+JudgesEntry file entry (judged.Accepted m nameless) = IsSomeAnd entry (λ bytes. ReadsTo bytes (module_of m) × (whole_fault file (module_of m) ≡ None) × Lints (module_of m))
 JudgesEntry file entry (judged.Refused f) = FaultOfEntry file entry f
 JudgesEntry file entry judged.ReadFault = ⊤
 JudgesEntry file entry judged.Memory = ⊤
@@ -43,9 +40,8 @@ Judges files held (judged.Refused f) = FirstFault files held f
 Judges files held judged.ReadFault = ⊤
 Judges files held judged.Memory = ⊤
 
--- the module has the forms that are built, words of their forms, and lints
+-- the module has words of their forms, and lints
 pub record IsReady (m : Module) : Type 0 where
-  pub built : IsBuilt m
   pub formed : IsFormed m
   pub lints : Lints m
 

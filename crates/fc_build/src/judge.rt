@@ -1,21 +1,25 @@
 //! Reads the files of a set and judges them.
-ghost use Rattle.std.specs.Prelude.{◌≡◌, ◌≤◌, ◌∷◌, [], Ok, IfOk, IfErr, IfSome, length, map, reverse};
+ghost use Rattle.std.specs.Prelude.{◌≡◌, ◌≤◌, ◌∷◌, [], not, Ok, IfOk, IfErr, IfSome, length, map, reverse};
+ghost use Rattle.std.specs.List.{list_any};
+ghost use Rattle.std.specs.Str.{bytes_eq};
 ghost use Rattle.fc_files.specs.Outside.{Rose};
+ghost use Rattle.fc_syntax.specs.Limits.{standard_limits};
 ghost use Rattle.fc_syntax.specs.View.{module_of};
-ghost use Rattle.fc_model.specs.Acceptance.{of_file as fault_of_file, of_module as fault_of_module};
-ghost use Rattle.fc_model.specs.Canonical.{IsBuilt};
+ghost use Rattle.fc_model.specs.Acceptance.{of_file as fault_of_file, of_module as fault_of_module, plan_fault as spec_plan_fault};
+ghost use Rattle.fc_model.specs.Formed.{IsFormed};
 ghost use Rattle.fc_model.specs.Linting.{done, module_lint};
 ghost use Rattle.fc_model.specs.NamelessView.{nmodule_of};
 ghost use Rattle.fc_model.specs.Resolution.{resolved_or_fault};
 ghost use Rattle.fc_model.specs.Says.{Says};
 ghost use Rattle.fc_build.specs.Judging.{HasNameless, IsReadyAnswer, Judges, JudgesBytes, JudgesEntry, JudgesModule};
 
-use fc_files::{Files, MOST, ReadAnswer};
+use fc_files::{Files, ReadAnswer};
+use fc_forms::is_supported;
 use fc_lint_set::lint_module;
 use fc_model::{Flaw, Flawed};
 use fc_reader::read_module;
 use fc_resolve::resolve;
-use fc_syntax::{Fault, FaultKind, Memory, Module, NModule, Place, Refusal, Seq, Text};
+use fc_syntax::{Fault, FaultKind, Limits, Memory, Module, NModule, Place, Refusal, Seq, Text};
 use std::alloc::Global;
 
 /// What the files of a set are.
@@ -78,7 +82,7 @@ fn of_module(alloc: Global, m: &Module, flaw: Flaw) -> Result<Fault, Memory>
     })
 }
 
-/// The answer for a fault, or for want of memory to tell it.
+/// The answer for a fault, or where no memory is left to tell it.
 fn refused(fault: Result<Fault, Memory>) -> Judged
     ensures told { IfOk fault (λ f. result ≡ Judged.Refused f) }
     ensures untold { IfErr fault (λ _. result ≡ Judged.Memory) }
@@ -91,7 +95,6 @@ fn refused(fault: Result<Fault, Memory>) -> Judged
 
 /// The nameless form of a module, if every premise of names, declarations and types holds of it, or the first that fails.
 fn lint(alloc: Global, m: &Module) -> Result<NModule, Flawed>
-    requires { IsBuilt (module_of m.now) }
     ensures lints { Says (λ _. done) result (module_lint (module_of m.now)) }
     ensures nameless { IfOk result (λ n. resolved_or_fault (module_of m.now) ≡ Ok (nmodule_of n)) }
 {
@@ -100,12 +103,45 @@ fn lint(alloc: Global, m: &Module) -> Result<NModule, Flawed>
     Ok(nameless)
 }
 
-/// Judges a module that was read.
-fn judge_module(alloc: Global, m: Module) -> Judged
-    requires { IsBuilt (module_of m) }
-    ensures judged { JudgesModule (module_of m) result }
+/// Whether a module imports another than itself.
+fn imports_another(m: &Module) -> bool
+    ensures { result ≡ list_any (λ w. not (bytes_eq w m.now.name)) m.now.imports }
+{
+    for import in m.imports.as_slice() {
+        if import.as_str() != m.name.as_str() {
+            return true;
+        }
+    }
+    false
+}
+
+/// What is wrong with the imports of a module: a set has one module so far, so that another is not in it, and a module that imports itself
+/// waits for itself.
+fn plan_fault(m: &Module) -> Option<FaultKind>
+    ensures { result ≡ spec_plan_fault (module_of m.now) }
+{
+    if m.imports.is_empty() {
+        return None;
+    }
+    if imports_another(m) {
+        return Some(FaultKind::ImportUnknown);
+    }
+    Some(FaultKind::ImportCycle)
+}
+
+/// Judges a module that was read: its imports, its forms, and then every premise of Lint.
+fn judge_module(alloc: Global, file: &str, m: Module) -> Judged
+    requires { IsFormed (module_of m) }
+    ensures judged { JudgesModule file.now (module_of m) result }
+    ensures ready { IsReadyAnswer result }
     ensures nameless { HasNameless result }
 {
+    if let Some(kind) = plan_fault(&m) {
+        return refused(of_file(alloc, kind, m.name.as_str(), Place::Nowhere));
+    }
+    if !is_supported(&m) {
+        return refused(of_file(alloc, FaultKind::BadForm, file, Place::Nowhere));
+    }
     match lint(alloc, &m) {
         Ok(nameless) => Judged::Accepted(m, nameless),
         Err(Flawed::Flaw(flaw)) => refused(of_module(alloc, &m, flaw)),
@@ -115,7 +151,7 @@ fn judge_module(alloc: Global, m: Module) -> Judged
 
 /// Judges the bytes of a file, whose memory is given back as soon as they are read.
 fn judge_bytes(alloc: Global, file: &str, bytes: Vec<u8>) -> Judged
-    requires { length bytes.items ≤ MOST }
+    requires { length bytes.items ≤ standard_limits.file_bytes }
     ensures answer { JudgesBytes file.now bytes.items result }
     ensures ready { IsReadyAnswer result }
     ensures nameless { HasNameless result }
@@ -123,7 +159,7 @@ fn judge_bytes(alloc: Global, file: &str, bytes: Vec<u8>) -> Judged
     let read = read_module(alloc, file, &bytes);
     drop(bytes);
     match read {
-        Ok(m) => judge_module(alloc, m),
+        Ok(m) => judge_module(alloc, file, m),
         Err(Refusal::Fault(fault)) => Judged::Refused(fault),
         Err(Refusal::Memory) => Judged::Memory,
     }
@@ -139,12 +175,12 @@ fn judge_file<F: Files>(alloc: Global, files: &mut F, file: &str) -> Judged
     ensures ready { IsReadyAnswer result }
     ensures nameless { HasNameless result }
 {
-    match files.read(alloc, file, MOST) {
+    let most = Limits::standard().file_bytes;
+    match files.read(alloc, file, most as u64) {
         ReadAnswer::Ok(bytes) => judge_bytes(alloc, file, bytes),
         ReadAnswer::Absent => refused(of_file(alloc, FaultKind::Missing, file, Place::Nowhere)),
         ReadAnswer::TooLong => {
-            let limit = Place::Byte(MOST as u32);
-            refused(of_file(alloc, FaultKind::TooLong, file, limit))
+            refused(of_file(alloc, FaultKind::TooLong, file, Place::Byte(most)))
         }
         ReadAnswer::Failed => Judged::ReadFault,
         ReadAnswer::Memory => Judged::Memory,

@@ -24,7 +24,7 @@ pub enum Stop<'a> {
     Memory,
 }
 
-/// The stop at a fault, or for want of memory to tell it.
+/// The stop at a fault, or where no memory is left to tell it.
 fn stop_at<'a>(alloc: Global, fault: &Fault) -> Stop<'a>
     ensures { StopsAtFault fault.now result }
 {

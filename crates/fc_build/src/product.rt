@@ -1,7 +1,6 @@
 //! Makes the files of a module, and writes them.
 ghost use Rattle.std.specs.Prelude.{◌≡◌, ◌≤◌, ◌++◌, ◌∷◌, [], IfOk, string_bytes};
 ghost use Rattle.fc_syntax.specs.View.{module_of};
-ghost use Rattle.fc_model.specs.Canonical.{IsBuilt};
 ghost use Rattle.fc_model.specs.Headers.{written_of};
 ghost use Rattle.fc_words.specs.Asking.{order_of};
 ghost use Rattle.fc_build.specs.Delivering.{IsSameDevice, WritesAll};
@@ -55,7 +54,6 @@ fn file_name(alloc: Global, prefix: &str, name: &str, ending: &str) -> Result<St
 
 /// The canonical text of a module, under its name.
 fn core_file(alloc: Global, prefix: &str, m: &Module) -> Result<File, Memory>
-    requires { IsBuilt (module_of m.now) }
     ensures { IfOk result (λ f. output_of f ≡ core_output prefix.now (module_of m.now)) }
 {
     let name = file_name(alloc, prefix, m.name.as_str(), ".opt.fc")?;
@@ -65,7 +63,6 @@ fn core_file(alloc: Global, prefix: &str, m: &Module) -> Result<File, Memory>
 
 /// The interface of a module, under its name.
 fn interface_file(alloc: Global, prefix: &str, m: &Module) -> Result<File, Memory>
-    requires { IsBuilt (module_of m.now) }
     ensures { IfOk result (λ f. output_of f ≡ interface_output prefix.now (module_of m.now)) }
 {
     let name = file_name(alloc, prefix, m.name.as_str(), ".fci")?;
@@ -74,9 +71,7 @@ fn interface_file(alloc: Global, prefix: &str, m: &Module) -> Result<File, Memor
 }
 
 /// The files of a module under the written header, in the order in which they are written.
-#[tactic(auto, using(fc_model::proofs::UnderHeader::written_is_built))]
 fn files_of(alloc: Global, prefix: &str, m: Module) -> Result<Vec<File>, Memory>
-    requires { IsBuilt (module_of m) }
     ensures { IfOk result (λ files. outputs files.items ≡ core_output prefix.now (written_of (module_of m)) ∷ interface_output prefix.now (written_of (module_of m)) ∷ []) }
 {
     let whole = written(alloc, m)?;
@@ -103,7 +98,6 @@ pub(crate) fn product_of(
     m: Module,
     nameless: NModule,
 ) -> Result<Product, Memory>
-    requires { IsBuilt (module_of m) }
     ensures files { IfOk result (λ p. outputs p.list.items ≡ outputs_of (order_of command.entry) (module_of m)) }
     ensures line { IfOk result (λ p. p.line.items ≡ done_line (order_of command.entry) (module_of m)) }
 {

@@ -2,10 +2,11 @@
 ghost use Rattle.std.specs.Prelude.{None};
 
 mod failures;
-mod want_of_memory;
+mod out_of_memory;
 
 use fc_build::run;
-use fc_files::{Files, MOST, MemFiles, MemSink, ReadAnswer, WriteAnswer, has_distinct_names};
+use fc_files::{Files, MemFiles, MemSink, ReadAnswer, WriteAnswer, has_distinct_names};
+use fc_syntax::Limits;
 use std::alloc::Global;
 use std::process::Abort;
 use std::test::Fail;
@@ -135,7 +136,8 @@ fn each_status_has_its_line(rt: HostRuntime) -> Result<(), Fail> {
 
 /// Whether a name holds these bytes after a run, or nothing where none are given. Fails where that cannot be read.
 fn holds(alloc: Global, ran: &mut Ran, name: &str, bytes: Option<&[u8]>) -> Result<bool, Fail> {
-    match ran.files.read(alloc, name, MOST) {
+    let most = Limits::standard().file_bytes as u64;
+    match ran.files.read(alloc, name, most) {
         ReadAnswer::Ok(found) => match bytes {
             Some(bytes) => Ok(found.as_slice() == bytes),
             None => Ok(false),
@@ -163,11 +165,9 @@ fn a_fault_of_form_stands_at_the_first_token_that_cannot_go_on(
     rt: HostRuntime,
 ) -> Result<(), Fail> {
     let alloc = rt.alloc();
-    let cases: [(&[u8], u32); 22] = [
+    let cases: [(&[u8], u32); 20] = [
         // a module name has no quote
         (b"(module M' (imports) (exports))", 8),
-        // there is one module so far
-        (b"(module M (imports N) (exports))", 19),
         // a definition has a lower name
         (b"(module M (imports) (exports) (def X T 1#))", 35),
         // a word of a form is no name
@@ -178,11 +178,6 @@ fn a_fault_of_form_stands_at_the_first_token_that_cannot_go_on(
         (
             b"(module M (imports) (exports) (data T () (K () (con K))))",
             48,
-        ),
-        // a form that is not built yet
-        (
-            b"(module M (imports) (exports) (def x T (letrec ((z T z)) z)))",
-            40,
         ),
         // no result
         (b"(module M (imports) (exports) (def x (fun T) y))", 43),
@@ -252,6 +247,56 @@ fn a_fault_of_form_stands_at_the_first_token_that_cannot_go_on(
         let ran = run_over(&rt, alloc, &["lint", "M.fc"], text, &SOUND)?;
         let line = format!(in alloc; "refused 3 BadForm M.fc - @{at}\n")?;
         assert_eq!(rt; ran.err.bytes(), line.as_bytes());
+        assert_eq!(rt; ran.status, 1);
+    }
+    Ok(())
+}
+
+#[test]
+fn a_module_is_refused_as_a_whole_behind_its_form_and_before_its_names(
+    rt: HostRuntime,
+) -> Result<(), Fail> {
+    let alloc = rt.alloc();
+    let cases: [(&[u8], &[u8]); 7] = [
+        // an import of a module that is not in the set
+        (
+            b"(module M (imports N) (exports))",
+            b"refused 12 ImportUnknown M - -\n",
+        ),
+        // one of the module itself
+        (
+            b"(module M (imports M) (exports))",
+            b"refused 13 ImportCycle M - -\n",
+        ),
+        // an import that is not in the set counts before one of the module itself
+        (
+            b"(module M (imports M N) (exports))",
+            b"refused 12 ImportUnknown M - -\n",
+        ),
+        // a form that is not judged yet
+        (
+            b"(module M (imports) (exports) (def x T (letrec ((z T z)) z)))",
+            b"refused 3 BadForm M.fc - -\n",
+        ),
+        // imports count before forms
+        (
+            b"(module M (imports N) (exports) (family F () *))",
+            b"refused 12 ImportUnknown M - -\n",
+        ),
+        // forms count before names
+        (
+            b"(module M (imports) (exports) (family F () *) (def f T x))",
+            b"refused 3 BadForm M.fc - -\n",
+        ),
+        // a name in a module that is not imported
+        (
+            b"(module M (imports) (exports) (data T () (K ())) (def f T A.x))",
+            b"refused 20 Unbound M f 1\n",
+        ),
+    ];
+    for (text, line) in cases {
+        let ran = run_over(&rt, alloc, &["lint", "M.fc"], text, &SOUND)?;
+        assert_eq!(rt; ran.err.bytes(), line);
         assert_eq!(rt; ran.status, 1);
     }
     Ok(())
@@ -430,7 +475,7 @@ fn six_hundred_arguments_of_a_function_type_are_too_deep(rt: HostRuntime) -> Res
 #[test]
 fn a_byte_more_than_a_file_may_have_is_too_long(rt: HostRuntime) -> Result<(), Fail> {
     let alloc = rt.alloc();
-    let mut text = vec![in alloc; b' '; MOST as usize]?;
+    let mut text = vec![in alloc; b' '; Limits::standard().file_bytes as usize]?;
     let form: Row<'_> = (
         &["build", "M.fc"],
         &text,
@@ -539,7 +584,7 @@ impl Files for NoMemory {
 }
 
 #[test]
-fn want_of_memory_is_told(rt: HostRuntime) -> Result<(), Fail> {
+fn out_of_memory_is_told(rt: HostRuntime) -> Result<(), Fail> {
     let alloc = rt.alloc();
     let words = vec![in alloc;
         String::from_str(alloc, "build")?,

@@ -1,5 +1,5 @@
 // The real files and streams.
-ghost use Rattle.std.specs.Prelude.{◌≡◌, ◌≤◌, None};
+ghost use Rattle.std.specs.Prelude.{◌≡◌, ◌<◌, ◌≤◌, None};
 ghost use Rattle.std.specs.Io.KnownBytes.{Appends};
 ghost use Rattle.fc_files.specs.Outside.{IsWithin, Rose};
 ghost use Rattle.fc_files.specs.Counts.{count_after_put, count_after_read, count_after_write};
@@ -7,7 +7,7 @@ ghost use Rattle.fc_files.specs.Host.{writer_of};
 ghost use Rattle.fc_files.specs.Transfers.{AppendsPart, IsFromFile, IsInFile};
 
 use crate::transfers::{put_into, read_opened, write_opened};
-use crate::{Files, MOST, PutAnswer, ReadAnswer, Sink, WriteAnswer};
+use crate::{Files, PutAnswer, ReadAnswer, Sink, WriteAnswer};
 use std::alloc::Global;
 use std::fs;
 use std::io::Write;
@@ -73,7 +73,7 @@ impl<R: std::rt::Files> Files for HostFiles<R> {
     ghost write_faults = { λ s. s.write_faults };
 
     fn read(&mut self, alloc: Global, name: &str, most: u64) -> ReadAnswer
-        requires { most ≤ MOST }
+        requires { most < u64.MAX }
         ensures within { IsWithin result most }
         ensures write_faults_stay { ⟦<Self as Files>⟧.write_faults self.new
             ≡ ⟦<Self as Files>⟧.write_faults self.old }

@@ -19,7 +19,7 @@ mod numbered;
 mod sinks;
 mod transfers;
 
-ghost use Rattle.std.specs.Prelude.{◌≡◌, ◌≤◌, List, ℕ, Option, IfSome};
+ghost use Rattle.std.specs.Prelude.{◌≡◌, ◌<◌, ◌≤◌, List, ℕ, Option, IfSome};
 ghost use Rattle.fc_files.specs.Outside.{FileMap, IsWithin, Reads, Rose, Takes, Told, Writes};
 
 pub use entries::has_distinct_names;
@@ -27,9 +27,6 @@ pub use host::{HostFiles, HostSink};
 pub use mem_files::{MemFiles, SureFiles};
 pub use sinks::{CountSink, MemSink};
 use std::alloc::Global;
-
-/// The most bytes that a read may ask for: 4 MiB.
-pub const MOST: u64 = 4_194_304;
 
 /// What a read answers.
 #[derive(Debug, Drop)]
@@ -77,7 +74,7 @@ pub trait Files {
     /// How many writes have failed, up to 2^64 - 1.
     ghost write_faults: { Self → ℕ };
 
-    /// All bytes of the file `name`, which are to be at most `most`, itself at most [`MOST`].
+    /// All bytes of the file `name`, which are to be at most `most`, itself less than the largest `u64`.
     ///
     /// No answer changes what the names hold.
     ///
@@ -86,7 +83,7 @@ pub trait Files {
     /// `Absent` where there is no such file, `TooLong` where it has more than `most` bytes,
     /// `Failed` where the device failed, and `Memory` where no memory was left for the bytes.
     fn read(&mut self, alloc: Global, name: &str, most: u64) -> ReadAnswer
-        requires { most ≤ MOST }
+        requires { most < u64.MAX }
         ensures within { IsWithin result most }
         ensures reads { IfSome (held self.old) (λ m. Reads (m name.now) most result) }
         ensures held_stays { held self.new ≡ held self.old }

@@ -1,5 +1,5 @@
 // Reads and writes of whole pieces, at any reader and writer, with the answers that they end with.
-ghost use Rattle.std.specs.Prelude.{◌≡◌, ◌≤◌, ◌+◌, Some, IfSome, IfOk, IfErr, OnOk, length, take};
+ghost use Rattle.std.specs.Prelude.{◌≡◌, ◌<◌, ◌≤◌, ◌+◌, Some, IfSome, IfOk, IfErr, OnOk, length, take};
 ghost use Rattle.std.specs.IoError.{error_kind};
 ghost use Rattle.std.specs.Io.KnownBytes.{Appends, WriteAppends};
 ghost use Rattle.fc_files.specs.Outside.{IsWithin, Reads};
@@ -9,14 +9,14 @@ ghost use Rattle.fc_files.specs.Transfers.{AppendsPart, IsFromFile, IsInFile};
 use crate::answers::{
     put_answer, read_answer, read_answer_of_open_error, write_answer, write_answer_of_error,
 };
-use crate::{MOST, PutAnswer, ReadAnswer, WriteAnswer};
+use crate::{PutAnswer, ReadAnswer, WriteAnswer};
 use std::alloc::Global;
 use std::io;
 use std::io::{ErrorKind, Read, Write};
 
 // The bytes of an open file up to its end, or one more than `most` of them.
 fn read_up_to<F: Read + Drop>(alloc: Global, file: F, most: u64) -> io::Result<Vec<u8>>
-    requires { most ≤ MOST }
+    requires { most < u64.MAX }
     ensures { IfOk result
         (λ bytes. IfSome (F.remaining file) (λ left. bytes.items ≡ take (most + 1) left)) }
 {
@@ -27,7 +27,7 @@ fn read_up_to<F: Read + Drop>(alloc: Global, file: F, most: u64) -> io::Result<V
 
 // All bytes of an open file. At most one byte more than `most` is taken from it.
 fn read_all<F: Read + Drop>(alloc: Global, file: F, most: u64) -> ReadAnswer
-    requires { most ≤ MOST }
+    requires { most < u64.MAX }
     ensures within { IsWithin result most }
     ensures bytes { IfSome (F.remaining file) (λ left. Reads (Some left) most result) }
     ensures found { result ≡ ReadAnswer.Absent → ⊥ }
@@ -41,7 +41,7 @@ pub(crate) fn read_opened<F: Read + Drop>(
     opened: io::Result<F>,
     most: u64,
 ) -> ReadAnswer
-    requires { most ≤ MOST }
+    requires { most < u64.MAX }
     ensures within { IsWithin result most }
     ensures bytes { IfOk opened
         (λ file. IfSome (F.remaining file) (λ left. Reads (Some left) most result)) }

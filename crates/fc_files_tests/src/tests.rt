@@ -1,6 +1,6 @@
 //! The files and streams in memory, each once, through its trait.
 use fc_files::{
-    CountSink, Files, MOST, MemFiles, MemSink, PutAnswer, ReadAnswer, Sink, SureFiles, WriteAnswer,
+    CountSink, Files, MemFiles, MemSink, PutAnswer, ReadAnswer, Sink, SureFiles, WriteAnswer,
     has_distinct_names,
 };
 use std::alloc::{AllocError, Global};
@@ -15,7 +15,7 @@ fn store<F: Files>(
     bytes: &[u8],
 ) -> (WriteAnswer, ReadAnswer) {
     let written = files.write(alloc, name, bytes);
-    (written, files.read(alloc, name, MOST))
+    (written, files.read(alloc, name, 3))
 }
 
 /// Whether a read gave these bytes, or failed where there are none.

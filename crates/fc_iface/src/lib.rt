@@ -5,7 +5,7 @@ mod items;
 
 ghost use Rattle.std.specs.Prelude.{◌≡◌, IfOk};
 ghost use Rattle.fc_syntax.specs.View.{module_of};
-ghost use Rattle.fc_model.specs.Canonical.{IsBuilt, interface_text};
+ghost use Rattle.fc_model.specs.Canonical.{interface_text};
 
 use fc_printer::put_header;
 use fc_syntax::{Memory, Module};
@@ -14,7 +14,6 @@ use std::alloc::Global;
 
 /// The text of the interface of a module, in the layout of a module's text.
 pub fn print_interface(alloc: Global, m: &Module) -> Result<Vec<u8>, Memory>
-    requires { IsBuilt (module_of m.now) }
     ensures { IfOk result (λ v. v.items ≡ interface_text (module_of m.now)) }
 {
     let mut text = Vec::new(alloc);

@@ -98,12 +98,18 @@ literal_parses w r l h =
 pub number_digits : (w : List ℕ) → is_number w ≡ true → is_digits w ≡ true
 number_digits w h = (and_parts (is_digits w) (nat_le (length w) 9) h).0
 
+-- nine digits at most
+pub number_short : (w : List ℕ) → is_number w ≡ true → digits_value 10 w < 10 ^ 9
+number_short w n =
+    let parts = and_parts (is_digits w) (nat_le (length w) 9) n in
+    digits_value_short own w 9 (digits_parts w parts.0).0 (leb-true (length w) 9 parts.1)
+
 -- a number
 pub number_parses : {E : Type 0} (w : List ℕ) (r : Result ℕ E) → is_number w ≡ true → ParsesUnsigned 32 10 w r → OkIff r (is_number w ≡ true) (digits_value 10 w)
 number_parses w r n h =
     let parts = and_parts (is_digits w) (nat_le (length w) 9) n in
     let d = digits_parts w parts.0 in
-    let short : digits_value 10 w < 10 ^ 9 = digits_value_short own w 9 d.0 (leb-true (length w) 9 parts.1) in
+    let short : digits_value 10 w < 10 ^ 9 = number_short w n in
     same_account r _ _ _ _ _ (parse_digits own 32 w r h d.0) (parse_digits own 32 w r h d.0) (λ q. n) (λ t. (d.1, omega arith))
 
 -- a word by its last byte

@@ -6,7 +6,7 @@ use Rattle.fc_syntax.specs.Tokens.{ByteFault, Lexeme}
 use Rattle.fc_lex.specs.declared.LexError.{LexError}
 use Rattle.fc_lex.specs.declared.LexError.TheVariants as error
 
--- the error tells the first fault of a text; want of memory tells nothing of it
+-- the error tells the first fault of a text; out of memory tells nothing of it
 abbrev pub IsFirstFault : Result (List Lexeme) ByteFault → LexError → Type 0
 IsFirstFault r (error.BadByte n) = r ≡ Err (record { kind = fault.BadByte; at = n })
 IsFirstFault r (error.BadToken n) = r ≡ Err (record { kind = fault.BadToken; at = n })

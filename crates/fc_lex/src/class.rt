@@ -1,6 +1,7 @@
 //! Bytes by what they may do in a text.
 ghost use Rattle.std.specs.Prelude.{◌≡◌, ◌+◌, ◌≤◌, drop, length, IfOk, IfErr};
 ghost use Rattle.std.specs.List.{prefix_len};
+ghost use Rattle.fc_syntax.specs.Limits.{standard_limits};
 ghost use Rattle.fc_syntax.specs.Tokens.{byte_class, is_plain, lexed, Between, InComment};
 ghost use Rattle.fc_lex.specs.Classes.{as_byte_class};
 ghost use Rattle.fc_lex.specs.Faults.{IsFirstFault};
@@ -58,7 +59,7 @@ pub(crate) fn word_end(bytes: &[u8], at: usize) -> usize
 /// in it.
 pub(crate) fn comment_end(bytes: &[u8], at: usize) -> Result<usize, LexError>
     requires inside { at ≤ length bytes.now }
-    requires room { length bytes.now ≤ 4194304 }
+    requires room { length bytes.now ≤ standard_limits.file_bytes }
     ensures read { IfOk result (λ end. lexed InComment at (drop at bytes.now) ≡ lexed Between end (drop end bytes.now)) }
     ensures forward { IfOk result (λ end. at ≤ end) }
     ensures within { IfOk result (λ end. end ≤ length bytes.now) }

@@ -2,9 +2,10 @@
 #![tactic(auto)]
 
 ghost use Rattle.std.specs.Prelude.{◌≡◌, ◌≤◌, length, map, IfOk, IfErr, Ok};
+ghost use Rattle.fc_syntax.specs.Limits.{standard_limits};
 ghost use Rattle.fc_syntax.specs.Tokens.{AreInOrder, AreSlices, lexeme_of, tokens_of};
 ghost use Rattle.fc_lex.specs.Faults.{IsFirstFault};
-ghost use Rattle.fc_lex.specs.declared.LexError.TheVariants.{Memory as want_of_memory};
+ghost use Rattle.fc_lex.specs.declared.LexError.TheVariants.{Memory as out_of_memory};
 
 mod class;
 mod piece;
@@ -13,7 +14,7 @@ mod tests;
 mod word;
 
 use crate::piece::piece_at;
-pub use crate::word::{is_lower_name, is_module_part, is_upper_name};
+pub use crate::word::{is_lower_name, is_module_name, is_module_part, is_upper_name, last_part};
 use fc_syntax::{Memory, Seq, Token};
 use std::alloc::Global;
 use thiserror::Error;
@@ -30,13 +31,13 @@ pub enum LexError {
     /// The first byte of a literal beyond 64 bits.
     #[error("literal out of range at {0}")]
     LiteralRange(u32),
-    /// Memory was wanting.
+    /// Out of memory.
     #[error("out of memory")]
     Memory,
 }
 
 impl From<Memory> for LexError {
-    ghost from_gives = { λ _ e. e ≡ want_of_memory };
+    ghost from_gives = { λ _ e. e ≡ out_of_memory };
 
     fn from(_e: Memory) -> LexError {
         LexError::Memory
@@ -45,7 +46,7 @@ impl From<Memory> for LexError {
 
 /// The tokens of a text of at most 4 MiB, in their order; or the first byte or word that is no part of one.
 pub fn tokens(alloc: Global, bytes: &[u8]) -> Result<Seq<Token>, LexError>
-    requires { length bytes.now ≤ 4194304 }
+    requires { length bytes.now ≤ standard_limits.file_bytes }
     ensures found { IfOk result (λ ts. tokens_of bytes.now ≡ Ok (map (lexeme_of bytes.now) ts)) }
     ensures slices { IfOk result (λ ts. AreSlices bytes.now ts) }
     ensures in_order { IfOk result AreInOrder }

@@ -1,5 +1,6 @@
 //! A text a piece at a time.
 ghost use Rattle.std.specs.Prelude.{◌≡◌, ◌≤◌, ◌<◌, drop, length, IfOk, IfErr};
+ghost use Rattle.fc_syntax.specs.Limits.{standard_limits};
 ghost use Rattle.fc_syntax.specs.Tokens.{lexed, Between};
 ghost use Rattle.fc_lex.specs.Faults.{IsFirstFault};
 ghost use Rattle.fc_lex.specs.Pieces.{then_piece};
@@ -38,7 +39,7 @@ fn token(end: usize, kind: TokenKind) -> Piece
 /// The piece that begins at a byte between tokens.
 pub(crate) fn piece_at(bytes: &[u8], at: usize) -> Result<Piece, LexError>
     requires inside { at < length bytes.now }
-    requires room { length bytes.now ≤ 4194304 }
+    requires room { length bytes.now ≤ standard_limits.file_bytes }
     ensures read { IfOk result (λ p. lexed Between at (drop at bytes.now)
         ≡ then_piece bytes.now at p.end p.kind (lexed Between p.end (drop p.end bytes.now))) }
     ensures forward { IfOk result (λ p. at < p.end) }

@@ -1,13 +1,13 @@
 //! Texts with the tokens and faults that they have.
 use crate::{LexError, tokens};
-use fc_syntax::{FaultKind, Token, TokenKind};
+use fc_syntax::{FaultKind, Limits, Token, TokenKind};
 use std::alloc::Global;
 use std::process::Abort;
 use std::test::Fail;
 
 /// The kind of the only token of a text; `None` where there are more, fewer or none.
 fn only_kind(rt: &impl Abort, alloc: Global, text: &[u8]) -> Option<TokenKind> {
-    assert!(rt; text.len() <= 4194304);
+    assert!(rt; text.len() <= Limits::standard().file_bytes as usize);
     let all = tokens(alloc, text).ok()?;
     if all.len() == 1 {
         Some(all.at(0).kind)
@@ -18,7 +18,7 @@ fn only_kind(rt: &impl Abort, alloc: Global, text: &[u8]) -> Option<TokenKind> {
 
 /// What is wrong with a text, and where; `None` where nothing is.
 fn fault(rt: &impl Abort, alloc: Global, text: &[u8]) -> Option<(FaultKind, u32)> {
-    assert!(rt; text.len() <= 4194304);
+    assert!(rt; text.len() <= Limits::standard().file_bytes as usize);
     match tokens(alloc, text) {
         Ok(_) => None,
         Err(LexError::BadByte(at)) => Some((FaultKind::BadByte, at)),

@@ -99,15 +99,15 @@ fn is_plain_name(word: &[u8]) -> bool
     is_lower_name(word) || is_upper_name(word)
 }
 
-/// Parts of a module name, joined by dots.
-fn is_module_name(word: &[u8]) -> bool
+/// Whether a word is a module name: parts, each as `is_module_part` says, joined by dots. Takes no memory.
+pub fn is_module_name(word: &[u8]) -> bool
     ensures { result ≡ spec.is_module_name word.now }
 {
     word.split(|b| *b == b'.').all(|part| is_module_part(part))
 }
 
-/// Where the word's last part begins: after its last dot, or at 0.
-fn last_part(word: &[u8]) -> usize
+/// Where a word's last part begins: after its last dot, or at 0 where there is none. Takes no memory.
+pub fn last_part(word: &[u8]) -> usize
     ensures within { result ≤ length word.now }
     ensures value { result + suffix_len (λ b. not (spec.is_dot b)) word.now ≡ length word.now }
     ensures dotted { IsTrue (list_any spec.is_dot word.now) ↔ (0 < result) }

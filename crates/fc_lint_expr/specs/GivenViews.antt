@@ -22,8 +22,8 @@ with_givens items (Err f) = Err f
 -- the argument of this number, given to a constructor
 abbrev pub given_at : List NModule → words.Context → ℕ → NArg → Result words.TypedArg F
 given_at ms c i (NATerm e) = and_then (under i (words.type_or_fault ms c e)) (λ t. Ok (record { type = t; atom = words.is_atom e }))
-given_at ms c i (NAType t) = words.not_built
-given_at ms c i (NACo g) = words.not_built
+given_at ms c i (NAType t) = words.unsupported
+given_at ms c i (NACo g) = words.unsupported
 
 -- the same of an argument of src
 unfoldable pub arg_given : List NModule → words.Context → ℕ → A.Arg ℕ Ref → Result words.TypedArg F

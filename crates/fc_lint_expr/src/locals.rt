@@ -51,7 +51,7 @@ fn add_value_type<'a>(types: &mut Seq<LocalType<'a>>, binder: &'a NBinder) -> Re
     }
 }
 
-/// The types of the binders of values among binders, in their order. Fails only where memory is wanting.
+/// The types of the binders of values among binders, in their order. Fails only where memory runs out.
 pub fn value_types<'a>(alloc: Global, binders: &'a [NBinder]) -> Result<Seq<LocalType<'a>>, Memory>
     ensures { IfOk result (λ ts. types_of ts ≡ binder_types (nbinders_of binders.now)) }
 {

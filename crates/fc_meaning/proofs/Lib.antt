@@ -1,5 +1,5 @@
 pub mod ArgSorts
-pub mod BuiltExpressions
+pub mod SupportedExpressions
 pub mod Choosing
 pub mod Determined
 pub mod Examples

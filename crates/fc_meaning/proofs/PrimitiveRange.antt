@@ -8,7 +8,7 @@ use mir.Syntax.{w64}
 use Rattle.fc_syntax.specs.declared.expr.PrimOp.{PrimOp}
 use Rattle.fc_syntax.specs.declared.expr.PrimOp.TheVariants as op
 use Rattle.fc_syntax.specs.Primitives.{divided, primitive_value, truth}
-use Rattle.fc_model.specs.Canonical.{is_literal_formed}
+use Rattle.fc_model.specs.Formed.{is_literal_formed}
 use Rattle.fc_model.specs.Terms.{InRange}
 use Rattle.fc_meaning.proofs.Optional.{some_is, none_some}
 

@@ -1,13 +1,14 @@
--- The right sides of the definitions of a module that lints, if it has only the forms that are built, are sorted when their
+-- The right sides of the definitions of a module that lints, if it has only forms that Lint judges, are sorted when their
 -- types are gone.
 use Rattle.std.proofs.Common.{◌≡◌, ℕ, zero, suc, true, if◌then◌else◌, Bool, false, ◌&&◌, List, [], ◌∷◌, ◌++◌, reverse, bytes_eq, Option, Some, None, Ok, refl, sym, ap, ◌∙◌, subst}
 use Rattle.std.proofs.lemmas.Bool.{and_parts}
 use Rattle.std.specs.List.{list_all}
 use Rattle.std.proofs.lemmas.List.{append_assoc, reverse-append}
 use Rattle.fc_syntax.specs.declared.ty.Name.{Name}
-use Rattle.fc_syntax.specs.Tokens.{is_module_part}
+use Rattle.fc_syntax.specs.Tokens.{is_module_name}
 use Rattle.fc_syntax.specs.Tree.{Word, Module, ModuleOf}
-use Rattle.fc_model.specs.Canonical.{IsBuilt, IsFormed, is_decl_built, is_decl_formed, is_empty_list, is_word}
+use Rattle.fc_model.specs.Supported.{IsSupported}
+use Rattle.fc_model.specs.Formed.{IsFormed, is_decl_formed, is_word}
 use Rattle.fc_model.specs.Erasure.{Scope, arg_sorts, below_all, below_value, binder_sorts, erased, erased_alts, erased_args, no_scope, sort_of, sort_of_type}
 use Rattle.fc_model.specs.Faulting.{within, and_then}
 use Rattle.fc_model.specs.Kinding.{decls_at}
@@ -26,7 +27,7 @@ use Rattle.fc_model.proofs.ResolvedModulesAre.{module_is_resolved}
 use Rattle.fc_model.proofs.TypedIs.{given_type_is}
 use Rattle.fc_meaning.specs.Laws.{Agrees}
 use Rattle.fc_meaning.proofs.ArgSorts.{sort_is}
-use Rattle.fc_meaning.proofs.BuiltExpressions.{AreBuiltAlts, AreBuiltArgs, AreBuiltDecls, IsBuiltExpr, decls_built}
+use Rattle.fc_meaning.proofs.SupportedExpressions.{AreSupportedAlts, AreSupportedArgs, AreSupportedDecls, IsSupportedExpr, decls_supported}
 use Rattle.fc_meaning.proofs.Optional.{found_has, some_is, none_some}
 
 -- EXPRESSIONS
@@ -81,7 +82,7 @@ module _ (m : NModule) (lint : lint_or_fault m ≡ Ok done) where
   mutual
     unfolding enters head_sorts
 
-    expr_sorted : {c : Context} {e : NExpr} {t : NTy} (s : Scope) (g : List Sort) → Fits c s g → HasType (m ∷ []) c e t → IsBuiltExpr e → IsSorted g (erased s e)
+    expr_sorted : {c : Context} {e : NExpr} {t : NTy} (s : Scope) (g : List Sort) → Fits c s g → HasType (m ∷ []) c e t → IsSupportedExpr e → IsSorted g (erased s e)
     expr_sorted s g fits (typed_local {i = i} {t = t} p) b = (sort_of_type t, (fits i t p).1)
     expr_sorted s g fits (typed_declared p) b = tt
     expr_sorted s g fits typed_literal b = b
@@ -98,13 +99,13 @@ module _ (m : NModule) (lint : lint_or_fault m ≡ Ok done) where
         (expr_sorted s g fits e b.0, alts_sorted (below_value (sort_of_type xt) s) (sort_of_type xt ∷ g) (fits_below c s g xt fits) alts b.1)
     expr_sorted s g fits (typed_con k gs is args l t a) b = args_sorted s g fits args b
 
-    args_sorted : {c : Context} {args : NArgs} {gs : List TypedArg} (s : Scope) (g : List Sort) → Fits c s g → ArgsAreGiven (m ∷ []) c args gs → AreBuiltArgs args
+    args_sorted : {c : Context} {args : NArgs} {gs : List TypedArg} (s : Scope) (g : List Sort) → Fits c s g → ArgsAreGiven (m ∷ []) c args gs → AreSupportedArgs args
         → AreSorted g (erased_args s args) × HasSorts g (arg_sorts s args) (erased_args s args)
     args_sorted s g fits no_args b = (tt, tt)
     args_sorted s g fits (one_arg a rest) b =
         let others = args_sorted s g fits rest b.1 in ((expr_sorted s g fits a b.0, others.0), (is_placed s g fits a, others.1))
 
-    alts_sorted : {c : Context} {t rt : NTy} {b : Before} {alts : NAlts} (s : Scope) (g : List Sort) → Fits c s g → AltsFit (m ∷ []) c t rt b alts → AreBuiltAlts alts
+    alts_sorted : {c : Context} {t rt : NTy} {b : Before} {alts : NAlts} (s : Scope) (g : List Sort) → Fits c s g → AltsFit (m ∷ []) c t rt b alts → AreSupportedAlts alts
         → AltsAreSorted g (erased_alts s alts)
     alts_sorted s g fits no_alts b = tt
     alts_sorted {c = c} s g fits (default_alt {bs = bs} {e = e} kinded typed goes rest) b =
@@ -132,7 +133,7 @@ AreDefsSorted [] = Unit {0}
 AreDefsSorted (d ∷ ds) = IsDefSorted d × AreDefsSorted ds
 
 module _ (m : NModule) (lint : lint_or_fault m ≡ Ok done) where
-  right_sorted : (t : NTy) (e : NExpr) → right_side_judged (m ∷ []) t e ≡ Ok done → IsBuiltExpr e → IsSorted [] (erased no_scope e)
+  right_sorted : (t : NTy) (e : NExpr) → right_side_judged (m ∷ []) t e ≡ Ok done → IsSupportedExpr e → IsSorted [] (erased no_scope e)
   right_sorted t e h b =
       let p = part 1 (type_or_fault (m ∷ []) no_context e) _ done h in
       expr_sorted m lint no_scope [] fits_closed (given_type_is (m ∷ []) no_context e p.0 p.1) b
@@ -141,14 +142,14 @@ module _ (m : NModule) (lint : lint_or_fault m ≡ Ok done) where
   done_is : (d : Done) → d ≡ done
   done_is done = refl
 
-  definition_sorted : (n : Word) (t : NTy) (e : NExpr) (ds : List NDecl) → and_then (within n (right_side_judged (m ∷ []) t e)) (λ _. rights_judged (m ∷ []) ds) ≡ Ok done → IsBuiltExpr e
+  definition_sorted : (n : Word) (t : NTy) (e : NExpr) (ds : List NDecl) → and_then (within n (right_side_judged (m ∷ []) t e)) (λ _. rights_judged (m ∷ []) ds) ≡ Ok done → IsSupportedExpr e
       → IsSorted [] (erased no_scope e) × (rights_judged (m ∷ []) ds ≡ Ok done)
   definition_sorted n t e ds h b =
       let p = and_then_inv (within n (right_side_judged (m ∷ []) t e)) _ done h in
       let q = within_inv n (right_side_judged (m ∷ []) t e) p.0 p.1 in
       (right_sorted t e (q ∙ ap (λ d. Ok d) (done_is p.0)) b, p.2)
 
-  defs_sorted : (ds : List NDecl) → AreBuiltDecls ds → rights_judged (m ∷ []) ds ≡ Ok done → AreDefsSorted ds
+  defs_sorted : (ds : List NDecl) → AreSupportedDecls ds → rights_judged (m ∷ []) ds ≡ Ok done → AreDefsSorted ds
   defs_sorted [] b h = tt
   defs_sorted (NData n ps cs ∷ ds) b h = (tt, defs_sorted ds b.1 h)
   defs_sorted (NNew n ps t con ∷ ds) b h = (tt, defs_sorted ds b.1 h)
@@ -186,16 +187,15 @@ module_sorted own imports exports hidden ds (Some v) w t s h = go (bytes_eq own 
     go true x = right_side_sorted ds w t s x
     go false x = absurd (none_some x)
 
-pub formed_is_sorted : (m : Module) (n : NModule) → IsBuilt m → IsFormed m → Resolves m n → Lints m → (x : Name) (t : Term) → program_of (n ∷ []) x ≡ Some t → IsSorted [] t
+pub formed_is_sorted : (m : Module) (n : NModule) → IsSupported m → IsFormed m → Resolves m n → Lints m → (x : Name) (t : Term) → program_of (n ∷ []) x ≡ Some t → IsSorted [] t
 formed_is_sorted (ModuleOf own imports exports hidden ds) n b f by_rules lints x t h =
     let r = module_is_resolved by_rules in
-    let a = and_parts (is_module_part own && is_word own) ((list_all is_word exports && list_all is_word hidden) && list_all is_decl_formed ds) f in
+    let a = and_parts (is_module_name own && list_all is_module_name imports) ((list_all is_word exports && list_all is_word hidden) && list_all is_decl_formed ds) f in
     let formed = and_parts (list_all is_word exports && list_all is_word hidden) (list_all is_decl_formed ds) a.1 in
-    let built = and_parts (is_empty_list imports) (list_all is_decl_built ds) b in
     let top = top_of (ModuleOf own imports exports hidden ds) in
     let p = and_then_inv (resolved_decls top no_words ds) _ n r in
     let same = sym (ok_ok p.2) in
     let lint = subst (λ k. lint_or_fault k ≡ Ok done) same (sym (ap (λ o. and_then o (λ k. lint_or_fault k)) r) ∙ lints) in
-    let all = decls_built top no_words ds p.0 formed.1 built.1 p.1 in
+    let all = decls_supported top no_words ds p.0 formed.1 b p.1 in
     let sorted = defs_sorted (NModuleOf own imports exports hidden p.0) lint p.0 all (rights_hold own imports exports hidden p.0 lint) in
     module_sorted own imports exports hidden p.0 x.module x.text t sorted (subst (λ k. program_of (k ∷ []) x ≡ Some t) same h)

@@ -2,7 +2,8 @@
 use Rattle.std.specs.Prelude.{◌≡◌, ◌↔◌, ℕ, ℤ, Bool, true, List, [], ◌∷◌, map, Some, None, Ok}
 use Rattle.fc_syntax.specs.declared.ty.Name.{Name}
 use Rattle.fc_syntax.specs.Tree.{Module}
-use Rattle.fc_model.specs.Canonical.{IsBuilt, IsFormed}
+use Rattle.fc_model.specs.Supported.{IsSupported}
+use Rattle.fc_model.specs.Formed.{IsFormed}
 use Rattle.fc_model.specs.Erasure.{Scope, arg_sorts, sort_of, sort_of_type}
 use Rattle.fc_model.specs.Linting.{Lints, done, lint_or_fault}
 use Rattle.fc_model.specs.Nameless.{NArgs, NCon, NExpr, NModule, NTy}
@@ -60,7 +61,7 @@ abbrev pub StepsKeepSorts : Type 0
 StepsKeepSorts = (P : Program) → SortedProgram P → (t u : Term) → IsSorted [] t → next P t ≡ Some u → IsSorted [] u
 
 abbrev pub LintedIsSorted : Type 0
-LintedIsSorted = (m : Module) (n : NModule) → IsBuilt m → IsFormed m → Resolves m n → Lints m → SortedProgram (program_of (n ∷ []))
+LintedIsSorted = (m : Module) (n : NModule) → IsSupported m → IsFormed m → Resolves m n → Lints m → SortedProgram (program_of (n ∷ []))
 
 -- the sort of each variable of the scope is that of its type in the context
 abbrev pub Agrees : Context → Scope → Type 0

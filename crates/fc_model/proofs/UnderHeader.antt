@@ -5,9 +5,9 @@ use Rattle.std.specs.List.{list_all}
 use Rattle.std.proofs.lemmas.List.Concat.{flat_map-cons}
 use Rattle.std.proofs.lemmas.List.Folds.{list_all-append}
 use Rattle.fc_syntax.specs.declared.fault.FaultKind.TheVariants.{DefType, ExportUnknown, NotAType}
-use Rattle.fc_syntax.specs.Tokens.{is_lower_name, is_module_part, is_upper_name}
-use Rattle.fc_syntax.specs.Tree.{Word, Kind, ConDecl, ConOf, Decl, DData, DDef, Module, ModuleOf}
-use Rattle.fc_model.specs.Canonical.{IsBuilt, IsFormed, is_con_formed, is_decl_formed, is_expr_formed, is_lower_word, is_type_formed, is_upper_word, is_word}
+use Rattle.fc_syntax.specs.Tokens.{is_lower_name, is_module_name, is_upper_name}
+use Rattle.fc_syntax.specs.Tree.{Word, Kind, ConDecl, ConOf, Decl, DData, DNew, DFamily, DAxiom, DDef, DWrap, Module, ModuleOf}
+use Rattle.fc_model.specs.Formed.{IsFormed, are_field_binders, is_param_formed, is_plain_formed, is_con_formed, is_decl_formed, is_expr_formed, is_lower_word, is_type_formed, is_upper_word, is_word}
 use Rattle.fc_model.specs.Declaring.{con_words, decl_words, declared_words, ndecl_word, ndeclared_words}
 use Rattle.fc_model.specs.Faulting.{F, need, under, within, and_then}
 use Rattle.fc_model.specs.Headers.{others, written_of}
@@ -78,16 +78,25 @@ cons_are_words : (cs : List ConDecl) → list_all is_con_formed cs ≡ true → 
 cons_are_words [] h = refl
 cons_are_words (ConOf n bs fields ∷ cs) h =
     let a = and_parts (is_con_formed (ConOf n bs fields)) (list_all is_con_formed cs) h in
-    let b = and_parts (is_upper_word n) (list_all is_type_formed fields) a.0 in
+    let b = and_parts (is_upper_word n) (are_field_binders bs && list_all is_type_formed fields) a.0 in
     both (is_word n) (list_all is_word (con_words cs)) (upper_is_word n b.0) (cons_are_words cs a.1)
 
 decl_has_words : (d : Decl) → is_decl_formed d ≡ true → list_all is_word (decl_words d) ≡ true
 decl_has_words (DData n ps cs) h =
-    let a = and_parts (is_upper_word n) (list_all is_con_formed cs) h in
-    both (is_word n) (list_all is_word (con_words cs)) (upper_is_word n a.0) (cons_are_words cs a.1)
+    let a = and_parts (is_upper_word n) (list_all is_param_formed ps && list_all is_con_formed cs) h in
+    let b = and_parts (list_all is_param_formed ps) (list_all is_con_formed cs) a.1 in
+    both (is_word n) (list_all is_word (con_words cs)) (upper_is_word n a.0) (cons_are_words cs b.1)
+decl_has_words (DNew n ps t c) h =
+    let a = and_parts (is_upper_word n && is_upper_word c) (list_all is_param_formed ps && is_type_formed t) h in
+    let b = and_parts (is_upper_word n) (is_upper_word c) a.0 in
+    both (is_word n) (is_word c && true) (upper_is_word n b.0) (both (is_word c) true (upper_is_word c b.1) refl)
+decl_has_words (DFamily n ps k) h = let a = and_parts (is_upper_word n) (list_all is_plain_formed ps) h in both (is_word n) true (upper_is_word n a.0) refl
+decl_has_words (DAxiom n ps t u) h =
+    let a = and_parts (is_upper_word n) (list_all is_plain_formed ps && (is_type_formed t && is_type_formed u)) h in both (is_word n) true (upper_is_word n a.0) refl
 decl_has_words (DDef n t e) h =
     let a = and_parts (is_lower_word n) (is_type_formed t && is_expr_formed e) h in both (is_word n) true (lower_is_word n a.0) refl
-decl_has_words d h = false_true h
+decl_has_words (DWrap n t e) h =
+    let a = and_parts (is_lower_word n) (is_type_formed t && is_expr_formed e) h in both (is_word n) true (lower_is_word n a.0) refl
 
 decls_have_formed_words : (ds : List Decl) → list_all is_decl_formed ds ≡ true → list_all is_word (declared_words ds) ≡ true
 decls_have_formed_words [] h = refl
@@ -98,14 +107,11 @@ decls_have_formed_words (d ∷ ds) h =
 pub written_is_formed : (m : Module) → IsFormed m → IsFormed (written_of m)
 written_is_formed (ModuleOf m imports exports hidden ds) h =
     let seen = plus_all hidden (plus_all exports no_word) in
-    let a = and_parts (is_module_part m && is_word m) ((list_all is_word exports && list_all is_word hidden) && list_all is_decl_formed ds) h in
+    let a = and_parts (is_module_name m && list_all is_module_name imports) ((list_all is_word exports && list_all is_word hidden) && list_all is_decl_formed ds) h in
     let b = and_parts (list_all is_word exports && list_all is_word hidden) (list_all is_decl_formed ds) a.1 in
     let c = and_parts (list_all is_word exports) (list_all is_word hidden) b.0 in
     let more = all_of_both is_word hidden (others seen (declared_words ds)) c.1 (others_are_among is_word seen (declared_words ds) (decls_have_formed_words ds b.1)) in
     rw (a.0, c.0, more, b.1) refl
-
-pub written_is_built : (m : Module) → IsBuilt m → IsBuilt (written_of m)
-written_is_built (ModuleOf m imports exports hidden ds) h = h
 
 -- PREMISES
 

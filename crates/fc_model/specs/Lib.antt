@@ -1,9 +1,12 @@
 pub mod Acceptance
+pub mod Supported
 pub mod Canonical
 pub mod DeclaredWords
 pub mod Declaring
 pub mod Erasure
 pub mod Faulting
+pub mod Formed
+pub mod Grammar
 pub mod Headers
 pub mod Kinding
 pub mod Laws
@@ -11,11 +14,14 @@ pub mod Linting
 pub mod Nameless
 pub mod NamelessView
 pub mod Observing
+pub mod Pieces
 pub mod Programs
 pub mod ReadFaults
+pub mod Reading
 pub mod Resolution
 pub mod ResolutionRules
 pub mod Says
+pub mod Spelling
 pub mod Stepping
 pub mod Terms
 pub mod Texts

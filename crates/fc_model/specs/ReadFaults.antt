@@ -6,22 +6,27 @@ use Rattle.fc_syntax.specs.Tree.{Binder, BValue, BType, BCo, ConDecl, ConOf, Dec
 use Rattle.fc_syntax.specs.Measures.{decls_size, depth_of}
 use Rattle.fc_syntax.specs.Tokens.{ByteFault, Lexeme, tokens_of}
 use Rattle.fc_syntax.specs.declared.fault.FaultKind.TheVariants as fault
-use Rattle.fc_model.specs.Words.{Tok, Open, Close, Key, Lower, Upper, Literal, Number, Other, tok_of}
-use Rattle.fc_model.specs.Texts.{BeginsWithDecls, DeclAt, ModuleAt, Spells}
+use Rattle.fc_model.specs.Words.{Tok, Open, Close, tok_of}
+use Rattle.fc_model.specs.Grammar.{ADeclaration, AModule}
+use Rattle.fc_model.specs.Reading.{Reads}
+use Rattle.fc_model.specs.Texts.{BeginsWithDecls, Spells}
 
 -- LIMITS
+
+-- how many brackets are open behind a token, and that it may stand where so many are open
+abbrev pub level_behind : ℕ → Tok → ℕ
+level_behind level Open = level + 1
+level_behind level Close = level - 1
+level_behind level _ = level
+
+abbrev pub may_stand : ℕ → ℕ → Tok → Bool
+may_stand most level Open = nat_lt level most
+may_stand most level _ = true
 
 -- brackets nest no deeper than this, from a level on
 abbrev pub nests_within : ℕ → ℕ → List Tok → Bool
 nests_within most level [] = true
-nests_within most level (Open ∷ ts) = nat_lt level most && nests_within most (level + 1) ts
-nests_within most level (Close ∷ ts) = nests_within most (level - 1) ts
-nests_within most level (Key k ∷ ts) = nests_within most level ts
-nests_within most level (Lower w ∷ ts) = nests_within most level ts
-nests_within most level (Upper w ∷ ts) = nests_within most level ts
-nests_within most level (Literal n ∷ ts) = nests_within most level ts
-nests_within most level (Number n ∷ ts) = nests_within most level ts
-nests_within most level (Other w ∷ ts) = nests_within most level ts
+nests_within most level (t ∷ ts) = may_stand most level t && nests_within most (level_behind level t) ts
 
 abbrev pub NestsWithin : List Tok → Type 0
 NestsWithin ts = nests_within standard_limits.brackets 0 ts ≡ true
@@ -72,7 +77,7 @@ pub record ReadsTo (bytes : List ℕ) (m : Module) : Type 0 where
 
 -- the tokens of a whole module
 abbrev pub IsText : List Tok → Type 0
-IsText ts = (m : Module) × ModuleAt ts m []
+IsText ts = (m : Module) × Reads AModule ts m []
 
 -- some further tokens make them those of a whole module
 abbrev pub Begins : List Tok → Type 0
@@ -124,7 +129,7 @@ pub record IsDeclAt (bytes : List ℕ) (lexemes : List Lexeme) (before : List De
   pub others : List Lexeme
   pub parts : lexemes ≡ good ++ (own ++ others)
   pub start : BeginsWithDecls (map tok_of good) before []
-  pub declares : DeclAt (map tok_of own) d []
+  pub declares : Reads ADeclaration (map tok_of own) d []
   pub whole : BeginsWithDecls (map tok_of good ++ map tok_of own) (before ++ d ∷ []) []
   pub nested : NestsWithin (map tok_of good ++ map tok_of own)
   pub within : are_within before ≡ true

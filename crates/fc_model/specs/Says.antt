@@ -1,4 +1,4 @@
--- How an answer of the code meets a judgement: the value, or the first fault, or want of memory, which tells nothing.
+-- How an answer of the code meets a judgement: the value, or the first fault, or out of memory, which tells nothing.
 use Rattle.std.specs.Prelude.{◌≡◌, ℕ, ⊤, [], ◌∷◌, reverse, Some, None, Result, Ok, Err}
 use Rattle.fc_syntax.specs.Tree.{Word}
 use Rattle.fc_syntax.specs.declared.fault.FaultKind.{FaultKind}

@@ -229,9 +229,9 @@ binders_judged ms c i (NBCo r t u ∷ bs) = Err (At BadForm None [])
 
 -- TYPES OF EXPRESSIONS
 
--- what is not built yet has no type
-abbrev pub not_built : {X : Type 0} → Result X F
-not_built = Err (At BadForm None [])
+-- a form that is not judged yet has no type
+abbrev pub unsupported : {X : Type 0} → Result X F
+unsupported = Err (At BadForm None [])
 
 abbrev mutual
   pub type_or_fault : List NModule → Context → NExpr → Result NTy F
@@ -242,33 +242,33 @@ abbrev mutual
   type_or_fault ms c (NLam (NBValue t) e) =
       and_then (under 0 (under 0 (kind_or_fault ms c.kinds t))) (λ k. and_then (under 1 (type_or_fault ms (with_value t c) e)) (λ u.
       need (is_value_kind k) NotAType (Ok (NTFun t u))))
-  type_or_fault ms c (NLam (NBType k) e) = not_built
-  type_or_fault ms c (NLam (NBCo r t u) e) = not_built
+  type_or_fault ms c (NLam (NBType k) e) = unsupported
+  type_or_fault ms c (NLam (NBCo r t u) e) = unsupported
   type_or_fault ms c (NLet r bs e) =
       and_then (binds_judged ms (if r then with_binds bs c else c) r 0 bs) (λ i. under i (type_or_fault ms (with_binds bs c) e))
   type_or_fault ms c (NCase e xt rt alts) =
       and_then (under 0 (type_or_fault ms c e)) (λ s. and_then (under 1 (kind_or_fault ms c.kinds xt)) (λ j. and_then (under 2 (kind_or_fault ms c.kinds rt)) (λ k.
       and_then (alts_judged ms (with_value xt c) s rt 3 Start alts) (λ b.
       need (same_type xt s) ScrutineeType (need (is_value_kind k) NotAType (Ok rt))))))
-  type_or_fault ms c (NCast e g) = not_built
+  type_or_fault ms c (NCast e g) = unsupported
   type_or_fault ms c (NCon n args) = and_then (args_given ms c 0 args) (λ gs. constructed n (constructor ms n) gs)
-  type_or_fault ms c (NPrim op es) = not_built
-  type_or_fault ms c (NFail t) = not_built
-  type_or_fault ms c (NJoin r t js e) = not_built
-  type_or_fault ms c (NJump i args) = not_built
+  type_or_fault ms c (NPrim op es) = unsupported
+  type_or_fault ms c (NFail t) = unsupported
+  type_or_fault ms c (NJoin r t js e) = unsupported
+  type_or_fault ms c (NJump i args) = unsupported
 
   -- a head of type t applied to an argument
   pub argument_applied : List NModule → Context → NTy → NArg → Result NTy F
   argument_applied ms c t (NATerm a) = and_then (under 1 (type_or_fault ms c a)) (λ u. applied t u (is_atom a))
-  argument_applied ms c t (NAType u) = not_built
-  argument_applied ms c t (NACo g) = not_built
+  argument_applied ms c t (NAType u) = unsupported
+  argument_applied ms c t (NACo g) = unsupported
 
   -- terms from part i on
   pub args_given : List NModule → Context → ℕ → NArgs → Result (List TypedArg) F
   args_given ms c i NoNArgs = Ok []
   args_given ms c i (MoreNArgs (NATerm a) rest) = and_then (under i (type_or_fault ms c a)) (λ t. then_given t (is_atom a) (args_given ms c (i + 1) rest))
-  args_given ms c i (MoreNArgs (NAType u) rest) = not_built
-  args_given ms c i (MoreNArgs (NACo g) rest) = not_built
+  args_given ms c i (MoreNArgs (NAType u) rest) = unsupported
+  args_given ms c i (MoreNArgs (NACo g) rest) = unsupported
 
   pub bind_judged : List NModule → Context → Bool → NBind → Result NTy F
   bind_judged ms c r (NBound t e) =

@@ -46,7 +46,7 @@ impl Spaces {
         }
     }
 
-    /// Puts the words of a declaration in, named or nameless. Where memory is wanting, some of them may be missing.
+    /// Puts the words of a declaration in, named or nameless. Where memory runs out, some of them may be missing.
     #[tactic(auto, unfolding(crate::specs::DeclaredWords::words_by_space))]
     pub fn add<L, V>(&mut self, alloc: Global, decl: &Decl<L, V>) -> Result<(), Memory>
         ensures { OnOk result (words_by_space self.new ≡ behind (decl_of decl.now) (words_by_space self.old)) }

@@ -22,7 +22,7 @@ pub struct Flaw {
 pub enum Flawed {
     /// A premise fails.
     Flaw(Flaw),
-    /// Memory was wanting.
+    /// Out of memory.
     Memory,
 }
 

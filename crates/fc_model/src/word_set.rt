@@ -33,7 +33,7 @@ impl WordSet {
         self.words.contains(word.as_str())
     }
 
-    /// Puts a word in. Where memory is wanting, the set is as before.
+    /// Puts a word in. Where memory runs out, the set is as before.
     #[tactic(auto, unfolding(crate::specs::WordSets::set_of))]
     pub fn add(&mut self, alloc: Global, word: &Text) -> Result<(), Memory>
         ensures ok { OnOk result (set_of self.new ≡ plus word.now (set_of self.old)) }
@@ -44,7 +44,7 @@ impl WordSet {
         Ok(())
     }
 
-    /// Puts words in. Where memory is wanting, some of them may be missing.
+    /// Puts words in. Where memory runs out, some of them may be missing.
     pub fn add_all(&mut self, alloc: Global, words: &[Text]) -> Result<(), Memory>
         ensures { OnOk result (set_of self.new ≡ plus_all words.now (set_of self.old)) }
     {

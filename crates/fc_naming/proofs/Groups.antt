@@ -1,13 +1,17 @@
 -- Binders that take words, and what is found below them.
-use Rattle.std.proofs.Common.{◌≡◌, ◌<◌, ◌+◌, ◌++◌, ℕ, true, false, not, List, [], ◌∷◌, take, length, get_or, bytes_eq, if◌then◌else◌, refl, sym, ap, ◌∙◌, subst, arith}
+use Rattle.std.proofs.Common.{◌≡◌, ◌<◌, ◌≤◌, ◌+◌, ◌++◌, ℕ, true, false, not, List, [], ◌∷◌, take, length, get_or, bytes_eq, if◌then◌else◌, refl, sym, ap, ◌∙◌, subst, arith}
+use Rattle.std.specs.List.{list_all}
+use Rattle.std.proofs.lemmas.Bool.{and_parts}
+use Rattle.std.proofs.lemmas.List.{take_all}
 use Rattle.fc_syntax.specs.declared.ty.Role.{Role}
 use Rattle.fc_syntax.specs.declared.expr.Binder as RustBinder
 use Rattle.fc_syntax.specs.View.{binder_of, binders_of}
 use Rattle.fc_syntax.specs.Tree.{Word, Kind, Ty, Binder, BValue, BType, BCo, Expr, ELam}
-use Rattle.fc_model.specs.Nameless.{NTy, NBinder, NBValue, NBType, NBCo, NExpr, NLam}
-use Rattle.fc_model.specs.NamelessView.{nbinder_of, nbinders_of}
+use Rattle.fc_model.specs.Formed.{binder_formed, is_empty_list, is_lower_word, named_words, nameless_words}
+use Rattle.fc_model.specs.Nameless.{NTy, NBinder, NExpr}
 use Rattle.fc_model.specs.Resolution.{Top, Locals, Value, Join, Words, WordSet, no_words, plus, plus_all, with_type, with_term, with_coercion, enter, enter_all, enter_values, enter_joins, is_new, with_binder}
 use Rattle.fc_model.specs.ResolutionRules.{AreDistinct, no_words_left, one_word_more, ResolvesBinder, ResolvesBinders, ResolvesExpr, resolves_value_binder, resolves_type_binder, resolves_coercion_binder, resolves_no_binders, resolves_binders, resolves_lambda}
+use Rattle.fc_model.specs.Worded.{WTy, WBinder, WExpr, bare_binder, bare_binders, bare_expr}
 use Rattle.fc_model.proofs.Sameness.{false_true}
 use Rattle.fc_used_words.specs.Scoped.{Counts, HoldsTys, HoldsBinder, HoldsBinders, HoldsExpr, in_binder, in_binders, in_type, in_value, in_coercion, nothing_around}
 use Rattle.fc_used_words.specs.Standing.{AreWithin, is_found, is_found_by, is_kept}
@@ -15,62 +19,77 @@ use Rattle.fc_used_words.proofs.Both.{below_binders, both_binder, both_binders, 
 use Rattle.fc_used_words.proofs.Collecting.{take_item}
 use Rattle.fc_used_words.proofs.Keeping.{by_test}
 use Rattle.fc_naming.specs.Groups.{IsGroup}
-use Rattle.fc_naming.specs.Named.{BelowUses, IsNamedBelow, IsNamedExpr, IsNamedTy, TakeWords, none_take, more_take, TakesWord, value_takes, type_takes, coercion_takes}
+use Rattle.fc_naming.specs.Named.{AreLower, BelowUses, IsChosen, IsNamedBelow, IsNamedExpr, IsNamedTy, TakeWords, none_take, more_take, TakesWord, value_takes, type_takes, coercion_takes}
+use Rattle.fc_naming.proofs.Lower.{and_keeps, both, chosen_lower, coercion_lower, end_keeps, term_lower, type_lower}
 use Rattle.fc_naming.proofs.Naming.{found_by, found_kept, takes_coercion, takes_type, takes_value}
 
 -- ONE BINDER
 
-pub named_value_binder : {top : Top} {s : Locals} {taken : Words} {set : WordSet} {v : Word} {a : NTy} {t : Ty} → taken.terms v ≡ false → IsNamedTy top s a t → set ≡ plus v taken.terms
-    → {c : NBinder} → c ≡ NBValue a → TakesWord top s taken c (BValue v t) (with_term (Value v) s) (record taken { terms = set })
-named_value_binder {top = top} {s = s} {taken = taken} {set = set} {v = v} {a = a} {t = t} free p is same =
-    subst (λ (c : NBinder). TakesWord top s taken c (BValue v t) (with_term (Value v) s) (record taken { terms = set })) (sym same) (subst (λ (x : WordSet). TakesWord top s taken (NBValue a) (BValue v t) (with_term (Value v) s) (record taken { terms = x })) (sym is) (value_takes free p))
+pub named_value_binder : {top : Top} {s : Locals} {taken : Words} {set : WordSet} {w v : Word} {a : WTy} {t : Ty} → IsChosen taken.terms w v → IsNamedTy top s a t → set ≡ plus v taken.terms
+    → {c : WBinder} → c ≡ BValue w a → TakesWord top s taken c (BValue v t) (with_term (Value v) s) (record taken { terms = set })
+named_value_binder {top = top} {s = s} {taken = taken} {set = set} {w = w} {v = v} {a = a} {t = t} i p is same =
+    subst (λ (c : WBinder). TakesWord top s taken c (BValue v t) (with_term (Value v) s) (record taken { terms = set })) (sym same)
+    (subst (λ (x : WordSet). TakesWord top s taken (BValue w a) (BValue v t) (with_term (Value v) s) (record taken { terms = x })) (sym is) (value_takes i.free (chosen_lower i) p))
 
-pub named_type_binder : {top : Top} {s : Locals} {taken : Words} {set : WordSet} {v : Word} {k : Kind} → taken.types v ≡ false → set ≡ plus v taken.types
-    → {c : NBinder} → c ≡ NBType k → TakesWord top s taken c (BType v k) (with_type v s) (record taken { types = set })
-named_type_binder {top = top} {s = s} {taken = taken} {set = set} {v = v} {k = k} free is same =
-    subst (λ (c : NBinder). TakesWord top s taken c (BType v k) (with_type v s) (record taken { types = set })) (sym same) (subst (λ (x : WordSet). TakesWord top s taken (NBType k) (BType v k) (with_type v s) (record taken { types = x })) (sym is) (type_takes free))
+pub named_type_binder : {top : Top} {s : Locals} {taken : Words} {set : WordSet} {w v : Word} {k : Kind} → IsChosen taken.types w v → set ≡ plus v taken.types
+    → {c : WBinder} → c ≡ BType w k → TakesWord top s taken c (BType v k) (with_type v s) (record taken { types = set })
+named_type_binder {top = top} {s = s} {taken = taken} {set = set} {w = w} {v = v} {k = k} i is same =
+    subst (λ (c : WBinder). TakesWord top s taken c (BType v k) (with_type v s) (record taken { types = set })) (sym same)
+    (subst (λ (x : WordSet). TakesWord top s taken (BType w k) (BType v k) (with_type v s) (record taken { types = x })) (sym is) (type_takes i.free (chosen_lower i)))
 
-pub named_coercion_binder : {top : Top} {s : Locals} {taken : Words} {set : WordSet} {v : Word} {r : Role} {a b : NTy} {t u : Ty} → taken.coercions v ≡ false → IsNamedTy top s a t → IsNamedTy top s b u
-    → set ≡ plus v taken.coercions → {c : NBinder} → c ≡ NBCo r a b → TakesWord top s taken c (BCo v r t u) (with_coercion v s) (record taken { coercions = set })
-named_coercion_binder {top = top} {s = s} {taken = taken} {set = set} {v = v} {r = r} {a = a} {b = b} {t = t} {u = u} free p q is same =
-    subst (λ (c : NBinder). TakesWord top s taken c (BCo v r t u) (with_coercion v s) (record taken { coercions = set })) (sym same) (subst (λ (x : WordSet). TakesWord top s taken (NBCo r a b) (BCo v r t u) (with_coercion v s) (record taken { coercions = x })) (sym is) (coercion_takes free p q))
+pub named_coercion_binder : {top : Top} {s : Locals} {taken : Words} {set : WordSet} {w v : Word} {r : Role} {a b : WTy} {t u : Ty} → IsChosen taken.coercions w v → IsNamedTy top s a t → IsNamedTy top s b u
+    → set ≡ plus v taken.coercions → {c : WBinder} → c ≡ BCo w r a b → TakesWord top s taken c (BCo v r t u) (with_coercion v s) (record taken { coercions = set })
+named_coercion_binder {top = top} {s = s} {taken = taken} {set = set} {w = w} {v = v} {r = r} {a = a} {b = b} {t = t} {u = u} i p q is same =
+    subst (λ (c : WBinder). TakesWord top s taken c (BCo v r t u) (with_coercion v s) (record taken { coercions = set })) (sym same)
+    (subst (λ (x : WordSet). TakesWord top s taken (BCo w r a b) (BCo v r t u) (with_coercion v s) (record taken { coercions = x })) (sym is) (coercion_takes i.free (chosen_lower i) p q))
 
 -- what is found below a binder without a word, is found below it with its word
 module _ (top : Top) where
-  word_expr : (s t : Locals) (taken more : Words) (c : NBinder) (b : Binder) → TakesWord top s taken c b t more → (cs : List NBinder) (l : Counts) (e : NExpr)
-      → HoldsExpr (is_found_by top taken s) (in_binders cs (in_binder c l)) e → HoldsExpr (is_found_by top more t) (in_binders cs l) e
-  word_expr s _ taken _ _ _ (value_takes {v = v} free p) cs l e h =
+  word_expr : (s t : Locals) (taken more : Words) (c : WBinder) (b : Binder) → TakesWord top s taken c b t more → (cs : List NBinder) (l : Counts) (e : NExpr)
+      → HoldsExpr (is_found_by top taken s) (in_binders cs (in_binder (bare_binder c) l)) e → HoldsExpr (is_found_by top more t) (in_binders cs l) e
+  word_expr s _ taken _ _ _ (value_takes {v = v} free low p) cs l e h =
       let f = takes_value top taken s v free in both_expr _ _ _ _ f _ _ (below_binders _ _ _ _ f (in_value l) l refl cs) e h h
-  word_expr s _ taken _ _ _ (type_takes {v = v} free) cs l e h =
+  word_expr s _ taken _ _ _ (type_takes {v = v} free low) cs l e h =
       let f = takes_type top taken s v free in both_expr _ _ _ _ f _ _ (below_binders _ _ _ _ f (in_type l) l refl cs) e h h
-  word_expr s _ taken _ _ _ (coercion_takes {v = v} free p q) cs l e h =
+  word_expr s _ taken _ _ _ (coercion_takes {v = v} free low p q) cs l e h =
       let f = takes_coercion top taken s v free in both_expr _ _ _ _ f _ _ (below_binders _ _ _ _ f (in_coercion l) l refl cs) e h h
 
-  word_tys : (s t : Locals) (taken more : Words) (c : NBinder) (b : Binder) → TakesWord top s taken c b t more → (cs : List NBinder) (l : Counts) (ts : List NTy)
-      → HoldsTys (is_found_by top taken s) (in_binders cs (in_binder c l)) ts → HoldsTys (is_found_by top more t) (in_binders cs l) ts
-  word_tys s _ taken _ _ _ (value_takes {v = v} free p) cs l ts h =
+  word_tys : (s t : Locals) (taken more : Words) (c : WBinder) (b : Binder) → TakesWord top s taken c b t more → (cs : List NBinder) (l : Counts) (ts : List NTy)
+      → HoldsTys (is_found_by top taken s) (in_binders cs (in_binder (bare_binder c) l)) ts → HoldsTys (is_found_by top more t) (in_binders cs l) ts
+  word_tys s _ taken _ _ _ (value_takes {v = v} free low p) cs l ts h =
       let f = takes_value top taken s v free in both_tys _ _ _ _ f _ _ (below_binders _ _ _ _ f (in_value l) l refl cs) ts h h
-  word_tys s _ taken _ _ _ (type_takes {v = v} free) cs l ts h =
+  word_tys s _ taken _ _ _ (type_takes {v = v} free low) cs l ts h =
       let f = takes_type top taken s v free in both_tys _ _ _ _ f _ _ (below_binders _ _ _ _ f (in_type l) l refl cs) ts h h
-  word_tys s _ taken _ _ _ (coercion_takes {v = v} free p q) cs l ts h =
+  word_tys s _ taken _ _ _ (coercion_takes {v = v} free low p q) cs l ts h =
       let f = takes_coercion top taken s v free in both_tys _ _ _ _ f _ _ (below_binders _ _ _ _ f (in_coercion l) l refl cs) ts h h
 
-  word_binders : (s t : Locals) (taken more : Words) (c : NBinder) (b : Binder) → TakesWord top s taken c b t more → (l : Counts) (cs : List NBinder)
-      → HoldsBinders (is_found_by top taken s) (in_binder c l) cs → HoldsBinders (is_found_by top more t) l cs
-  word_binders s _ taken _ _ _ (value_takes {v = v} free p) l cs h = both_binders _ _ _ _ (takes_value top taken s v free) (in_value l) l refl cs h h
-  word_binders s _ taken _ _ _ (type_takes {v = v} free) l cs h = both_binders _ _ _ _ (takes_type top taken s v free) (in_type l) l refl cs h h
-  word_binders s _ taken _ _ _ (coercion_takes {v = v} free p q) l cs h = both_binders _ _ _ _ (takes_coercion top taken s v free) (in_coercion l) l refl cs h h
+  word_binders : (s t : Locals) (taken more : Words) (c : WBinder) (b : Binder) → TakesWord top s taken c b t more → (l : Counts) (cs : List NBinder)
+      → HoldsBinders (is_found_by top taken s) (in_binder (bare_binder c) l) cs → HoldsBinders (is_found_by top more t) l cs
+  word_binders s _ taken _ _ _ (value_takes {v = v} free low p) l cs h = both_binders _ _ _ _ (takes_value top taken s v free) (in_value l) l refl cs h h
+  word_binders s _ taken _ _ _ (type_takes {v = v} free low) l cs h = both_binders _ _ _ _ (takes_type top taken s v free) (in_type l) l refl cs h h
+  word_binders s _ taken _ _ _ (coercion_takes {v = v} free low p q) l cs h = both_binders _ _ _ _ (takes_coercion top taken s v free) (in_coercion l) l refl cs h h
 
   -- the binder with its word is that of the binder without
-  word_resolves : (s t : Locals) (taken more : Words) (c : NBinder) (b : Binder) → TakesWord top s taken c b t more → HoldsBinder (is_found top s) nothing_around c → ResolvesBinder top s b c
-  word_resolves s _ taken _ _ _ (value_takes free p) h = resolves_value_binder (p.resolves h)
-  word_resolves s _ taken _ _ _ (type_takes free) h = resolves_type_binder
-  word_resolves s _ taken _ _ _ (coercion_takes free p q) h = resolves_coercion_binder (p.resolves h.0) (q.resolves h.1)
+  word_resolves : (s t : Locals) (taken more : Words) (c : WBinder) (b : Binder) → TakesWord top s taken c b t more → HoldsBinder (is_found top s) nothing_around (bare_binder c) → ResolvesBinder top s b (bare_binder c)
+  word_resolves s _ taken _ _ _ (value_takes free low p) h = resolves_value_binder (p.resolves h)
+  word_resolves s _ taken _ _ _ (type_takes free low) h = resolves_type_binder
+  word_resolves s _ taken _ _ _ (coercion_takes free low p q) h = resolves_coercion_binder (p.resolves h.0) (q.resolves h.1)
 
-  word_enters : (s t : Locals) (taken more : Words) (c : NBinder) (b : Binder) → TakesWord top s taken c b t more → enter b s ≡ t
-  word_enters s _ taken _ _ _ (value_takes free p) = refl
-  word_enters s _ taken _ _ _ (type_takes free) = refl
-  word_enters s _ taken _ _ _ (coercion_takes free p q) = refl
+  word_enters : (s t : Locals) (taken more : Words) (c : WBinder) (b : Binder) → TakesWord top s taken c b t more → enter b s ≡ t
+  word_enters s _ taken _ _ _ (value_takes free low p) = refl
+  word_enters s _ taken _ _ _ (type_takes free low) = refl
+  word_enters s _ taken _ _ _ (coercion_takes free low p q) = refl
+
+  -- and of the text form, if what it was read from is
+  pub word_formed : {s t : Locals} {taken more : Words} {c : WBinder} {b : Binder} → TakesWord top s taken c b t more → AreLower s → binder_formed nameless_words c ≡ true → binder_formed named_words b ≡ true
+  word_formed (value_takes free low p) l = and_keeps low (p.formed l)
+  word_formed (type_takes free low) l = low
+  word_formed (coercion_takes free low p q) l = and_keeps low (and_keeps (λ h. h) (and_keeps (p.formed l) (q.formed l)))
+
+  pub word_lower : {s t : Locals} {taken more : Words} {c : WBinder} {b : Binder} → TakesWord top s taken c b t more → AreLower s → binder_formed nameless_words c ≡ true → AreLower t
+  word_lower (value_takes {v = v} free low p) l h = term_lower (Value v) l (low (and_parts _ _ h).0)
+  word_lower (type_takes free low) l h = type_lower l (low h)
+  word_lower (coercion_takes free low p q) l h = coercion_lower l (low (and_parts _ _ h).0)
 
   -- SETS
 
@@ -82,87 +101,99 @@ module _ (top : Top) where
       by_test (bytes_eq v w) (λ e. ap (λ b. if b then true else taken w) e)
       (λ e. ap (λ b. if b then true else taken w) e ∙ within w (sym (ap (λ b. if b then true else set w) e) ∙ h))
 
-  word_new : (s t : Locals) (taken more : Words) (c : NBinder) (b : Binder) → TakesWord top s taken c b t more → (ws : Words) → AreWithin ws taken → is_new b ws ≡ true
-  word_new s _ taken _ _ _ (value_takes {v = v} free p) ws within = is_free ws.terms taken.terms v within.terms free
-  word_new s _ taken _ _ _ (type_takes {v = v} free) ws within = is_free ws.types taken.types v within.types free
-  word_new s _ taken _ _ _ (coercion_takes {v = v} free p q) ws within = is_free ws.coercions taken.coercions v within.coercions free
+  word_new : (s t : Locals) (taken more : Words) (c : WBinder) (b : Binder) → TakesWord top s taken c b t more → (ws : Words) → AreWithin ws taken → is_new b ws ≡ true
+  word_new s _ taken _ _ _ (value_takes {v = v} free low p) ws within = is_free ws.terms taken.terms v within.terms free
+  word_new s _ taken _ _ _ (type_takes {v = v} free low) ws within = is_free ws.types taken.types v within.types free
+  word_new s _ taken _ _ _ (coercion_takes {v = v} free low p q) ws within = is_free ws.coercions taken.coercions v within.coercions free
 
-  word_within : (s t : Locals) (taken more : Words) (c : NBinder) (b : Binder) → TakesWord top s taken c b t more → (ws : Words) → AreWithin ws taken → AreWithin (with_binder b ws) more
-  word_within s _ taken _ _ _ (value_takes {v = v} free p) ws within = record { types = within.types; terms = plus_within ws.terms taken.terms v within.terms; coercions = within.coercions }
-  word_within s _ taken _ _ _ (type_takes {v = v} free) ws within = record { types = plus_within ws.types taken.types v within.types; terms = within.terms; coercions = within.coercions }
-  word_within s _ taken _ _ _ (coercion_takes {v = v} free p q) ws within = record { types = within.types; terms = within.terms; coercions = plus_within ws.coercions taken.coercions v within.coercions }
+  word_within : (s t : Locals) (taken more : Words) (c : WBinder) (b : Binder) → TakesWord top s taken c b t more → (ws : Words) → AreWithin ws taken → AreWithin (with_binder b ws) more
+  word_within s _ taken _ _ _ (value_takes {v = v} free low p) ws within = record { types = within.types; terms = plus_within ws.terms taken.terms v within.terms; coercions = within.coercions }
+  word_within s _ taken _ _ _ (type_takes {v = v} free low) ws within = record { types = plus_within ws.types taken.types v within.types; terms = within.terms; coercions = within.coercions }
+  word_within s _ taken _ _ _ (coercion_takes {v = v} free low p q) ws within = record { types = within.types; terms = within.terms; coercions = plus_within ws.coercions taken.coercions v within.coercions }
 
   -- SOME BINDERS
 
-  pub words_expr : (s t : Locals) (taken more : Words) (cs : List NBinder) (bs : List Binder) → TakeWords top s taken cs bs t more → (e : NExpr)
-      → HoldsExpr (is_found_by top taken s) (in_binders cs nothing_around) e → HoldsExpr (is_found top t) nothing_around e
+  pub words_expr : (s t : Locals) (taken more : Words) (cs : List WBinder) (bs : List Binder) → TakeWords top s taken cs bs t more → (e : NExpr)
+      → HoldsExpr (is_found_by top taken s) (in_binders (bare_binders cs) nothing_around) e → HoldsExpr (is_found top t) nothing_around e
   words_expr s _ taken _ _ _ none_take e h = both_expr _ _ _ _ (found_by top taken s) nothing_around nothing_around refl e h h
-  words_expr s _ taken _ _ _ (more_take {cs = cs} d rest) e h = words_expr _ _ _ _ _ _ rest e (word_expr _ _ _ _ _ _ d cs nothing_around e h)
+  words_expr s _ taken _ _ _ (more_take {cs = cs} d rest) e h = words_expr _ _ _ _ _ _ rest e (word_expr _ _ _ _ _ _ d (bare_binders cs) nothing_around e h)
 
-  pub words_tys : (s t : Locals) (taken more : Words) (cs : List NBinder) (bs : List Binder) → TakeWords top s taken cs bs t more → (ts : List NTy)
-      → HoldsTys (is_found_by top taken s) (in_binders cs nothing_around) ts → HoldsTys (is_found top t) nothing_around ts
+  pub words_tys : (s t : Locals) (taken more : Words) (cs : List WBinder) (bs : List Binder) → TakeWords top s taken cs bs t more → (ts : List NTy)
+      → HoldsTys (is_found_by top taken s) (in_binders (bare_binders cs) nothing_around) ts → HoldsTys (is_found top t) nothing_around ts
   words_tys s _ taken _ _ _ none_take ts h = both_tys _ _ _ _ (found_by top taken s) nothing_around nothing_around refl ts h h
-  words_tys s _ taken _ _ _ (more_take {cs = cs} d rest) ts h = words_tys _ _ _ _ _ _ rest ts (word_tys _ _ _ _ _ _ d cs nothing_around ts h)
+  words_tys s _ taken _ _ _ (more_take {cs = cs} d rest) ts h = words_tys _ _ _ _ _ _ rest ts (word_tys _ _ _ _ _ _ d (bare_binders cs) nothing_around ts h)
 
-  pub words_enter : (s t : Locals) (taken more : Words) (cs : List NBinder) (bs : List Binder) → TakeWords top s taken cs bs t more → enter_all bs s ≡ t
+  pub words_enter : (s t : Locals) (taken more : Words) (cs : List WBinder) (bs : List Binder) → TakeWords top s taken cs bs t more → enter_all bs s ≡ t
   words_enter s _ taken _ _ _ none_take = refl
   words_enter s _ taken _ _ _ (more_take {bs = bs} d rest) = ap (enter_all bs) (word_enters _ _ _ _ _ _ d) ∙ words_enter _ _ _ _ _ _ rest
 
-  pub words_resolve : (s t : Locals) (taken more : Words) (cs : List NBinder) (bs : List Binder) → TakeWords top s taken cs bs t more → (ws : Words) → AreWithin ws taken
-      → HoldsBinders (is_found_by top taken s) nothing_around cs → ResolvesBinders top s ws bs cs
+  pub words_resolve : (s t : Locals) (taken more : Words) (cs : List WBinder) (bs : List Binder) → TakeWords top s taken cs bs t more → (ws : Words) → AreWithin ws taken
+      → HoldsBinders (is_found_by top taken s) nothing_around (bare_binders cs) → ResolvesBinders top s ws bs (bare_binders cs)
   words_resolve s _ taken _ _ _ none_take ws within h = resolves_no_binders
   words_resolve s _ taken _ _ _ (more_take {c = c} {b = b} {cs = cs} {bs = bs} d rest) ws within h =
       resolves_binders (word_new _ _ _ _ _ _ d ws within)
-      (word_resolves _ _ _ _ _ _ d (both_binder _ _ _ _ (found_by top taken s) nothing_around nothing_around refl c h.0 h.0))
-      (subst (λ (z : Locals). ResolvesBinders top z (with_binder b ws) bs cs) (sym (word_enters _ _ _ _ _ _ d))
-      (words_resolve _ _ _ _ _ _ rest (with_binder b ws) (word_within _ _ _ _ _ _ d ws within) (word_binders _ _ _ _ _ _ d nothing_around cs h.1)))
+      (word_resolves _ _ _ _ _ _ d (both_binder _ _ _ _ (found_by top taken s) nothing_around nothing_around refl (bare_binder c) h.0 h.0))
+      (subst (λ (z : Locals). ResolvesBinders top z (with_binder b ws) bs (bare_binders cs)) (sym (word_enters _ _ _ _ _ _ d))
+      (words_resolve _ _ _ _ _ _ rest (with_binder b ws) (word_within _ _ _ _ _ _ d ws within) (word_binders _ _ _ _ _ _ d nothing_around (bare_binders cs) h.1)))
+
+  pub words_formed : {s t : Locals} {taken more : Words} {cs : List WBinder} {bs : List Binder} → TakeWords top s taken cs bs t more → AreLower s → list_all (binder_formed nameless_words) cs ≡ true
+      → (list_all (binder_formed named_words) bs ≡ true) × AreLower t
+  words_formed none_take l h = (refl, l)
+  words_formed (more_take d rest) l h =
+      let k = and_parts _ _ h in
+      let r = words_formed rest (word_lower d l k.0) k.1 in
+      (both (word_formed d l k.0) r.0, r.1)
+
+  words_none : {s t : Locals} {taken more : Words} {cs : List WBinder} {bs : List Binder} → TakeWords top s taken cs bs t more → is_empty_list cs ≡ true → is_empty_list bs ≡ true
+  words_none none_take h = h
+  words_none (more_take d rest) h = h
 
 pub none_within : (ws : Words) → AreWithin no_words ws
 none_within ws = record { types = λ w h. false_true h; terms = λ w h. false_true h; coercions = λ w h. false_true h }
 
-pub named_below : {top : Top} {s t : Locals} {taken more : Words} {cs : List NBinder} {bs : List Binder} {e : NExpr} {f : Expr} → BelowUses top.own s cs e taken → TakeWords top s taken cs bs t more
-    → IsNamedExpr top t e f → IsNamedBelow top s cs e bs f
+pub named_below : {top : Top} {s t : Locals} {taken more : Words} {cs : List WBinder} {bs : List Binder} {e : WExpr} {f : Expr} → BelowUses top.own s (bare_binders cs) (bare_expr e) taken
+    → TakeWords top s taken cs bs t more → IsNamedExpr top t e f → IsNamedBelow top s cs e bs f
 named_below {top = top} {s = s} {t = t} {taken = taken} {more = more} {cs = cs} {bs = bs} {e = e} {f = f} u d n = record {
-  binders = λ h g. words_resolve top s t taken more cs bs d no_words (none_within taken) (both_binders _ _ _ _ (found_kept top taken s) nothing_around nothing_around refl cs h u.binders);
-  body = λ h g. subst (λ (z : Locals). ResolvesExpr top z f e) (sym (words_enter top s t taken more cs bs d))
-      (n.resolves (words_expr top s t taken more cs bs d e (both_expr _ _ _ _ (found_kept top taken s) _ _ refl e g u.body)));
+  binders = λ h g. words_resolve top s t taken more cs bs d no_words (none_within taken) (both_binders _ _ _ _ (found_kept top taken s) nothing_around nothing_around refl (bare_binders cs) h u.binders);
+  body = λ h g. subst (λ (z : Locals). ResolvesExpr top z f (bare_expr e)) (sym (words_enter top s t taken more cs bs d))
+      (n.resolves (words_expr top s t taken more cs bs d (bare_expr e) (both_expr _ _ _ _ (found_kept top taken s) _ _ refl (bare_expr e) g u.body)));
+  binders_formed = λ l. record { none = words_none top d; formed = λ h. (words_formed top d l h).0 };
+  body_formed = λ l h. n.formed (words_formed top d l h).1;
 }
 
-pub named_lambda : {top : Top} {s t : Locals} {taken more : Words} {c : NBinder} {b : Binder} {e : NExpr} {f : Expr} → HoldsExpr (is_kept top.own taken s) (in_binder c nothing_around) e
-    → TakesWord top s taken c b t more → IsNamedExpr top t e f → IsNamedExpr top s (NLam c e) (ELam b f)
+pub named_lambda : {top : Top} {s t : Locals} {taken more : Words} {c : WBinder} {b : Binder} {e : WExpr} {f : Expr} → HoldsExpr (is_kept top.own taken s) (in_binder (bare_binder c) nothing_around) (bare_expr e)
+    → TakesWord top s taken c b t more → IsNamedExpr top t e f → IsNamedExpr top s (ELam c e) (ELam b f)
 named_lambda {top = top} {s = s} {t = t} {taken = taken} {more = more} {c = c} {b = b} {e = e} {f = f} kept d n = record {
   resolves = λ h.
-      let found = both_expr _ _ _ _ (found_kept top taken s) (in_binder c nothing_around) (in_binder c nothing_around) refl e h.1 kept in
-      resolves_lambda (word_resolves top s t taken more c b d h.0) (subst (λ (z : Locals). ResolvesExpr top z f e) (sym (word_enters top s t taken more c b d))
-      (n.resolves (words_expr top s t taken more (c ∷ []) (b ∷ []) (more_take d none_take) e found)));
+      let around = in_binder (bare_binder c) nothing_around in
+      let found = both_expr _ _ _ _ (found_kept top taken s) around around refl (bare_expr e) h.1 kept in
+      resolves_lambda (word_resolves top s t taken more c b d h.0) (subst (λ (z : Locals). ResolvesExpr top z f (bare_expr e)) (sym (word_enters top s t taken more c b d))
+      (n.resolves (words_expr top s t taken more (c ∷ []) (b ∷ []) (more_take d none_take) (bare_expr e) found)));
+  formed = λ l h. let k = and_parts _ _ h in both (word_formed top d l k.0) (n.formed (word_lower top d l k.0) k.1);
 }
 
 -- BINDERS THAT ARE NAMED IN A LOOP
 
 pub take_start : {top : Top} (s t : Locals) (taken : Words) (items : List (RustBinder.Binder ℕ)) (out : List (RustBinder.Binder Word)) → out ≡ [] → t ≡ s
-    → TakeWords top s taken (nbinders_of (take 0 items)) (binders_of out) t taken
+    → TakeWords top s taken (binders_of (take 0 items)) (binders_of out) t taken
 take_start {top = top} s t taken items out e same =
     subst (λ (bs : List (RustBinder.Binder Word)). TakeWords top s taken [] (binders_of bs) t taken) (sym e) (subst (λ (z : Locals). TakeWords top s taken [] [] z taken) (sym same) none_take)
 
-take_end : {top : Top} {s t u : Locals} {taken more last : Words} {cs : List NBinder} {bs : List Binder} {c : NBinder} {b : Binder} → TakeWords top s taken cs bs t more → TakesWord top t more c b u last
+take_end : {top : Top} {s t u : Locals} {taken more last : Words} {cs : List WBinder} {bs : List Binder} {c : WBinder} {b : Binder} → TakeWords top s taken cs bs t more → TakesWord top t more c b u last
     → TakeWords top s taken (cs ++ c ∷ []) (bs ++ b ∷ []) u last
 take_end none_take d = more_take d none_take
 take_end (more_take x rest) d = more_take x (take_end rest d)
 
-nbinders_end : (items : List (RustBinder.Binder ℕ)) (x : RustBinder.Binder ℕ) → nbinders_of (items ++ x ∷ []) ≡ nbinders_of items ++ nbinder_of x ∷ []
-nbinders_end [] x = refl
-nbinders_end (y ∷ items) x = ap (λ z. nbinder_of y ∷ z) (nbinders_end items x)
-
-binders_end : (items : List (RustBinder.Binder Word)) (x : RustBinder.Binder Word) → binders_of (items ++ x ∷ []) ≡ binders_of items ++ binder_of x ∷ []
+binders_end : {L : Type 0} (items : List (RustBinder.Binder L)) (x : RustBinder.Binder L) → binders_of (items ++ x ∷ []) ≡ binders_of items ++ binder_of x ∷ []
 binders_end [] x = refl
 binders_end (y ∷ items) x = ap (λ z. binder_of y ∷ z) (binders_end items x)
 
 pub take_step : (top : Top) (s t u : Locals) (taken more last : Words) (items : List (RustBinder.Binder ℕ)) (i : ℕ) (x : RustBinder.Binder ℕ) (out longer : List (RustBinder.Binder Word)) (y : RustBinder.Binder Word)
-    → i < length items → x ≡ get_or items i x → TakeWords top s taken (nbinders_of (take i items)) (binders_of out) t more → TakesWord top t more (nbinder_of x) (binder_of y) u last
-    → longer ≡ out ++ y ∷ [] → TakeWords top s taken (nbinders_of (take (i + 1) items)) (binders_of longer) u last
+    → i < length items → x ≡ get_or items i x → TakeWords top s taken (binders_of (take i items)) (binders_of out) t more → TakesWord top t more (binder_of x) (binder_of y) u last
+    → longer ≡ out ++ y ∷ [] → TakeWords top s taken (binders_of (take (i + 1) items)) (binders_of longer) u last
 take_step top s t u taken more last items i x out longer y low is so_far d pushed =
-    subst (λ (cs : List NBinder). TakeWords top s taken cs (binders_of longer) u last) (sym (ap nbinders_of (take_item items i x low is) ∙ nbinders_end (take i items) x))
-    (subst (λ (bs : List Binder). TakeWords top s taken (nbinders_of (take i items) ++ nbinder_of x ∷ []) bs u last) (sym (ap binders_of pushed ∙ binders_end out y)) (take_end so_far d))
+    subst (λ (cs : List WBinder). TakeWords top s taken cs (binders_of longer) u last) (sym (ap binders_of (take_item items i x low is) ∙ binders_end (take i items) x))
+    (subst (λ (bs : List Binder). TakeWords top s taken (binders_of (take i items) ++ binder_of x ∷ []) bs u last) (sym (ap binders_of pushed ∙ binders_end out y)) (take_end so_far d))
 
 -- GROUPS
 
@@ -186,22 +217,36 @@ length_end : {X : Type 0} (xs : List X) (x : X) → length (xs ++ x ∷ []) ≡ 
 length_end [] x = refl
 length_end (y ∷ xs) x = let r = length_end xs x in omega arith
 
-pub group_start : (taken : WordSet) (words names : List Word) → words ≡ [] → names ≡ [] → IsGroup taken 0 words names taken
-group_start taken words names e f = subst (λ (ws : List Word). IsGroup taken 0 ws names taken) (sym e) (subst (λ (ns : List Word). IsGroup taken 0 [] ns taken) (sym f) (record {
-  distinct = no_words_left;
-  counted = refl;
-  values = λ s. refl;
-  joins = λ s. refl;
-  taken_then = refl;
-}))
-
-pub group_step : (taken mid more : WordSet) (i : ℕ) (words longer names further : List Word) (v : Word) → IsGroup taken i words names mid → mid v ≡ false → more ≡ plus v mid → longer ≡ words ++ v ∷ []
-    → further ≡ v ∷ names → IsGroup taken (i + 1) longer further more
-group_step taken mid more i words longer names further v g free grown pushed added =
-    subst (λ (ws : List Word). IsGroup taken (i + 1) ws further more) (sym pushed) (subst (λ (ns : List Word). IsGroup taken (i + 1) (words ++ v ∷ []) ns more) (sym added) (record {
-      distinct = distinct_end taken words v g.distinct (ap (λ (x : WordSet). x v) (sym g.taken_then) ∙ free);
-      counted = length_end words v ∙ ap (λ n. n + 1) g.counted;
-      values = λ s. ap (with_term (Value v)) (g.values s) ∙ sym (values_end s words v);
-      joins = λ s. ap (with_term (Join v)) (g.joins s) ∙ sym (joins_end s words v);
-      taken_then = grown ∙ ap (plus v) g.taken_then ∙ sym (plus_all_end taken words v);
+pub group_start : {X : Type 0} (taken : WordSet) (items : List X) (hint : X → Word) (words names : List Word) → words ≡ [] → names ≡ [] → IsGroup taken (take 0 items) hint words names taken
+group_start taken items hint words names e f =
+    subst (λ (ws : List Word). IsGroup taken (take 0 items) hint ws names taken) (sym e) (subst (λ (ns : List Word). IsGroup taken (take 0 items) hint [] ns taken) (sym f) (record {
+      distinct = no_words_left;
+      counted = refl;
+      lower = λ h. refl;
+      values = λ s. refl;
+      joins = λ s. refl;
+      taken_then = refl;
     }))
+
+group_end : {X : Type 0} {hint : X → Word} {taken mid : WordSet} (items : List X) {words names : List Word} (x : X) (v : Word) → IsGroup taken items hint words names mid → IsChosen mid (hint x) v
+    → IsGroup taken (items ++ x ∷ []) hint (words ++ v ∷ []) (v ∷ names) (plus v mid)
+group_end {hint = hint} {taken = taken} items {words = words} x v g c = record {
+  distinct = distinct_end taken words v g.distinct (ap (λ (z : WordSet). z v) (sym g.taken_then) ∙ c.free);
+  counted = length_end words v ∙ ap (λ n. n + 1) g.counted ∙ sym (length_end items x);
+  lower = end_keeps (λ y. is_lower_word (hint y)) is_lower_word items x words v g.lower (chosen_lower c);
+  values = λ s. ap (with_term (Value v)) (g.values s) ∙ sym (values_end s words v);
+  joins = λ s. ap (with_term (Join v)) (g.joins s) ∙ sym (joins_end s words v);
+  taken_then = ap (plus v) g.taken_then ∙ sym (plus_all_end taken words v);
+}
+
+pub group_step : {X : Type 0} (taken mid more : WordSet) (items : List X) (hint : X → Word) (i : ℕ) (x : X) (words longer names further : List Word) (v : Word) → i < length items → x ≡ get_or items i x
+    → IsGroup taken (take i items) hint words names mid → IsChosen mid (hint x) v → more ≡ plus v mid → longer ≡ words ++ v ∷ [] → further ≡ v ∷ names → IsGroup taken (take (i + 1) items) hint longer further more
+group_step {X = X} taken mid more items hint i x words longer names further v low is g c grown pushed added =
+    subst (λ (xs : List X). IsGroup taken xs hint longer further more) (sym (take_item items i x low is))
+    (subst (λ (ws : List Word). IsGroup taken (take i items ++ x ∷ []) hint ws further more) (sym pushed)
+    (subst (λ (ns : List Word). IsGroup taken (take i items ++ x ∷ []) hint (words ++ v ∷ []) ns more) (sym added)
+    (subst (λ (z : WordSet). IsGroup taken (take i items ++ x ∷ []) hint (words ++ v ∷ []) (v ∷ names) z) (sym grown) (group_end (take i items) x v g c))))
+
+pub group_all : {X : Type 0} {hint : X → Word} {taken more : WordSet} {words names : List Word} (items : List X) (i : ℕ) → length items ≤ i → IsGroup taken (take i items) hint words names more
+    → IsGroup taken items hint words names more
+group_all {X = X} {hint = hint} {taken = taken} {more = more} {words = words} {names = names} items i h g = subst (λ (xs : List X). IsGroup taken xs hint words names more) (take_all i items h) g

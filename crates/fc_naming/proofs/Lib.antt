@@ -1,5 +1,6 @@
 pub mod Each
 pub mod Groups
+pub mod Lower
 pub mod Modules
 pub mod NamedDeclarations
 pub mod NamedExpressions

@@ -1,7 +1,6 @@
 //! The binders of an alternative, a join point or a constructor, and the members of groups, with the words that they take.
-ghost use Rattle.std.specs.Prelude.{◌≡◌, length, IfOk, OnOk};
+ghost use Rattle.std.specs.Prelude.{◌≡◌, IfOk, OnOk};
 ghost use Rattle.fc_syntax.specs.View.{binder_of, binders_of};
-ghost use Rattle.fc_model.specs.NamelessView.{nbinder_of, nbinders_of};
 ghost use Rattle.fc_model.specs.Resolution.{Locals, enter};
 ghost use Rattle.fc_model.specs.WordSets.{set_of};
 ghost use Rattle.fc_model.specs.DeclaredWords.{top_by, words_by_space};
@@ -25,7 +24,7 @@ pub fn named_binder<'x>(
     scope: &'x Scope<'x>,
     taken: &mut Spaces,
 ) -> Result<Binder, NotNamed>
-    ensures { IfOk result (λ b. TakesWord (top_by top.now) (locals_of scope.now) (words_by_space taken.old) (nbinder_of binder.now) (binder_of b) (enter (binder_of b) (locals_of scope.now)) (words_by_space taken.new)) }
+    ensures { IfOk result (λ b. TakesWord (top_by top.now) (locals_of scope.now) (words_by_space taken.old) (binder_of binder.now) (binder_of b) (enter (binder_of b) (locals_of scope.now)) (words_by_space taken.new)) }
 {
     match binder {
         NBinder::Value(hint, t) => {
@@ -75,7 +74,7 @@ pub fn named_binders<'x>(
     scope: &'x Scope<'x>,
     taken: &mut Spaces,
 ) -> Result<Named, NotNamed>
-    ensures { IfOk result (λ r. TakeWords (top_by top.now) (locals_of scope.now) (words_by_space taken.old) (nbinders_of binders.now) (binders_of r.binders) (with_binders r.words (locals_of scope.now)) (words_by_space taken.new)) }
+    ensures { IfOk result (λ r. TakeWords (top_by top.now) (locals_of scope.now) (words_by_space taken.old) (binders_of binders.now) (binders_of r.binders) (with_binders r.words (locals_of scope.now)) (words_by_space taken.new)) }
 {
     let mut words = Binders::new(alloc);
     let mut out = Seq::new(alloc);
@@ -102,7 +101,7 @@ pub struct Group {
 
 /// The words of binds, each not taken by a name in its scope or by a bind before it.
 pub fn bind_group(alloc: Global, binds: &[NBind], taken: &mut WordSet) -> Result<Group, NotNamed>
-    ensures { IfOk result (λ r. IsGroup (set_of taken.old) (length binds.now) r.words r.names (set_of taken.new)) }
+    ensures { IfOk result (λ r. IsGroup (set_of taken.old) binds.now (λ b. b.name) r.words r.names (set_of taken.new)) }
 {
     let mut words = Seq::new(alloc);
     let mut names = Names::new(alloc);
@@ -120,7 +119,7 @@ pub fn join_group(
     joins: &[NJoinBind],
     taken: &mut WordSet,
 ) -> Result<Group, NotNamed>
-    ensures { IfOk result (λ r. IsGroup (set_of taken.old) (length joins.now) r.words r.names (set_of taken.new)) }
+    ensures { IfOk result (λ r. IsGroup (set_of taken.old) joins.now (λ j. j.name) r.words r.names (set_of taken.new)) }
 {
     let mut words = Seq::new(alloc);
     let mut names = Names::new(alloc);

@@ -1,7 +1,7 @@
 //! Coercions with words for their binders.
 ghost use Rattle.std.specs.Prelude.{◌≡◌, slice_get, IfOk};
 ghost use Rattle.fc_syntax.specs.View.{co_of, cos_of};
-ghost use Rattle.fc_model.specs.NamelessView.{nco_of, ncos_of};
+ghost use Rattle.fc_model.specs.NamelessView.{nco_of};
 ghost use Rattle.fc_model.specs.DeclaredWords.{top_by};
 ghost use Rattle.fc_scope.specs.ScopeWords.{locals_of};
 ghost use Rattle.fc_naming.specs.Named.{IsNamedCo, IsNamedCos, MayTakeCo};
@@ -37,7 +37,7 @@ fn word_around<'x>(
     scope: &'x Scope<'x>,
     hint: &Text,
 ) -> Result<Text, NotNamed>
-    ensures { IfOk result (λ v. MayTakeCo (top_by top.now) (locals_of scope.now) v (nco_of g.now)) }
+    ensures { IfOk result (λ v. MayTakeCo (top_by top.now) (locals_of scope.now) hint.now v (nco_of g.now)) }
 {
     let mut used = Spaces::new(alloc);
     let inside = Inside::new().in_type()?;
@@ -55,7 +55,7 @@ pub fn named_co<'x>(
     top: &Declared,
     scope: &'x Scope<'x>,
 ) -> Result<Co, NotNamed>
-    ensures { IfOk result (λ r. IsNamedCo (top_by top.now) (locals_of scope.now) (nco_of g.now) (co_of r)) }
+    ensures { IfOk result (λ r. IsNamedCo (top_by top.now) (locals_of scope.now) (co_of g.now) (co_of r)) }
 {
     match g {
         NCo::Var(distance) => Ok(Co::Var(coercion_variable(alloc, &*scope, *distance)?)),
@@ -140,7 +140,7 @@ fn named_cos<'x>(
     top: &Declared,
     scope: &'x Scope<'x>,
 ) -> Result<Seq<Co>, NotNamed>
-    ensures { IfOk result (λ r. IsNamedCos (top_by top.now) (locals_of scope.now) (ncos_of gs.now) (cos_of r)) }
+    ensures { IfOk result (λ r. IsNamedCos (top_by top.now) (locals_of scope.now) (cos_of gs.now) (cos_of r)) }
 {
     let mut out = Seq::new(alloc);
     for g in gs {

@@ -1,7 +1,7 @@
 //! Declarations with words for their binders.
 ghost use Rattle.std.specs.Prelude.{IfOk};
 ghost use Rattle.fc_syntax.specs.View.{con_of, cons_of, decl_of, decls_of};
-ghost use Rattle.fc_model.specs.NamelessView.{nbinders_of, ncon_of, ncons_of, ndecl_of, ndecls_of, ntys_of};
+ghost use Rattle.fc_model.specs.NamelessView.{nbinders_of, ntys_of};
 ghost use Rattle.fc_model.specs.DeclaredWords.{top_by, words_by_space};
 ghost use Rattle.fc_scope.specs.ScopeWords.{locals_of};
 ghost use Rattle.fc_naming.specs.Declarations.{FieldsUse, IsNamedCon, IsNamedCons, IsNamedDecl, IsNamedDecls};
@@ -54,7 +54,7 @@ fn named_con<'x>(
     top: &Declared,
     scope: &'x Scope<'x>,
 ) -> Result<ConDecl, NotNamed>
-    ensures { IfOk result (λ r. IsNamedCon (top_by top.now) (locals_of scope.now) (ncon_of con.now) (con_of r)) }
+    ensures { IfOk result (λ r. IsNamedCon (top_by top.now) (locals_of scope.now) (con_of con.now) (con_of r)) }
 {
     let mut taken = used_in_con(alloc, con, top, &*scope)?;
     let named = named_binders(alloc, con.binders.as_slice(), top, &*scope, &mut taken)?;
@@ -76,7 +76,7 @@ fn named_cons<'x>(
     top: &Declared,
     scope: &'x Scope<'x>,
 ) -> Result<Seq<ConDecl>, NotNamed>
-    ensures { IfOk result (λ r. IsNamedCons (top_by top.now) (locals_of scope.now) (ncons_of cons.now) (cons_of r)) }
+    ensures { IfOk result (λ r. IsNamedCons (top_by top.now) (locals_of scope.now) (cons_of cons.now) (cons_of r)) }
 {
     let mut out = Seq::new(alloc);
     for con in cons {
@@ -90,7 +90,7 @@ fn named_cons<'x>(
 
 /// A declaration with words for its parameters and binders.
 fn named_decl(alloc: Global, decl: &NDecl, top: &Declared) -> Result<Decl, NotNamed>
-    ensures { IfOk result (λ r. IsNamedDecl (top_by top.now) (ndecl_of decl.now) (decl_of r)) }
+    ensures { IfOk result (λ r. IsNamedDecl (top_by top.now) (decl_of decl.now) (decl_of r)) }
 {
     let none = Scope::End;
     match decl {
@@ -144,7 +144,7 @@ fn named_decl(alloc: Global, decl: &NDecl, top: &Declared) -> Result<Decl, NotNa
 
 /// Declarations with words for their parameters and binders.
 pub fn named_decls(alloc: Global, decls: &[NDecl], top: &Declared) -> Result<Seq<Decl>, NotNamed>
-    ensures { IfOk result (λ r. IsNamedDecls (top_by top.now) (ndecls_of decls.now) (decls_of r)) }
+    ensures { IfOk result (λ r. IsNamedDecls (top_by top.now) (decls_of decls.now) (decls_of r)) }
 {
     let mut out = Seq::new(alloc);
     for decl in decls {

@@ -1,8 +1,7 @@
 //! Expressions with words for their binders.
 ghost use Rattle.std.specs.Prelude.{◌≡◌, if◌then◌else◌, length, IfOk};
-ghost use Rattle.fc_syntax.specs.View.{alts_of, arg_of, args_of, binders_of, binds_of, expr_of, exprs_of, joins_of};
-ghost use Rattle.fc_model.specs.Nameless.{NLam};
-ghost use Rattle.fc_model.specs.NamelessView.{nalts_of, narg_of, nargs_of, nbinder_of, nbinders_of, nbinds_of, nexpr_of, nexprs_of, njoins_of};
+ghost use Rattle.fc_syntax.specs.Tree.{ELam};
+ghost use Rattle.fc_syntax.specs.View.{alts_of, arg_of, args_of, binder_of, binders_of, binds_of, expr_of, exprs_of, joins_of};
 ghost use Rattle.fc_model.specs.Resolution.{bind_words, join_words};
 ghost use Rattle.fc_model.specs.DeclaredWords.{top_by};
 ghost use Rattle.fc_scope.specs.ScopeWords.{locals_of, with_joins, with_values};
@@ -33,7 +32,7 @@ pub fn named_expr<'x>(
     top: &Declared,
     scope: &'x Scope<'x>,
 ) -> Result<Expr, NotNamed>
-    ensures { IfOk result (λ r. IsNamedExpr (top_by top.now) (locals_of scope.now) (nexpr_of e.now) (expr_of r)) }
+    ensures { IfOk result (λ r. IsNamedExpr (top_by top.now) (locals_of scope.now) (expr_of e.now) (expr_of r)) }
 {
     match e {
         NExpr::Var(Ref::Local(distance)) => Ok(Expr::Var(local(alloc, &*scope, *distance)?)),
@@ -102,7 +101,7 @@ fn named_arg<'x>(
     top: &Declared,
     scope: &'x Scope<'x>,
 ) -> Result<Arg, NotNamed>
-    ensures { IfOk result (λ r. IsNamedArg (top_by top.now) (locals_of scope.now) (narg_of arg.now) (arg_of r)) }
+    ensures { IfOk result (λ r. IsNamedArg (top_by top.now) (locals_of scope.now) (arg_of arg.now) (arg_of r)) }
 {
     match arg {
         NArg::Term(e) => Ok(Arg::Term(named_expr(alloc, e, top, &*scope)?)),
@@ -118,7 +117,7 @@ fn named_args<'x>(
     top: &Declared,
     scope: &'x Scope<'x>,
 ) -> Result<Seq<Arg>, NotNamed>
-    ensures { IfOk result (λ r. IsNamedArgs (top_by top.now) (locals_of scope.now) (nargs_of args.now) (args_of r)) }
+    ensures { IfOk result (λ r. IsNamedArgs (top_by top.now) (locals_of scope.now) (args_of args.now) (args_of r)) }
 {
     let mut out = Seq::new(alloc);
     for arg in args {
@@ -135,7 +134,7 @@ fn named_exprs<'x>(
     top: &Declared,
     scope: &'x Scope<'x>,
 ) -> Result<Seq<Expr>, NotNamed>
-    ensures { IfOk result (λ r. IsNamedExprs (top_by top.now) (locals_of scope.now) (nexprs_of es.now) (exprs_of r)) }
+    ensures { IfOk result (λ r. IsNamedExprs (top_by top.now) (locals_of scope.now) (exprs_of es.now) (exprs_of r)) }
 {
     let mut out = Seq::new(alloc);
     for e in es {
@@ -155,7 +154,7 @@ fn lambda<'x>(
     scope: &'x Scope<'x>,
     binder: &NBinder,
 ) -> Result<Expr, NotNamed>
-    ensures { IfOk result (λ r. IsNamedExpr (top_by top.now) (locals_of scope.now) (NLam (nbinder_of binder.now) (nexpr_of e.now)) (expr_of r)) }
+    ensures { IfOk result (λ r. IsNamedExpr (top_by top.now) (locals_of scope.now) (ELam (binder_of binder.now) (expr_of e.now)) (expr_of r)) }
 {
     let mut taken = used_in_lambda(alloc, e, top, &*scope, binder)?;
     let binder = named_binder(alloc, binder, top, &*scope, &mut taken)?;
@@ -178,7 +177,7 @@ fn named_binds<'x>(
     words: &[Text],
 ) -> Result<Seq<Bind>, NotNamed>
     requires { length words.now ≡ length binds.now }
-    ensures named { IfOk result (λ r. IsNamedBinds (top_by top.now) (locals_of scope.now) (nbinds_of binds.now) (binds_of r)) }
+    ensures named { IfOk result (λ r. IsNamedBinds (top_by top.now) (locals_of scope.now) (binds_of binds.now) (binds_of r)) }
     ensures words { IfOk result (λ r. bind_words (binds_of r) ≡ words.now) }
 {
     let mut out = Seq::new(alloc);
@@ -202,7 +201,7 @@ fn let_binds<'x>(
     group: &'x Group,
 ) -> Result<Seq<Bind>, NotNamed>
     requires { length group.now.words ≡ length binds.now }
-    ensures named { IfOk result (λ r. IsNamedBinds (top_by top.now) (if recursive then with_values group.now.names (locals_of scope.now) else locals_of scope.now) (nbinds_of binds.now) (binds_of r)) }
+    ensures named { IfOk result (λ r. IsNamedBinds (top_by top.now) (if recursive then with_values group.now.names (locals_of scope.now) else locals_of scope.now) (binds_of binds.now) (binds_of r)) }
     ensures words { IfOk result (λ r. bind_words (binds_of r) ≡ group.now.words) }
 {
     let inner = Scope::Values(&group.names, &*scope);
@@ -233,7 +232,7 @@ fn named_below<'x>(
     scope: &'x Scope<'x>,
     binders: &[NBinder],
 ) -> Result<Below, NotNamed>
-    ensures { IfOk result (λ r. IsNamedBelow (top_by top.now) (locals_of scope.now) (nbinders_of binders.now) (nexpr_of e.now) (binders_of r.binders) (expr_of r.body)) }
+    ensures { IfOk result (λ r. IsNamedBelow (top_by top.now) (locals_of scope.now) (binders_of binders.now) (expr_of e.now) (binders_of r.binders) (expr_of r.body)) }
 {
     let mut taken = used_below(alloc, e, top, &*scope, binders)?;
     let named = named_binders(alloc, binders, top, &*scope, &mut taken)?;
@@ -253,7 +252,7 @@ fn named_joins<'x>(
     words: &[Text],
 ) -> Result<Seq<JoinBind>, NotNamed>
     requires { length words.now ≡ length joins.now }
-    ensures named { IfOk result (λ r. IsNamedJoins (top_by top.now) (locals_of scope.now) (njoins_of joins.now) (joins_of r)) }
+    ensures named { IfOk result (λ r. IsNamedJoins (top_by top.now) (locals_of scope.now) (joins_of joins.now) (joins_of r)) }
     ensures words { IfOk result (λ r. join_words (joins_of r) ≡ words.now) }
 {
     let mut out = Seq::new(alloc);
@@ -278,7 +277,7 @@ fn join_members<'x>(
     group: &'x Group,
 ) -> Result<Seq<JoinBind>, NotNamed>
     requires { length group.now.words ≡ length joins.now }
-    ensures named { IfOk result (λ r. IsNamedJoins (top_by top.now) (if recursive then with_joins group.now.names (locals_of scope.now) else locals_of scope.now) (njoins_of joins.now) (joins_of r)) }
+    ensures named { IfOk result (λ r. IsNamedJoins (top_by top.now) (if recursive then with_joins group.now.names (locals_of scope.now) else locals_of scope.now) (joins_of joins.now) (joins_of r)) }
     ensures words { IfOk result (λ r. join_words (joins_of r) ≡ group.now.words) }
 {
     let inner = Scope::Joins(&group.names, &*scope);
@@ -299,7 +298,7 @@ fn named_alts<'x>(
     top: &Declared,
     scope: &'x Scope<'x>,
 ) -> Result<Seq<Alt>, NotNamed>
-    ensures { IfOk result (λ r. IsNamedAlts (top_by top.now) (locals_of scope.now) (nalts_of alts.now) (alts_of r)) }
+    ensures { IfOk result (λ r. IsNamedAlts (top_by top.now) (locals_of scope.now) (alts_of alts.now) (alts_of r)) }
 {
     let mut out = Seq::new(alloc);
     for alt in alts {

@@ -1,6 +1,7 @@
 //! The words of the members of a group, with what is found below them.
 ghost use Rattle.std.specs.Prelude.{◌≡◌, length, IfOk};
-ghost use Rattle.fc_model.specs.NamelessView.{nbinds_of, nexpr_of, njoins_of};
+ghost use Rattle.fc_syntax.specs.View.{binds_of, joins_of};
+ghost use Rattle.fc_model.specs.NamelessView.{nexpr_of};
 ghost use Rattle.fc_model.specs.DeclaredWords.{top_by};
 ghost use Rattle.fc_scope.specs.ScopeWords.{locals_of};
 ghost use Rattle.fc_naming.specs.GroupWords.{JoinWords, LetWords};
@@ -23,7 +24,7 @@ pub fn let_words<'x>(
     binds: &[NBind],
 ) -> Result<Group, NotNamed>
     ensures counted { IfOk result (λ g. length g.words ≡ length binds.now) }
-    ensures around { IfOk result (λ g. LetWords (top_by top.now) (locals_of scope.now) recursive (nbinds_of binds.now) (nexpr_of e.now) g) }
+    ensures around { IfOk result (λ g. LetWords (top_by top.now) (locals_of scope.now) recursive (binds_of binds.now) (nexpr_of e.now) g) }
 {
     let mut taken = used_in_let(alloc, e, top, &*scope, recursive, binds)?;
     let group = bind_group(alloc, binds, &mut taken.terms)?;
@@ -40,7 +41,7 @@ pub fn point_words<'x>(
     joins: &[NJoinBind],
 ) -> Result<Group, NotNamed>
     ensures counted { IfOk result (λ g. length g.words ≡ length joins.now) }
-    ensures around { IfOk result (λ g. JoinWords (top_by top.now) (locals_of scope.now) recursive (njoins_of joins.now) (nexpr_of e.now) g) }
+    ensures around { IfOk result (λ g. JoinWords (top_by top.now) (locals_of scope.now) recursive (joins_of joins.now) (nexpr_of e.now) g) }
 {
     let mut taken = used_in_join(alloc, e, top, &*scope, recursive, joins)?;
     let group = join_group(alloc, joins, &mut taken.terms)?;

@@ -2,7 +2,6 @@
 ghost use Rattle.std.specs.Prelude.{IfOk};
 ghost use Rattle.fc_syntax.specs.Hints.{param_hint, plain_hint};
 ghost use Rattle.fc_syntax.specs.View.{params_of, plains_of};
-ghost use Rattle.fc_model.specs.NamelessView.{nparams_of, nplains_of};
 ghost use Rattle.fc_model.specs.Worded.{bare_param, bare_plain};
 ghost use Rattle.fc_naming.specs.Declarations.{HaveWords};
 
@@ -33,7 +32,7 @@ pub struct OwnPlains {
 
 /// Parameters, each with its word, or another one where a parameter before it has that.
 pub fn own_params(alloc: Global, params: &[Param]) -> Result<OwnParams, NotNamed>
-    ensures { IfOk result (λ r. HaveWords param_hint bare_param (nparams_of params.now) (params_of r.params) r.names) }
+    ensures { IfOk result (λ r. HaveWords param_hint bare_param (params_of params.now) (params_of r.params) r.names) }
 {
     let mut taken = WordSet::new(alloc);
     let mut names = Names::new(alloc);
@@ -53,7 +52,7 @@ pub fn own_params(alloc: Global, params: &[Param]) -> Result<OwnParams, NotNamed
 
 /// The same of parameters without roles.
 pub fn own_plains(alloc: Global, plains: &[Plain]) -> Result<OwnPlains, NotNamed>
-    ensures { IfOk result (λ r. HaveWords plain_hint bare_plain (nplains_of plains.now) (plains_of r.params) r.names) }
+    ensures { IfOk result (λ r. HaveWords plain_hint bare_plain (plains_of plains.now) (plains_of r.params) r.names) }
 {
     let mut taken = WordSet::new(alloc);
     let mut names = Names::new(alloc);

@@ -95,7 +95,7 @@ pub fn word_around<'x>(
     scope: &'x Scope<'x>,
     hint: &Text,
 ) -> Result<Text, NotNamed>
-    ensures { IfOk result (λ v. MayTakeAlts (top_by top.now) (locals_of scope.now) v (nalts_of alts.now)) }
+    ensures { IfOk result (λ v. MayTakeAlts (top_by top.now) (locals_of scope.now) hint.now v (nalts_of alts.now)) }
 {
     let mut used = Spaces::new(alloc);
     let inside = Inside::new().in_value()?;

@@ -1,7 +1,7 @@
 //! Types with words for their binders.
 ghost use Rattle.std.specs.Prelude.{◌≡◌, slice_get, IfOk};
 ghost use Rattle.fc_syntax.specs.View.{ty_of, tys_of};
-ghost use Rattle.fc_model.specs.NamelessView.{nty_of, ntys_of};
+ghost use Rattle.fc_model.specs.NamelessView.{nty_of};
 ghost use Rattle.fc_model.specs.DeclaredWords.{top_by};
 ghost use Rattle.fc_scope.specs.ScopeWords.{locals_of};
 ghost use Rattle.fc_naming.specs.Named.{IsNamedTy, IsNamedTys, MayTakeTy};
@@ -32,7 +32,7 @@ fn word_around<'x>(
     scope: &'x Scope<'x>,
     hint: &Text,
 ) -> Result<Text, NotNamed>
-    ensures { IfOk result (λ v. MayTakeTy (top_by top.now) (locals_of scope.now) v (nty_of t.now)) }
+    ensures { IfOk result (λ v. MayTakeTy (top_by top.now) (locals_of scope.now) hint.now v (nty_of t.now)) }
 {
     let mut used = Spaces::new(alloc);
     let inside = Inside::new().in_type()?;
@@ -49,7 +49,7 @@ pub fn named_ty<'x>(
     top: &Declared,
     scope: &'x Scope<'x>,
 ) -> Result<Ty, NotNamed>
-    ensures { IfOk result (λ r. IsNamedTy (top_by top.now) (locals_of scope.now) (nty_of t.now) (ty_of r)) }
+    ensures { IfOk result (λ r. IsNamedTy (top_by top.now) (locals_of scope.now) (ty_of t.now) (ty_of r)) }
 {
     match t {
         NTy::Var(distance) => Ok(Ty::Var(type_variable(alloc, &*scope, *distance)?)),
@@ -90,7 +90,7 @@ pub fn named_tys<'x>(
     top: &Declared,
     scope: &'x Scope<'x>,
 ) -> Result<Seq<Ty>, NotNamed>
-    ensures { IfOk result (λ r. IsNamedTys (top_by top.now) (locals_of scope.now) (ntys_of types.now) (tys_of r)) }
+    ensures { IfOk result (λ r. IsNamedTys (top_by top.now) (locals_of scope.now) (tys_of types.now) (tys_of r)) }
 {
     let mut out = Seq::new(alloc);
     for t in types {

@@ -1,3 +1,15 @@
+pub mod Spaced
+pub mod SpacedForms
+pub mod ReadKinds
+pub mod ReadCoercions
+pub mod ReadForms
+pub mod ReadExprs
+pub mod ReadDecls
+pub mod Lexed
+pub mod FormWords
+pub mod ModuleNames
+pub mod Names
+pub mod Printed
+pub mod Leaves
+pub mod LeavesOfForms
 pub mod ReadBack
-pub mod Reading
-pub mod Trees

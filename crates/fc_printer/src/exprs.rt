@@ -1,291 +1,280 @@
 //! Prints expressions.
-ghost use Rattle.std.specs.Prelude.{◌≡◌, ◌∷◌, ◌++◌, codes, OnOk};
-ghost use Rattle.fc_syntax.specs.Tree.{BValue, ECon, MoreBinds, NoBinds};
-ghost use Rattle.fc_syntax.specs.View.{alt_of, alts_of, arg_of, args_of, bind_of, binder_of, binders_of, binds_of, expr_of, ty_of};
-ghost use Rattle.fc_model.specs.Canonical.{AsHead, Body, alt_text, alts_text, arg_text, args_text, binder_text, binders_text, binds_text, expr_at, expr_text, head_text, literal_text, more_binders_text, type_text};
+ghost use Rattle.std.specs.Prelude.{◌≡◌, ◌++◌, codes, if◌then◌else◌, OnOk};
+ghost use Rattle.fc_syntax.specs.Tree as tree;
+ghost use Rattle.fc_syntax.specs.Tree.{ECon, EFail, EJump, EPrim};
+ghost use Rattle.fc_syntax.specs.View.{arg_of, args_of, binds_of, co_of, expr_of, exprs_of, joins_of, ty_of};
+ghost use Rattle.fc_model.specs.Pieces.{NoPieces, first_text, pieces_text, spaced_text};
+ghost use Rattle.fc_model.specs.Spelling.{Alone, AsHead, Binders, Body, arg_pieces, args_pieces, binds_pieces, co_pieces, expr_pieces, exprs_pieces, joins_pieces, type_pieces};
+ghost use Rattle.fc_model.specs.Canonical.{expr_text};
 
-use crate::types::{put_name, put_type};
-use fc_syntax::{Alt, Arg, Bind, Binder, Expr, Head, Memory, Name, Text, Ty};
-use itoa::Buffer;
+use crate::alternatives::{put_binds, put_case, put_joins, put_next_binds, put_next_joins};
+use crate::binders::{put_binder, put_next_binder};
+use crate::coercions::put_next_co;
+use crate::types::put_next_type;
+use crate::words::{put_literal, put_name, put_operator, put_word};
+use fc_syntax::{Arg, Bind, Co, Expr, JoinBind, Memory, Name, PrimOp, Text, Ty};
 
-// A literal in decimal digits, without leading zeros.
-fn put_literal(n: i64, to: &mut Vec<u8>) -> Result<(), Memory>
-    ensures { OnOk result (to.new.items ≡ to.old.items ++ literal_text n) }
-{
-    let mut digits = Buffer::new();
-    to.extend_from_slice(digits.format(n).as_bytes())?;
-    to.push(b'#')?;
-    Ok(())
-}
-
-fn put_value(x: &Text, t: &Ty, to: &mut Vec<u8>) -> Result<(), Memory>
-    ensures { OnOk result (to.new.items ≡ to.old.items ++ binder_text (BValue x.now (ty_of t.now))) }
-{
-    to.push(b'(')?;
-    to.extend_from_slice(x.as_str().as_bytes())?;
-    to.push(b' ')?;
-    put_type(t, to)?;
-    to.push(b')')?;
-    Ok(())
-}
-
-fn put_binder(b: &Binder, to: &mut Vec<u8>) -> Result<(), Memory>
-    ensures { OnOk result (to.new.items ≡ to.old.items ++ binder_text (binder_of b.now)) }
-{
-    match b {
-        Binder::Value(x, t) => put_value(x, t, to),
-        Binder::OfType(_, _) => Ok(()),
-        Binder::OfCo(_, _, _, _) => Ok(()),
-    }
-}
-
-// The binder of a case and the type of its result, with one space before each.
-fn put_case_binder(x: &Text, t: &Ty, u: &Ty, to: &mut Vec<u8>) -> Result<(), Memory>
-    ensures { OnOk result (to.new.items ≡ to.old.items ++ 32 ∷ (binder_text (BValue x.now (ty_of t.now)) ++ 32 ∷ type_text (ty_of u.now))) }
-{
-    to.push(b' ')?;
-    put_value(x, t, to)?;
-    to.push(b' ')?;
-    put_type(u, to)
-}
-
-// One space before each binder.
-fn put_more_binders(binders: &[Binder], to: &mut Vec<u8>) -> Result<(), Memory>
-    ensures { OnOk result (to.new.items ≡ to.old.items ++ more_binders_text (binders_of binders.now)) }
-{
-    for b in binders {
-        to.push(b' ')?;
-        put_binder(b, to)?;
-    }
-    Ok(())
-}
-
-// One space between binders.
-fn put_binders(binders: &[Binder], to: &mut Vec<u8>) -> Result<(), Memory>
-    ensures { OnOk result (to.new.items ≡ to.old.items ++ binders_text (binders_of binders.now)) }
-{
-    match binders {
-        [] => Ok(()),
-        [first, others @ ..] => {
-            put_binder(first, to)?;
-            put_more_binders(others, to)
-        }
-    }
-}
-
-// What an alternative is for, with the binders of a constructor.
-fn put_alt_head(head: &Head, binders: &[Binder], to: &mut Vec<u8>) -> Result<(), Memory>
-    ensures { OnOk result (to.new.items ≡ to.old.items ++ head_text head.now (binders_of binders.now)) }
-{
-    match head {
-        Head::Default => {
-            to.extend_from_slice(b"default")?;
-            Ok(())
-        }
-        Head::Lit(n) => put_literal(*n, to),
-        Head::Con(n) => {
-            put_name(n, to)?;
-            to.extend_from_slice(b" (")?;
-            put_binders(binders, to)?;
-            to.push(b')')?;
-            Ok(())
-        }
-    }
-}
-
-/// Appends the text of an expression, which is empty for a form that is not built yet. Where memory is wanting, the bytes
-/// before stand and a part of the text may follow.
+/// Appends the text of an expression. Where memory runs out, the bytes before stand and a part of the text may follow.
 #[cycle(exprs)]
-#[tactic(auto, using(fc_syntax::proofs::View::view_rules, std::proofs::lemmas::Grind::common_steps))]
+#[tactic(auto, using(crate::proofs::SpacedForms::expr_rules))]
 pub fn put_expr(e: &Expr, to: &mut Vec<u8>) -> Result<(), Memory>
     ensures { OnOk result (to.new.items ≡ to.old.items ++ expr_text (expr_of e.now)) }
 {
     match e {
         Expr::Var(n) => put_name(n, to),
         Expr::Lit(n) => put_literal(*n, to),
-        Expr::Con(n, args) => put_con(n, args.as_slice(), to),
         Expr::App(f, a) => {
-            put_head(f, to)?;
-            to.push(b' ')?;
-            put_arg(a, to)?;
-            to.push(b')')?;
-            Ok(())
+            to.extend_from_slice(b"(app")?;
+            put_next_head(f, to)?;
+            put_last_arg(a, to)
         }
         Expr::Lam(b, e) => {
             to.extend_from_slice(b"(lam (")?;
             put_binder(b, to)?;
             put_body(e, to)
         }
-        Expr::Let(_, binds, e) => {
-            to.extend_from_slice(b"(let ")?;
-            put_binds(binds.as_slice(), to)?;
-            to.push(b' ')?;
-            put_expr(e, to)?;
-            to.push(b')')?;
-            Ok(())
+        Expr::Let(r, binds, e) => {
+            put_let(binds.as_slice(), *r, to)?;
+            put_last_expr(e, to)
         }
         Expr::Case(e, x, t, u, alts) => {
-            to.extend_from_slice(b"(case ")?;
-            put_expr(e, to)?;
+            to.extend_from_slice(b"(case")?;
+            put_next_expr(e, to)?;
             put_case(alts.as_slice(), x, t, u, to)
         }
-        Expr::Cast(_, _) => Ok(()),
-        Expr::Prim(_, _) => Ok(()),
-        Expr::Fail(_) => Ok(()),
-        Expr::Join(_, _, _, _) => Ok(()),
-        Expr::Jump(_, _) => Ok(()),
+        Expr::Cast(e, g) => {
+            to.extend_from_slice(b"(cast")?;
+            put_next_expr(e, to)?;
+            put_last_co(g, to)
+        }
+        Expr::Con(n, args) => put_con(args.as_slice(), n, to),
+        Expr::Prim(o, es) => put_prim(es.as_slice(), *o, to),
+        Expr::Fail(t) => put_fail(t, to),
+        Expr::Join(r, t, joins, e) => {
+            put_join_group(joins.as_slice(), *r, t, to)?;
+            put_last_expr(e, to)
+        }
+        Expr::Jump(j, args) => put_jump(args.as_slice(), j, to),
     }
+}
+
+#[cycle(exprs)]
+#[tactic(auto, using(crate::proofs::SpacedForms::next_expr_rules))]
+pub(crate) fn put_next_expr(e: &Expr, to: &mut Vec<u8>) -> Result<(), Memory>
+    ensures { OnOk result (to.new.items ≡ to.old.items ++ spaced_text (expr_pieces Alone (expr_of e.now) NoPieces)) }
+{
+    to.push(b' ')?;
+    put_expr(e, to)
+}
+
+// The last part of a form, and the bracket behind it.
+#[cycle(exprs)]
+#[tactic(auto, using(crate::proofs::SpacedForms::next_expr_rules))]
+pub(crate) fn put_last_expr(e: &Expr, to: &mut Vec<u8>) -> Result<(), Memory>
+    ensures { OnOk result (to.new.items ≡ to.old.items ++ (spaced_text (expr_pieces Alone (expr_of e.now) NoPieces) ++ codes ")")) }
+{
+    to.push(b' ')?;
+    put_expr(e, to)?;
+    to.push(b')')?;
+    Ok(())
+}
+
+fn put_last_co(g: &Co, to: &mut Vec<u8>) -> Result<(), Memory>
+    ensures { OnOk result (to.new.items ≡ to.old.items ++ (spaced_text (co_pieces (co_of g.now) NoPieces) ++ codes ")")) }
+{
+    put_next_co(g, to)?;
+    to.push(b')')?;
+    Ok(())
 }
 
 // The head of an application: its own arguments stand before those that follow.
 #[cycle(exprs)]
-#[tactic(auto, using(fc_syntax::proofs::View::view_rules, std::proofs::lemmas::Grind::common_steps))]
-fn put_head(e: &Expr, to: &mut Vec<u8>) -> Result<(), Memory>
-    ensures { OnOk result (to.new.items ≡ to.old.items ++ expr_at (expr_of e.now) AsHead) }
+#[tactic(auto, using(crate::proofs::SpacedForms::expr_rules))]
+fn put_next_head(e: &Expr, to: &mut Vec<u8>) -> Result<(), Memory>
+    ensures { OnOk result (to.new.items ≡ to.old.items ++ spaced_text (expr_pieces AsHead (expr_of e.now) NoPieces)) }
 {
     match e {
         Expr::App(f, a) => {
-            put_head(f, to)?;
-            to.push(b' ')?;
-            put_arg(a, to)
+            put_next_head(f, to)?;
+            put_next_arg(a, to)
         }
         Expr::Var(_)
         | Expr::Lit(_)
-        | Expr::Con(_, _)
         | Expr::Lam(_, _)
         | Expr::Let(_, _, _)
-        | Expr::Case(_, _, _, _, _) => {
-            to.extend_from_slice(b"(app ")?;
-            put_expr(e, to)
-        }
-        Expr::Cast(_, _) => Ok(()),
-        Expr::Prim(_, _) => Ok(()),
-        Expr::Fail(_) => Ok(()),
-        Expr::Join(_, _, _, _) => Ok(()),
-        Expr::Jump(_, _) => Ok(()),
+        | Expr::Case(_, _, _, _, _)
+        | Expr::Cast(_, _)
+        | Expr::Con(_, _)
+        | Expr::Prim(_, _)
+        | Expr::Fail(_)
+        | Expr::Join(_, _, _, _)
+        | Expr::Jump(_, _) => put_next_expr(e, to),
     }
 }
 
 // The body of a lambda: the binders of a lambda in it go on with those before.
 #[cycle(exprs)]
-#[tactic(auto, using(fc_syntax::proofs::View::view_rules, std::proofs::lemmas::Grind::common_steps))]
+#[tactic(auto, using(crate::proofs::SpacedForms::body_rules))]
 fn put_body(e: &Expr, to: &mut Vec<u8>) -> Result<(), Memory>
-    ensures { OnOk result (to.new.items ≡ to.old.items ++ expr_at (expr_of e.now) Body) }
+    ensures { OnOk result (to.new.items ≡ to.old.items ++ (spaced_text (expr_pieces Binders (expr_of e.now) NoPieces) ++ (codes ")" ++ (spaced_text (expr_pieces Body (expr_of e.now) NoPieces) ++ codes ")")))) }
 {
     match e {
         Expr::Lam(b, e) => {
-            to.push(b' ')?;
-            put_binder(b, to)?;
+            put_next_binder(b, to)?;
             put_body(e, to)
         }
         Expr::Var(_)
         | Expr::Lit(_)
-        | Expr::Con(_, _)
         | Expr::App(_, _)
         | Expr::Let(_, _, _)
-        | Expr::Case(_, _, _, _, _) => {
-            to.extend_from_slice(b") ")?;
-            put_expr(e, to)?;
+        | Expr::Case(_, _, _, _, _)
+        | Expr::Cast(_, _)
+        | Expr::Con(_, _)
+        | Expr::Prim(_, _)
+        | Expr::Fail(_)
+        | Expr::Join(_, _, _, _)
+        | Expr::Jump(_, _) => {
             to.push(b')')?;
-            Ok(())
+            put_last_expr(e, to)
         }
-        Expr::Cast(_, _) => Ok(()),
-        Expr::Prim(_, _) => Ok(()),
-        Expr::Fail(_) => Ok(()),
-        Expr::Join(_, _, _, _) => Ok(()),
-        Expr::Jump(_, _) => Ok(()),
     }
 }
 
+// What a let has before its body.
 #[cycle(exprs)]
-fn put_bind(b: &Bind, to: &mut Vec<u8>) -> Result<(), Memory>
-    ensures { OnOk result (to.new.items ≡ to.old.items ++ binds_text (MoreBinds (bind_of b.now) NoBinds)) }
+fn put_let(binds: &[Bind], r: bool, to: &mut Vec<u8>) -> Result<(), Memory>
+    ensures { OnOk result (to.new.items ≡ to.old.items ++ (if r then codes "(letrec (" ++ (pieces_text (binds_pieces (binds_of binds.now) NoPieces) ++ codes ")") else codes "(let" ++ spaced_text (binds_pieces (binds_of binds.now) NoPieces))) }
 {
-    to.push(b'(')?;
-    to.extend_from_slice(b.name.as_str().as_bytes())?;
-    to.push(b' ')?;
-    put_type(&b.ty, to)?;
-    to.push(b' ')?;
-    put_expr(&b.rhs, to)?;
+    if r {
+        to.extend_from_slice(b"(letrec (")?;
+        put_binds(binds, to)?;
+        to.push(b')')?;
+        Ok(())
+    } else {
+        to.extend_from_slice(b"(let")?;
+        put_next_binds(binds, to)
+    }
+}
+
+// What join points have before the expression that may jump to them.
+#[cycle(exprs)]
+fn put_join_group(joins: &[JoinBind], r: bool, t: &Ty, to: &mut Vec<u8>) -> Result<(), Memory>
+    ensures { OnOk result (to.new.items ≡ to.old.items ++ (if r then codes "(joinrec" ++ (spaced_text (type_pieces Alone (ty_of t.now) NoPieces) ++ (codes " (" ++ (pieces_text (joins_pieces (joins_of joins.now) NoPieces) ++ codes ")"))) else codes "(join" ++ (spaced_text (type_pieces Alone (ty_of t.now) NoPieces) ++ spaced_text (joins_pieces (joins_of joins.now) NoPieces)))) }
+{
+    if r {
+        to.extend_from_slice(b"(joinrec")?;
+        put_next_type(t, to)?;
+        to.extend_from_slice(b" (")?;
+        put_joins(joins, to)?;
+        to.push(b')')?;
+        Ok(())
+    } else {
+        to.extend_from_slice(b"(join")?;
+        put_next_type(t, to)?;
+        put_next_joins(joins, to)
+    }
+}
+
+fn put_fail(t: &Ty, to: &mut Vec<u8>) -> Result<(), Memory>
+    ensures { OnOk result (to.new.items ≡ to.old.items ++ expr_text (EFail (ty_of t.now))) }
+{
+    to.extend_from_slice(b"(fail")?;
+    put_next_type(t, to)?;
     to.push(b')')?;
     Ok(())
 }
 
-// One behind the other.
 #[cycle(exprs)]
-fn put_binds(binds: &[Bind], to: &mut Vec<u8>) -> Result<(), Memory>
-    ensures { OnOk result (to.new.items ≡ to.old.items ++ binds_text (binds_of binds.now)) }
-{
-    for b in binds {
-        put_bind(b, to)?;
-    }
-    Ok(())
-}
-
-// What a case has behind its scrutinee.
-#[cycle(exprs)]
-fn put_case(alts: &[Alt], x: &Text, t: &Ty, u: &Ty, to: &mut Vec<u8>) -> Result<(), Memory>
-    ensures { OnOk result (to.new.items ≡ to.old.items ++ 32 ∷ (binder_text (BValue x.now (ty_of t.now)) ++ 32 ∷ (type_text (ty_of u.now) ++ (alts_text (alts_of alts.now) ++ codes ")")))) }
-{
-    put_case_binder(x, t, u, to)?;
-    put_alts(alts, to)?;
-    to.push(b')')?;
-    Ok(())
-}
-
-#[cycle(exprs)]
-fn put_alt(a: &Alt, to: &mut Vec<u8>) -> Result<(), Memory>
-    ensures { OnOk result (to.new.items ≡ to.old.items ++ alt_text (alt_of a.now)) }
-{
-    to.push(b'(')?;
-    put_alt_head(&a.head, a.binders.as_slice(), to)?;
-    to.push(b' ')?;
-    put_expr(&a.body, to)?;
-    to.push(b')')?;
-    Ok(())
-}
-
-// One space before each alternative.
-#[cycle(exprs)]
-fn put_alts(alts: &[Alt], to: &mut Vec<u8>) -> Result<(), Memory>
-    ensures { OnOk result (to.new.items ≡ to.old.items ++ alts_text (alts_of alts.now)) }
-{
-    for a in alts {
-        to.push(b' ')?;
-        put_alt(a, to)?;
-    }
-    Ok(())
-}
-
-#[cycle(exprs)]
-fn put_con(n: &Name, args: &[Arg], to: &mut Vec<u8>) -> Result<(), Memory>
+fn put_con(args: &[Arg], n: &Name, to: &mut Vec<u8>) -> Result<(), Memory>
     ensures { OnOk result (to.new.items ≡ to.old.items ++ expr_text (ECon n.now (args_of args.now))) }
 {
     to.extend_from_slice(b"(con ")?;
     put_name(n, to)?;
-    put_args(args, to)?;
+    put_next_args(args, to)?;
     to.push(b')')?;
     Ok(())
 }
 
-// One space before each argument.
 #[cycle(exprs)]
-fn put_args(args: &[Arg], to: &mut Vec<u8>) -> Result<(), Memory>
-    ensures { OnOk result (to.new.items ≡ to.old.items ++ args_text (args_of args.now)) }
+fn put_jump(args: &[Arg], j: &Text, to: &mut Vec<u8>) -> Result<(), Memory>
+    ensures { OnOk result (to.new.items ≡ to.old.items ++ expr_text (EJump j.now (args_of args.now))) }
 {
-    for a in args {
-        to.push(b' ')?;
-        put_arg(a, to)?;
+    to.extend_from_slice(b"(jump ")?;
+    put_word(j, to)?;
+    put_next_args(args, to)?;
+    to.push(b')')?;
+    Ok(())
+}
+
+#[cycle(exprs)]
+fn put_prim(es: &[Expr], o: PrimOp, to: &mut Vec<u8>) -> Result<(), Memory>
+    ensures { OnOk result (to.new.items ≡ to.old.items ++ expr_text (EPrim o (exprs_of es.now))) }
+{
+    to.extend_from_slice(b"(prim ")?;
+    put_operator(o, to)?;
+    put_next_exprs(es, to)?;
+    to.push(b')')?;
+    Ok(())
+}
+
+#[cycle(exprs)]
+#[tactic(auto, using(crate::proofs::SpacedForms::next_expr, std::proofs::lemmas::Grind::common_steps))]
+fn put_next_exprs(es: &[Expr], to: &mut Vec<u8>) -> Result<(), Memory>
+    ensures { OnOk result (to.new.items ≡ to.old.items ++ spaced_text (exprs_pieces (exprs_of es.now) NoPieces)) }
+{
+    for e in es {
+        put_next_expr(e, to)?;
     }
     Ok(())
 }
 
 #[cycle(exprs)]
-fn put_arg(a: &Arg, to: &mut Vec<u8>) -> Result<(), Memory>
-    ensures { OnOk result (to.new.items ≡ to.old.items ++ arg_text (arg_of a.now)) }
+#[tactic(auto, using(crate::proofs::SpacedForms::next_arg, std::proofs::lemmas::Grind::common_steps))]
+fn put_next_args(args: &[Arg], to: &mut Vec<u8>) -> Result<(), Memory>
+    ensures { OnOk result (to.new.items ≡ to.old.items ++ spaced_text (args_pieces (args_of args.now) NoPieces)) }
+{
+    for a in args {
+        put_next_arg(a, to)?;
+    }
+    Ok(())
+}
+
+#[cycle(exprs)]
+fn put_next_arg(a: &Arg, to: &mut Vec<u8>) -> Result<(), Memory>
+    ensures { OnOk result (to.new.items ≡ to.old.items ++ spaced_text (arg_pieces (arg_of a.now) NoPieces)) }
 {
     match a {
-        Arg::Term(e) => put_expr(e, to),
-        _ => Ok(()),
+        Arg::Term(e) => put_next_expr(e, to),
+        Arg::OfType(t) => put_type_arg(t, to),
+        Arg::OfCo(g) => put_co_arg(g, to),
     }
+}
+
+#[cycle(exprs)]
+fn put_last_arg(a: &Arg, to: &mut Vec<u8>) -> Result<(), Memory>
+    ensures { OnOk result (to.new.items ≡ to.old.items ++ (spaced_text (arg_pieces (arg_of a.now) NoPieces) ++ codes ")")) }
+{
+    put_next_arg(a, to)?;
+    to.push(b')')?;
+    Ok(())
+}
+
+#[tactic(auto, using(std::proofs::lemmas::Grind::common_steps))]
+fn put_type_arg(t: &Ty, to: &mut Vec<u8>) -> Result<(), Memory>
+    ensures { OnOk result (to.new.items ≡ to.old.items ++ spaced_text (arg_pieces (tree.AType (ty_of t.now)) NoPieces)) }
+{
+    to.extend_from_slice(b" (type")?;
+    put_next_type(t, to)?;
+    to.push(b')')?;
+    Ok(())
+}
+
+#[tactic(auto, using(std::proofs::lemmas::Grind::common_steps))]
+fn put_co_arg(g: &Co, to: &mut Vec<u8>) -> Result<(), Memory>
+    ensures { OnOk result (to.new.items ≡ to.old.items ++ spaced_text (arg_pieces (tree.ACo (co_of g.now)) NoPieces)) }
+{
+    to.extend_from_slice(b" (co")?;
+    put_next_co(g, to)?;
+    to.push(b')')?;
+    Ok(())
 }

@@ -36,7 +36,7 @@ fn put_hidden(to: &mut Vec<u8>, words: &[Text]) -> Result<(), Memory>
 }
 
 /// Appends the header of a module behind its first bracket and word: its name, the parts of its imports and exports, and
-/// that of its hidden names where it has one. Where memory is wanting, the bytes before stand and a part of the text may
+/// that of its hidden names where it has one. Where memory runs out, the bytes before stand and a part of the text may
 /// follow.
 pub fn put_header(to: &mut Vec<u8>, m: &Module) -> Result<(), Memory>
     ensures { OnOk result (to.new.items ≡ to.old.items ++ header_text (module_of m.now)) }

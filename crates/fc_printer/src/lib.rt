@@ -1,15 +1,21 @@
-//! Prints modules in their canonical text, and puts them under the header that is written.
+//! Prints modules in their canonical text.
 #![tactic(auto)]
 
+mod alternatives;
+mod binders;
+mod coercions;
 mod decls;
 mod exprs;
 mod header;
+mod kinds;
 mod types;
+mod words;
 mod written_header;
 
 ghost use Rattle.std.specs.Prelude.{◌≡◌, IfOk};
 ghost use Rattle.fc_syntax.specs.View.{module_of};
-ghost use Rattle.fc_model.specs.Canonical.{IsBuilt, IsFormed, canonical};
+ghost use Rattle.fc_model.specs.Canonical.{canonical};
+ghost use Rattle.fc_model.specs.Formed.{IsFormed};
 ghost use Rattle.fc_model.specs.Texts.{Spells};
 
 pub use decls::put_decl;
@@ -22,7 +28,6 @@ pub use written_header::written;
 
 /// The canonical text of a module, which reads back to the module where each of its words is one of its form.
 pub fn print_module(alloc: Global, m: &Module) -> Result<Vec<u8>, Memory>
-    requires { IsBuilt (module_of m.now) }
     ensures text { IfOk result (λ v. v.items ≡ canonical (module_of m.now)) }
     ensures reads_back { IfOk result (λ v. IsFormed (module_of m.now) → Spells v.items (module_of m.now)) }
 {

@@ -1,82 +1,123 @@
 //! Prints types and the names in them.
-ghost use Rattle.std.specs.Prelude.{◌≡◌, ◌++◌, codes, OnOk};
-ghost use Rattle.fc_syntax.specs.View.{ty_of, tys_of};
-ghost use Rattle.fc_model.specs.Canonical.{Result, name_text, type_at, type_text, types_text};
+ghost use Rattle.std.specs.Prelude.{◌≡◌, ◌++◌, OnOk};
+ghost use Rattle.fc_syntax.specs.Tree.{TForall};
+ghost use Rattle.fc_syntax.specs.View.{kind_of, ty_of, tys_of};
+ghost use Rattle.fc_model.specs.Pieces.{NoPieces, pieces_text, spaced_text};
+ghost use Rattle.fc_model.specs.Spelling.{Alone, AsHead, Result, type_pieces, types_pieces};
+ghost use Rattle.fc_model.specs.Canonical.{type_text};
 
-use fc_syntax::{Memory, Name, Ty};
+use crate::kinds::put_variable;
+use crate::words::{put_name, put_role, put_word};
+use fc_syntax::{Kind, Memory, Text, Ty};
 
-pub(crate) fn put_name(n: &Name, to: &mut Vec<u8>) -> Result<(), Memory>
-    ensures { OnOk result (to.new.items ≡ to.old.items ++ name_text n.now) }
-{
-    to.extend_from_slice(n.text.as_str().as_bytes())?;
-    Ok(())
-}
-
-fn put_int_hash(to: &mut Vec<u8>) -> Result<(), Memory>
-    ensures { OnOk result (to.new.items ≡ to.old.items ++ codes "Int#") }
-{
-    to.extend_from_slice(b"Int#")?;
-    Ok(())
-}
-
-/// Appends the text of a type, which is empty for a form that is not built yet. Where memory is wanting, the bytes before
-/// stand and a part of the text may follow.
+/// Appends the text of a type. Where memory runs out, the bytes before stand and a part of the text may follow.
 #[cycle(types)]
-#[tactic(auto, using(fc_syntax::proofs::View::view_rules, std::proofs::lemmas::Grind::common_steps))]
+#[tactic(auto, using(crate::proofs::Spaced::type_rules))]
 pub fn put_type(t: &Ty, to: &mut Vec<u8>) -> Result<(), Memory>
     ensures { OnOk result (to.new.items ≡ to.old.items ++ type_text (ty_of t.now)) }
 {
     match t {
+        Ty::Var(a) => put_word(a, to),
         Ty::Con(n) => put_name(n, to),
-        Ty::IntHash => put_int_hash(to),
+        Ty::IntHash => {
+            to.extend_from_slice(b"Int#")?;
+            Ok(())
+        }
+        Ty::App(head, u) => {
+            to.push(b'(')?;
+            put_type_head(head, to)?;
+            put_next_type(u, to)?;
+            to.push(b')')?;
+            Ok(())
+        }
         Ty::Fun(from, result) => {
-            to.extend_from_slice(b"(fun ")?;
-            put_type(from, to)?;
+            to.extend_from_slice(b"(fun")?;
+            put_next_type(from, to)?;
             put_result(result, to)?;
             to.push(b')')?;
             Ok(())
         }
-        Ty::Var(_) => Ok(()),
-        Ty::App(_, _) => Ok(()),
-        Ty::Forall(_, _, _) => Ok(()),
-        Ty::CoForall(_, _, _, _) => Ok(()),
+        Ty::Forall(a, k, body) => put_forall(body, a, k, to),
+        Ty::CoForall(r, left, right, body) => {
+            to.extend_from_slice(b"(coforall ")?;
+            put_role(*r, to)?;
+            put_next_type(left, to)?;
+            put_next_type(right, to)?;
+            put_next_type(body, to)?;
+            to.push(b')')?;
+            Ok(())
+        }
+    }
+}
+
+#[cycle(types)]
+#[tactic(auto, using(crate::proofs::Spaced::forall_rules))]
+fn put_forall(body: &Ty, a: &Text, k: &Kind, to: &mut Vec<u8>) -> Result<(), Memory>
+    ensures { OnOk result (to.new.items ≡ to.old.items ++ type_text (TForall a.now (kind_of k.now) (ty_of body.now))) }
+{
+    to.extend_from_slice(b"(forall ")?;
+    put_variable(a, k, to)?;
+    to.push(b' ')?;
+    put_type(body, to)?;
+    to.push(b')')?;
+    Ok(())
+}
+
+#[cycle(types)]
+#[tactic(auto, using(crate::proofs::Spaced::next_type_rules))]
+pub(crate) fn put_next_type(t: &Ty, to: &mut Vec<u8>) -> Result<(), Memory>
+    ensures { OnOk result (to.new.items ≡ to.old.items ++ spaced_text (type_pieces Alone (ty_of t.now) NoPieces)) }
+{
+    to.push(b' ')?;
+    put_type(t, to)
+}
+
+// The head of an application: its own arguments stand before those that follow.
+#[cycle(types)]
+#[tactic(auto, using(crate::proofs::Spaced::type_rules))]
+fn put_type_head(t: &Ty, to: &mut Vec<u8>) -> Result<(), Memory>
+    ensures { OnOk result (to.new.items ≡ to.old.items ++ pieces_text (type_pieces AsHead (ty_of t.now) NoPieces)) }
+{
+    match t {
+        Ty::App(head, u) => {
+            put_type_head(head, to)?;
+            put_next_type(u, to)
+        }
+        Ty::Var(_)
+        | Ty::Con(_)
+        | Ty::IntHash
+        | Ty::Fun(_, _)
+        | Ty::Forall(_, _, _)
+        | Ty::CoForall(_, _, _, _) => put_type(t, to),
     }
 }
 
 // The result of a function, which goes on with the list of its parts: one space before each.
 #[cycle(types)]
-#[tactic(auto, using(fc_syntax::proofs::View::view_rules, std::proofs::lemmas::Grind::common_steps))]
+#[tactic(auto, using(crate::proofs::Spaced::type_rules))]
 fn put_result(t: &Ty, to: &mut Vec<u8>) -> Result<(), Memory>
-    ensures { OnOk result (to.new.items ≡ to.old.items ++ type_at (ty_of t.now) Result) }
+    ensures { OnOk result (to.new.items ≡ to.old.items ++ spaced_text (type_pieces Result (ty_of t.now) NoPieces)) }
 {
     match t {
-        Ty::Con(n) => {
-            to.push(b' ')?;
-            put_name(n, to)
-        }
-        Ty::IntHash => {
-            to.push(b' ')?;
-            put_int_hash(to)
-        }
         Ty::Fun(next, result) => {
-            to.push(b' ')?;
-            put_type(next, to)?;
+            put_next_type(next, to)?;
             put_result(result, to)
         }
-        Ty::Var(_) => Ok(()),
-        Ty::App(_, _) => Ok(()),
-        Ty::Forall(_, _, _) => Ok(()),
-        Ty::CoForall(_, _, _, _) => Ok(()),
+        Ty::Var(_)
+        | Ty::Con(_)
+        | Ty::IntHash
+        | Ty::App(_, _)
+        | Ty::Forall(_, _, _)
+        | Ty::CoForall(_, _, _, _) => put_next_type(t, to),
     }
 }
 
-// One space before each type.
-pub(crate) fn put_types(types: &[Ty], to: &mut Vec<u8>) -> Result<(), Memory>
-    ensures { OnOk result (to.new.items ≡ to.old.items ++ types_text (tys_of types.now)) }
+#[tactic(auto, using(crate::proofs::Spaced::next_type, std::proofs::lemmas::Grind::common_steps))]
+pub(crate) fn put_next_types(types: &[Ty], to: &mut Vec<u8>) -> Result<(), Memory>
+    ensures { OnOk result (to.new.items ≡ to.old.items ++ spaced_text (types_pieces (tys_of types.now) NoPieces)) }
 {
     for t in types {
-        to.push(b' ')?;
-        put_type(t, to)?;
+        put_next_type(t, to)?;
     }
     Ok(())
 }

@@ -1,4 +1,9 @@
 //! Texts and their canonical form, by hand from the rules of printing.
+mod coercions;
+mod declarations;
+mod expressions;
+mod types;
+
 use fc_iface::print_interface;
 use fc_printer::print_module;
 use fc_reader::read_module;
@@ -33,6 +38,51 @@ fn are_printed(rt: &impl Abort, alloc: Global, cases: &[(&[u8], &[u8])]) -> Resu
         );
     }
     Ok(())
+}
+
+/// Prints a module of each declaration, which stands between two texts, and prints what was printed again.
+fn are_declared(
+    rt: &impl Abort,
+    alloc: Global,
+    front: &[u8],
+    cases: &[(&[u8], &[u8])],
+    back: &[u8],
+) -> Result<(), Fail> {
+    for (number, case) in cases.iter().enumerate() {
+        let (text, printed) = case;
+        let text = declared(alloc, b" ", front, text, back, b")")?;
+        let printed = declared(alloc, b"\n ", front, printed, back, b")\n")?;
+        assert_eq!(rt;
+            canonical(alloc, text.as_slice())?.as_slice(),
+            printed.as_slice(),
+            "row {number}"
+        );
+        assert_eq!(rt;
+            canonical(alloc, printed.as_slice())?.as_slice(),
+            printed.as_slice(),
+            "row {number}, again"
+        );
+    }
+    Ok(())
+}
+
+/// The text of a module of one declaration.
+fn declared(
+    alloc: Global,
+    blank: &[u8],
+    front: &[u8],
+    text: &[u8],
+    back: &[u8],
+    end: &[u8],
+) -> Result<Vec<u8>, Fail> {
+    let mut whole = Vec::new(alloc);
+    whole.extend_from_slice(b"(module M (imports) (exports)")?;
+    whole.extend_from_slice(blank)?;
+    whole.extend_from_slice(front)?;
+    whole.extend_from_slice(text)?;
+    whole.extend_from_slice(back)?;
+    whole.extend_from_slice(end)?;
+    Ok(whole)
 }
 
 #[test]

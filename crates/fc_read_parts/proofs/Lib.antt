@@ -1,6 +1,4 @@
+pub mod Lengths
 pub mod Ascii
-pub mod Chains
-pub mod Follow
-pub mod Forms
+pub mod Rows
 pub mod Stars
-pub mod TreeForms

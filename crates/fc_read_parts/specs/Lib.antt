@@ -1,4 +1,3 @@
-pub mod Classes
-pub mod Header
-pub mod Machine
+pub mod Lengths
 pub mod Reading
+pub mod Seen

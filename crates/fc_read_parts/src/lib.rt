@@ -1,17 +1,13 @@
-//! Readers of the parts of a module: single tokens, names, types, binders and constructors; the trees that are made of what was read;
-//! and the one-token machine that says at which token each reader stops.
+//! Readers of the pieces of which texts are made: each answers what it read and the tokens behind it, or says where it stops.
 #![tactic(auto)]
 
-mod class;
 mod parts;
-mod trees;
-mod types;
+mod terminal;
 mod words;
 
-pub use class::{Terminal, first};
 pub use parts::{
-    Stop, closes, name_text, opens_hidden, read_close, read_exports_word, read_imports_word,
-    read_lower, read_module_name, read_module_word, read_name, read_open, read_upper,
+    Stop, Tokens, closes, name_in, opens_hidden, plain_name, read_close, read_equality_role,
+    read_lower, read_module_name, read_name, read_number, read_open, read_operator, read_role,
+    read_upper, read_upper_name, read_word, takes_co, takes_type,
 };
-pub use trees::{application, binding, lambda_over};
-pub use types::{read_binder, read_binders, read_constructors, read_type};
+pub use terminal::{Terminal, terminals};

@@ -1,24 +1,41 @@
-//! Single tokens that a form wants. Each reader answers the tokens behind what it read; a fault counts the tokens that are
-//! left from the first that cannot go on.
-ghost use Rattle.std.specs.Prelude.{◌≡◌, ◌<◌, ◌∷◌, length, true, IfOk, IfErr, IfSome, IfNone};
-ghost use Rattle.fc_syntax.specs.Tokens.{AreSlices, is_module_part as spec_is_module_part, is_plain_name};
-ghost use Rattle.fc_model.specs.Words.{Open, Close, Key, Lower, Upper, toks};
+//! Single tokens that a form wants. Each reader takes its tokens from those ahead; a fault counts the tokens that were ahead of the first
+//! that cannot go on, with that one.
+ghost use Rattle.std.specs.Prelude.{◌≡◌, ◌<◌, ◌≤◌, ◌++◌, ◌∷◌, [], length, None, Some, false, IfOk, IfErr, IfSome, IfNone, IsTrue};
 ghost use Rattle.fc_syntax.specs.declared.keyword.Keyword.TheVariants as key;
-ghost use Rattle.fc_read_parts.specs.Classes.{IsSlice, word_at};
-ghost use Rattle.fc_read_parts.specs.Machine.{AModuleWord, AModuleName, AnImportsWord, AnExportsWord, AName, ALower, AnUpper, AnOpen, AClose};
-ghost use Rattle.fc_read_parts.specs.Reading.{Closes, GoesOn, IsName, IsPlain, OpensHidden, Stops, Takes};
+ghost use Rattle.fc_model.specs.Words.{Open, Close, Key};
+ghost use Rattle.fc_model.specs.Grammar.{
+  AClose,
+  ALower,
+  AModuleName,
+  AName,
+  ANumber,
+  ARole,
+  AWord,
+  AnEqualityRole,
+  AnOpen,
+  AnOperator,
+  AnUpper,
+  AnUpperName,
+  equality_role_row,
+  gives,
+  here,
+  name_in as spec_name_in,
+  plain_name as spec_plain_name,
+  role_row,
+};
+ghost use Rattle.fc_read_parts.specs.Seen.{ahead, seen, seen_all};
+ghost use Rattle.fc_read_parts.specs.Reading.{GoesOn, NotHidden, StopsAt, Takes, first_tok};
 ghost use Rattle.fc_read_parts.specs.declared.parts.Stop.TheVariants.{Memory as memory_stop};
 
-use crate::class::{Terminal, first};
+use crate::terminal::Terminal;
 use fc_lex::is_module_part;
-use fc_syntax::{Keyword, Memory, Text, Token};
+use fc_syntax::{Keyword, Memory, Name, PrimOp, Role, Text};
 use std::alloc::Global;
-use std::str;
 
 /// Why a reader stopped.
 #[derive(Debug, Drop)]
 pub enum Stop {
-    /// Memory was wanting.
+    /// Out of memory.
     Memory,
     /// How many tokens are left from the first on that cannot go on, 0 where the tokens end too early.
     Form(usize),
@@ -32,201 +49,342 @@ impl From<Memory> for Stop {
     }
 }
 
-/// The text of a name's token. Fails only where memory is wanting.
-#[tactic(auto, using(crate::proofs::Ascii::name_utf8))]
-pub fn name_text(alloc: Global, bytes: &[u8], token: Token) -> Result<Text, Memory>
-    requires inside { IsSlice bytes.now token }
-    requires named { is_plain_name (word_at bytes.now token) ≡ true }
-    ensures { IfOk result (λ t. t ≡ word_at bytes.now token) }
-{
-    match str::from_utf8(&bytes[token.from as usize..token.to as usize]) {
-        Ok(word) => Text::from_str(alloc, word),
-        Err(_) => unreachable!(),
+/// The tokens that are still to be read.
+#[derive(Debug, Drop)]
+pub struct Tokens<'a> {
+    rest: &'a [Terminal<'a>],
+}
+
+impl<'a> Tokens<'a> {
+    /// All of these tokens.
+    pub fn new(tokens: &'a [Terminal<'a>]) -> Tokens<'a>
+        ensures { ahead result ≡ seen_all tokens.now }
+    {
+        Tokens { rest: tokens }
+    }
+
+    /// How many tokens are ahead.
+    pub fn left(&self) -> usize
+        ensures { result ≡ length (ahead self.now) }
+    {
+        self.rest.len()
+    }
+
+    /// The first token ahead, which stays there.
+    pub fn peek(&self) -> Option<Terminal<'a>>
+        ensures none { IfNone result (first_tok (ahead self.now) ≡ None) }
+        ensures some { IfSome result (λ t. first_tok (ahead self.now) ≡ Some (seen t)) }
+    {
+        match self.rest {
+            [] => None,
+            [token, ..] => Some(*token),
+        }
+    }
+
+    /// Takes the first token ahead.
+    pub fn next(&mut self) -> Option<Terminal<'a>>
+        ensures none { IfNone result ((ahead self.old ≡ []) × (ahead self.new ≡ [])) }
+        ensures some { IfSome result (λ t. ahead self.old ≡ seen t ∷ ahead self.new) }
+    {
+        match self.rest {
+            [] => None,
+            [token, ..] => {
+                let token = *token;
+                self.rest = &self.rest[1..];
+                Some(token)
+            }
+        }
     }
 }
 
-/// The tokens behind a closing bracket, where one comes first.
-pub fn closes<'a>(bytes: &[u8], tokens: &'a [Token]) -> Option<&'a [Token]>
-    requires { AreSlices bytes.now tokens.now }
-    ensures none { IfNone result (GoesOn (toks bytes.now tokens.now)) }
-    ensures some { IfSome result (λ x. Closes bytes.now tokens.now x.now) }
+/// Takes a closing bracket, where one comes first, and answers whether it did.
+#[tactic(auto, using(crate::proofs::Rows::goes_on))]
+pub fn closes(tokens: &mut Tokens<'_>) -> bool
+    ensures closed { IsTrue result → ahead tokens.old ≡ Close ∷ ahead tokens.new }
+    ensures open { result ≡ false → GoesOn (ahead tokens.old) × (ahead tokens.new ≡ ahead tokens.old) }
 {
-    match first(bytes, tokens) {
-        Some((Terminal::Close, _, rest)) => Some(rest),
-        _ => None,
+    match tokens.peek() {
+        Some(Terminal::Close) => {
+            tokens.next();
+            true
+        }
+        _ => false,
     }
 }
 
-/// The tokens behind `(hidden`, where it comes first.
-pub fn opens_hidden<'a>(bytes: &[u8], tokens: &'a [Token]) -> Option<&'a [Token]>
-    requires { AreSlices bytes.now tokens.now }
-    ensures none { IfNone result (IsPlain (toks bytes.now tokens.now)) }
-    ensures some { IfSome result (λ x. OpensHidden bytes.now tokens.now x.now) }
+/// Takes `type`, where it comes first, and answers whether it did.
+pub fn takes_type(tokens: &mut Tokens<'_>) -> bool
+    ensures taken { IsTrue result → ahead tokens.old ≡ Key key.Type ∷ ahead tokens.new }
+    ensures other { result ≡ false → (first_tok (ahead tokens.old) ≡ Some (Key key.Type) → ⊥) × (ahead tokens.new ≡ ahead tokens.old) }
 {
-    let Some((Terminal::Open, _, inner)) = first(bytes, tokens) else {
-        return None;
+    match tokens.peek() {
+        Some(Terminal::Key(Keyword::Type)) => {
+            tokens.next();
+            true
+        }
+        _ => false,
+    }
+}
+
+/// Takes `co`, where it comes first, and answers whether it did.
+pub fn takes_co(tokens: &mut Tokens<'_>) -> bool
+    ensures taken { IsTrue result → ahead tokens.old ≡ Key key.Co ∷ ahead tokens.new }
+    ensures other { result ≡ false → (first_tok (ahead tokens.old) ≡ Some (Key key.Co) → ⊥) × (ahead tokens.new ≡ ahead tokens.old) }
+{
+    match tokens.peek() {
+        Some(Terminal::Key(Keyword::Co)) => {
+            tokens.next();
+            true
+        }
+        _ => false,
+    }
+}
+
+/// Takes an opening bracket and `hidden`, where both come first, and answers whether it did.
+pub fn opens_hidden(tokens: &mut Tokens<'_>) -> bool
+    ensures hidden { IsTrue result → ahead tokens.old ≡ Open ∷ Key key.Hidden ∷ ahead tokens.new }
+    ensures plain { result ≡ false → NotHidden (ahead tokens.old) × (ahead tokens.new ≡ ahead tokens.old) }
+{
+    match tokens.rest {
+        [Terminal::Open, Terminal::Key(Keyword::Hidden), ..] => {
+            tokens.rest = &tokens.rest[2..];
+            true
+        }
+        _ => false,
+    }
+}
+
+/// Reads `(`. Stops at any other token.
+pub fn read_open(tokens: &mut Tokens<'_>) -> Result<(), Stop>
+    ensures read { IfOk result (λ _. Takes AnOpen (ahead tokens.old) here (ahead tokens.new)) }
+    ensures shorter { IfOk result (λ _. length (ahead tokens.new) < length (ahead tokens.old)) }
+    ensures fault { IfErr result (StopsAt AnOpen (ahead tokens.old)) }
+{
+    let left = tokens.left();
+    match tokens.next() {
+        Some(Terminal::Open) => Ok(()),
+        _ => Err(Stop::Form(left)),
+    }
+}
+
+/// Reads `)`. Stops at any other token.
+pub fn read_close(tokens: &mut Tokens<'_>) -> Result<(), Stop>
+    ensures read { IfOk result (λ _. Takes AClose (ahead tokens.old) here (ahead tokens.new)) }
+    ensures shorter { IfOk result (λ _. length (ahead tokens.new) < length (ahead tokens.old)) }
+    ensures fault { IfErr result (StopsAt AClose (ahead tokens.old)) }
+{
+    let left = tokens.left();
+    match tokens.next() {
+        Some(Terminal::Close) => Ok(()),
+        _ => Err(Stop::Form(left)),
+    }
+}
+
+/// Reads this word of a form. Stops at any other token.
+pub fn read_word(tokens: &mut Tokens<'_>, word: Keyword) -> Result<(), Stop>
+    ensures read { IfOk result (λ _. Takes (AWord word) (ahead tokens.old) here (ahead tokens.new)) }
+    ensures shorter { IfOk result (λ _. length (ahead tokens.new) < length (ahead tokens.old)) }
+    ensures fault { IfErr result (StopsAt (AWord word) (ahead tokens.old)) }
+{
+    let left = tokens.left();
+    let Some(Terminal::Key(key)) = tokens.next() else {
+        return Err(Stop::Form(left));
     };
-    match first(bytes, inner) {
-        Some((Terminal::Key(Keyword::Hidden), _, rest)) => Some(rest),
-        _ => None,
-    }
-}
-
-/// Reads `(`, and answers the tokens behind it. Stops at any other token.
-pub fn read_open<'a>(bytes: &[u8], tokens: &'a [Token]) -> Result<&'a [Token], Stop>
-    requires { AreSlices bytes.now tokens.now }
-    ensures read { IfOk result (λ x. toks bytes.now tokens.now ≡ Open ∷ toks bytes.now x.now) }
-    ensures taken { IfOk result (λ x. Takes AnOpen (toks bytes.now tokens.now) (toks bytes.now x.now)) }
-    ensures inside { IfOk result (λ x. AreSlices bytes.now x.now) }
-    ensures shorter { IfOk result (λ x. length x.now < length tokens.now) }
-    ensures fault { IfErr result (Stops AnOpen (toks bytes.now tokens.now)) }
-{
-    match first(bytes, tokens) {
-        Some((Terminal::Open, _, rest)) => Ok(rest),
-        _ => Err(Stop::Form(tokens.len())),
-    }
-}
-
-/// Reads `)`, and answers the tokens behind it. Stops at any other token.
-pub fn read_close<'a>(bytes: &[u8], tokens: &'a [Token]) -> Result<&'a [Token], Stop>
-    requires { AreSlices bytes.now tokens.now }
-    ensures read { IfOk result (λ x. toks bytes.now tokens.now ≡ Close ∷ toks bytes.now x.now) }
-    ensures taken { IfOk result (λ x. Takes AClose (toks bytes.now tokens.now) (toks bytes.now x.now)) }
-    ensures inside { IfOk result (λ x. AreSlices bytes.now x.now) }
-    ensures shorter { IfOk result (λ x. length x.now < length tokens.now) }
-    ensures fault { IfErr result (Stops AClose (toks bytes.now tokens.now)) }
-{
-    match first(bytes, tokens) {
-        Some((Terminal::Close, _, rest)) => Ok(rest),
-        _ => Err(Stop::Form(tokens.len())),
-    }
-}
-
-/// Reads `module`, and answers the tokens behind it. Stops at any other token.
-pub fn read_module_word<'a>(bytes: &[u8], tokens: &'a [Token]) -> Result<&'a [Token], Stop>
-    requires { AreSlices bytes.now tokens.now }
-    ensures read { IfOk result (λ x. toks bytes.now tokens.now ≡ Key key.Module ∷ toks bytes.now x.now) }
-    ensures taken { IfOk result (λ x. Takes AModuleWord (toks bytes.now tokens.now) (toks bytes.now x.now)) }
-    ensures inside { IfOk result (λ x. AreSlices bytes.now x.now) }
-    ensures shorter { IfOk result (λ x. length x.now < length tokens.now) }
-    ensures fault { IfErr result (Stops AModuleWord (toks bytes.now tokens.now)) }
-{
-    match first(bytes, tokens) {
-        Some((Terminal::Key(Keyword::Module), _, rest)) => Ok(rest),
-        _ => Err(Stop::Form(tokens.len())),
-    }
-}
-
-/// Reads `imports`, and answers the tokens behind it. Stops at any other token.
-pub fn read_imports_word<'a>(bytes: &[u8], tokens: &'a [Token]) -> Result<&'a [Token], Stop>
-    requires { AreSlices bytes.now tokens.now }
-    ensures read { IfOk result (λ x. toks bytes.now tokens.now ≡ Key key.Imports ∷ toks bytes.now x.now) }
-    ensures taken { IfOk result (λ x. Takes AnImportsWord (toks bytes.now tokens.now) (toks bytes.now x.now)) }
-    ensures inside { IfOk result (λ x. AreSlices bytes.now x.now) }
-    ensures shorter { IfOk result (λ x. length x.now < length tokens.now) }
-    ensures fault { IfErr result (Stops AnImportsWord (toks bytes.now tokens.now)) }
-{
-    match first(bytes, tokens) {
-        Some((Terminal::Key(Keyword::Imports), _, rest)) => Ok(rest),
-        _ => Err(Stop::Form(tokens.len())),
-    }
-}
-
-/// Reads `exports`, and answers the tokens behind it. Stops at any other token.
-pub fn read_exports_word<'a>(bytes: &[u8], tokens: &'a [Token]) -> Result<&'a [Token], Stop>
-    requires { AreSlices bytes.now tokens.now }
-    ensures read { IfOk result (λ x. toks bytes.now tokens.now ≡ Key key.Exports ∷ toks bytes.now x.now) }
-    ensures taken { IfOk result (λ x. Takes AnExportsWord (toks bytes.now tokens.now) (toks bytes.now x.now)) }
-    ensures inside { IfOk result (λ x. AreSlices bytes.now x.now) }
-    ensures shorter { IfOk result (λ x. length x.now < length tokens.now) }
-    ensures fault { IfErr result (Stops AnExportsWord (toks bytes.now tokens.now)) }
-{
-    match first(bytes, tokens) {
-        Some((Terminal::Key(Keyword::Exports), _, rest)) => Ok(rest),
-        _ => Err(Stop::Form(tokens.len())),
-    }
-}
-
-/// Reads the name of a module, an upper name of letters, digits and `_`. Stops at any other token.
-pub fn read_module_name<'a>(
-    alloc: Global,
-    bytes: &[u8],
-    tokens: &'a [Token],
-) -> Result<(Text, &'a [Token]), Stop>
-    requires { AreSlices bytes.now tokens.now }
-    ensures read { IfOk result (λ x. toks bytes.now tokens.now ≡ Upper x.0 ∷ toks bytes.now x.1.now) }
-    ensures of_module { IfOk result (λ x. spec_is_module_part x.0 ≡ true) }
-    ensures taken { IfOk result (λ x. Takes AModuleName (toks bytes.now tokens.now) (toks bytes.now x.1.now)) }
-    ensures inside { IfOk result (λ x. AreSlices bytes.now x.1.now) }
-    ensures shorter { IfOk result (λ x. length x.1.now < length tokens.now) }
-    ensures fault { IfErr result (Stops AModuleName (toks bytes.now tokens.now)) }
-{
-    let Some((Terminal::Upper, token, rest)) = first(bytes, tokens) else {
-        return Err(Stop::Form(tokens.len()));
-    };
-    if !is_module_part(&bytes[token.from as usize..token.to as usize]) {
-        return Err(Stop::Form(tokens.len()));
-    }
-    Ok((name_text(alloc, bytes, token)?, rest))
-}
-
-/// Reads a lower or upper name. Stops at any other token.
-pub fn read_name<'a>(
-    alloc: Global,
-    bytes: &[u8],
-    tokens: &'a [Token],
-) -> Result<(Text, &'a [Token]), Stop>
-    requires { AreSlices bytes.now tokens.now }
-    ensures read { IfOk result (λ x. IsName (toks bytes.now tokens.now) x.0 (toks bytes.now x.1.now)) }
-    ensures taken { IfOk result (λ x. Takes AName (toks bytes.now tokens.now) (toks bytes.now x.1.now)) }
-    ensures inside { IfOk result (λ x. AreSlices bytes.now x.1.now) }
-    ensures shorter { IfOk result (λ x. length x.1.now < length tokens.now) }
-    ensures fault { IfErr result (Stops AName (toks bytes.now tokens.now)) }
-{
-    let Some((class, token, rest)) = first(bytes, tokens) else {
-        return Err(Stop::Form(0));
-    };
-    match class {
-        Terminal::Lower => Ok((name_text(alloc, bytes, token)?, rest)),
-        Terminal::Upper => Ok((name_text(alloc, bytes, token)?, rest)),
-        _ => Err(Stop::Form(tokens.len())),
+    if key.text() == word.text() {
+        Ok(())
+    } else {
+        Err(Stop::Form(left))
     }
 }
 
 /// Reads a lower name. Stops at any other token.
-pub fn read_lower<'a>(
-    alloc: Global,
-    bytes: &[u8],
-    tokens: &'a [Token],
-) -> Result<(Text, &'a [Token]), Stop>
-    requires { AreSlices bytes.now tokens.now }
-    ensures read { IfOk result (λ x. toks bytes.now tokens.now ≡ Lower x.0 ∷ toks bytes.now x.1.now) }
-    ensures taken { IfOk result (λ x. Takes ALower (toks bytes.now tokens.now) (toks bytes.now x.1.now)) }
-    ensures inside { IfOk result (λ x. AreSlices bytes.now x.1.now) }
-    ensures shorter { IfOk result (λ x. length x.1.now < length tokens.now) }
-    ensures fault { IfErr result (Stops ALower (toks bytes.now tokens.now)) }
+pub fn read_lower(alloc: Global, tokens: &mut Tokens<'_>) -> Result<Text, Stop>
+    ensures read { IfOk result (λ x. Takes ALower (ahead tokens.old) x (ahead tokens.new)) }
+    ensures shorter { IfOk result (λ _. length (ahead tokens.new) < length (ahead tokens.old)) }
+    ensures fault { IfErr result (StopsAt ALower (ahead tokens.old)) }
 {
-    let Some((Terminal::Lower, token, rest)) = first(bytes, tokens) else {
-        return Err(Stop::Form(tokens.len()));
-    };
-    Ok((name_text(alloc, bytes, token)?, rest))
+    let left = tokens.left();
+    match tokens.next() {
+        Some(Terminal::Lower(word)) => Ok(Text::from_str(alloc, word)?),
+        _ => Err(Stop::Form(left)),
+    }
 }
 
 /// Reads an upper name. Stops at any other token.
-pub fn read_upper<'a>(
-    alloc: Global,
-    bytes: &[u8],
-    tokens: &'a [Token],
-) -> Result<(Text, &'a [Token]), Stop>
-    requires { AreSlices bytes.now tokens.now }
-    ensures read { IfOk result (λ x. toks bytes.now tokens.now ≡ Upper x.0 ∷ toks bytes.now x.1.now) }
-    ensures taken { IfOk result (λ x. Takes AnUpper (toks bytes.now tokens.now) (toks bytes.now x.1.now)) }
-    ensures inside { IfOk result (λ x. AreSlices bytes.now x.1.now) }
-    ensures shorter { IfOk result (λ x. length x.1.now < length tokens.now) }
-    ensures fault { IfErr result (Stops AnUpper (toks bytes.now tokens.now)) }
+pub fn read_upper(alloc: Global, tokens: &mut Tokens<'_>) -> Result<Text, Stop>
+    ensures read { IfOk result (λ x. Takes AnUpper (ahead tokens.old) x (ahead tokens.new)) }
+    ensures shorter { IfOk result (λ _. length (ahead tokens.new) < length (ahead tokens.old)) }
+    ensures fault { IfErr result (StopsAt AnUpper (ahead tokens.old)) }
 {
-    let Some((Terminal::Upper, token, rest)) = first(bytes, tokens) else {
-        return Err(Stop::Form(tokens.len()));
+    let left = tokens.left();
+    match tokens.next() {
+        Some(Terminal::Upper(word)) => Ok(Text::from_str(alloc, word)?),
+        _ => Err(Stop::Form(left)),
+    }
+}
+
+/// Reads a lower or an upper name. Stops at any other token.
+pub fn read_name(alloc: Global, tokens: &mut Tokens<'_>) -> Result<Text, Stop>
+    ensures read { IfOk result (λ x. Takes AName (ahead tokens.old) x (ahead tokens.new)) }
+    ensures shorter { IfOk result (λ _. length (ahead tokens.new) < length (ahead tokens.old)) }
+    ensures fault { IfErr result (StopsAt AName (ahead tokens.old)) }
+{
+    let left = tokens.left();
+    match tokens.next() {
+        Some(Terminal::Lower(word)) => Ok(Text::from_str(alloc, word)?),
+        Some(Terminal::Upper(word)) => Ok(Text::from_str(alloc, word)?),
+        _ => Err(Stop::Form(left)),
+    }
+}
+
+/// A module's name and a word, with a dot between them.
+fn dotted(alloc: Global, front: &str, word: &str) -> Result<Text, Memory>
+    ensures { IfOk result (λ t. t ≡ front.now ++ 46 ∷ word.now) }
+{
+    let mut text = String::from_str(alloc, front)?;
+    text.push_str(".")?;
+    text.push_str(word)?;
+    Text::from_str(alloc, text.as_str())
+}
+
+/// Reads the name of a module: upper names of letters, digits and `_`, joined by dots. Stops at any other token.
+pub fn read_module_name(alloc: Global, tokens: &mut Tokens<'_>) -> Result<Text, Stop>
+    ensures read { IfOk result (λ x. Takes AModuleName (ahead tokens.old) x (ahead tokens.new)) }
+    ensures shorter { IfOk result (λ _. length (ahead tokens.new) < length (ahead tokens.old)) }
+    ensures fault { IfErr result (StopsAt AModuleName (ahead tokens.old)) }
+{
+    let left = tokens.left();
+    match tokens.next() {
+        Some(Terminal::Upper(word)) if is_module_part(word.as_bytes()) => {
+            Ok(Text::from_str(alloc, word)?)
+        }
+        Some(Terminal::UpperOf(front, word)) if is_module_part(word.as_bytes()) => {
+            Ok(dotted(alloc, front, word)?)
+        }
+        _ => Err(Stop::Form(left)),
+    }
+}
+
+/// A word without a dot, as a name.
+pub fn plain_name(alloc: Global, word: &str) -> Result<Name, Memory>
+    ensures { IfOk result (λ n. n ≡ spec_plain_name word.now) }
+{
+    Ok(Name {
+        module: None,
+        text: Text::from_str(alloc, word)?,
+    })
+}
+
+/// A name of a module.
+pub fn name_in(alloc: Global, front: &str, word: &str) -> Result<Name, Memory>
+    ensures { IfOk result (λ n. n ≡ spec_name_in front.now word.now) }
+{
+    Ok(Name {
+        module: Some(Text::from_str(alloc, front)?),
+        text: Text::from_str(alloc, word)?,
+    })
+}
+
+/// Reads an upper name, which may be one of a module. Stops at any other token.
+pub fn read_upper_name(alloc: Global, tokens: &mut Tokens<'_>) -> Result<Name, Stop>
+    ensures read { IfOk result (λ x. Takes AnUpperName (ahead tokens.old) x (ahead tokens.new)) }
+    ensures shorter { IfOk result (λ _. length (ahead tokens.new) < length (ahead tokens.old)) }
+    ensures fault { IfErr result (StopsAt AnUpperName (ahead tokens.old)) }
+{
+    let left = tokens.left();
+    match tokens.next() {
+        Some(Terminal::Upper(word)) => Ok(plain_name(alloc, word)?),
+        Some(Terminal::UpperOf(front, word)) => Ok(name_in(alloc, front, word)?),
+        _ => Err(Stop::Form(left)),
+    }
+}
+
+/// The role that a word is.
+fn role_of(word: &str) -> Option<Role>
+    ensures none { IfNone result (role_row word.now ≡ None) }
+    ensures some { IfSome result (λ r. role_row word.now ≡ Some (gives r)) }
+{
+    if word == "N" {
+        Some(Role::N)
+    } else if word == "R" {
+        Some(Role::R)
+    } else if word == "P" {
+        Some(Role::P)
+    } else {
+        None
+    }
+}
+
+/// Reads `N`, `R` or `P`. Stops at any other token.
+pub fn read_role(tokens: &mut Tokens<'_>) -> Result<Role, Stop>
+    ensures read { IfOk result (λ x. Takes ARole (ahead tokens.old) x (ahead tokens.new)) }
+    ensures shorter { IfOk result (λ _. length (ahead tokens.new) < length (ahead tokens.old)) }
+    ensures fault { IfErr result (StopsAt ARole (ahead tokens.old)) }
+{
+    let left = tokens.left();
+    let Some(Terminal::Upper(word)) = tokens.next() else {
+        return Err(Stop::Form(left));
     };
-    Ok((name_text(alloc, bytes, token)?, rest))
+    match role_of(word) {
+        Some(role) => Ok(role),
+        None => Err(Stop::Form(left)),
+    }
+}
+
+/// The role of an equality that a word is.
+fn equality_role_of(word: &str) -> Option<Role>
+    ensures none { IfNone result (equality_role_row word.now ≡ None) }
+    ensures some { IfSome result (λ r. equality_role_row word.now ≡ Some (gives r)) }
+{
+    if word == "N" {
+        Some(Role::N)
+    } else if word == "R" {
+        Some(Role::R)
+    } else {
+        None
+    }
+}
+
+/// Reads `N` or `R`. Stops at any other token.
+pub fn read_equality_role(tokens: &mut Tokens<'_>) -> Result<Role, Stop>
+    ensures read { IfOk result (λ x. Takes AnEqualityRole (ahead tokens.old) x (ahead tokens.new)) }
+    ensures shorter { IfOk result (λ _. length (ahead tokens.new) < length (ahead tokens.old)) }
+    ensures fault { IfErr result (StopsAt AnEqualityRole (ahead tokens.old)) }
+{
+    let left = tokens.left();
+    let Some(Terminal::Upper(word)) = tokens.next() else {
+        return Err(Stop::Form(left));
+    };
+    match equality_role_of(word) {
+        Some(role) => Ok(role),
+        None => Err(Stop::Form(left)),
+    }
+}
+
+/// Reads a number. Stops at any other token.
+pub fn read_number(tokens: &mut Tokens<'_>) -> Result<u32, Stop>
+    ensures read { IfOk result (λ x. Takes ANumber (ahead tokens.old) x (ahead tokens.new)) }
+    ensures shorter { IfOk result (λ _. length (ahead tokens.new) < length (ahead tokens.old)) }
+    ensures fault { IfErr result (StopsAt ANumber (ahead tokens.old)) }
+{
+    let left = tokens.left();
+    match tokens.next() {
+        Some(Terminal::Number(n)) => Ok(n),
+        _ => Err(Stop::Form(left)),
+    }
+}
+
+/// Reads the sign or the word of a primitive. Stops at any other token.
+pub fn read_operator(tokens: &mut Tokens<'_>) -> Result<PrimOp, Stop>
+    ensures read { IfOk result (λ x. Takes AnOperator (ahead tokens.old) x (ahead tokens.new)) }
+    ensures shorter { IfOk result (λ _. length (ahead tokens.new) < length (ahead tokens.old)) }
+    ensures fault { IfErr result (StopsAt AnOperator (ahead tokens.old)) }
+{
+    let left = tokens.left();
+    match tokens.next() {
+        Some(Terminal::Operator(op)) => Ok(op),
+        Some(Terminal::Key(Keyword::Quot)) => Ok(PrimOp::Quot),
+        Some(Terminal::Key(Keyword::Rem)) => Ok(PrimOp::Rem),
+        _ => Err(Stop::Form(left)),
+    }
 }

@@ -1,34 +1,37 @@
 -- A text spells one module, and where it has a fault it spells none.
 use Rattle.std.proofs.Common.{◌≡◌, ℕ, Bool, true, false, List, [], ◌∷◌, ◌++◌, map, Result, Ok, Err, sym, ap, ◌∙◌, subst, append_assoc}
 use Rattle.std.proofs.lemmas.List.{append-nil, map-append}
+use Rattle.fc_syntax.specs.Limits.{standard_limits}
 use Rattle.fc_syntax.specs.Tree.{Decl, Module}
 use Rattle.fc_syntax.specs.Tokens.{ByteFault, Lexeme, tokens_of}
 use Rattle.fc_model.specs.Words.{Tok, Open, tok_of}
-use Rattle.fc_model.specs.Texts.{ModuleAt, Spells}
+use Rattle.fc_model.specs.Grammar.{AModule}
+use Rattle.fc_model.specs.Reading.{Reads}
+use Rattle.fc_model.specs.Texts.{Spells}
 use Rattle.fc_model.specs.ReadFaults.{nests_within, CannotGoOn, FirstReadFault, of_tokens, of_form, of_brackets, of_depth, of_counts, IsDeclAt, IsText, ReadsTo, are_within}
-use Rattle.fc_reader.proofs.Cuts.{begins_longer}
+use Rattle.fc_reader.proofs.Fronts.{begins_longer}
 use Rattle.fc_reader.proofs.Levels.{nests_front}
-use Rattle.fc_reader.proofs.One.{module_one}
-use Rattle.fc_reader.proofs.Within.{last_counts, last_depth, module_all}
+use Rattle.fc_reader.proofs.Sums.{last_counts, last_depth}
+use Rattle.fc_reader.proofs.Within.{module_all, one_value}
 
-ok_same : {A B : Type 0} (x y : A) (r : Result A B) → r ≡ Ok x → r ≡ Ok y → x ≡ y
+pub ok_same : {A B : Type 0} (x y : A) (r : Result A B) → r ≡ Ok x → r ≡ Ok y → x ≡ y
 ok_same x y r e f = cc
 
-ok-err : {A B : Type 0} (x : A) (y : B) (r : Result A B) → r ≡ Ok x → r ≡ Err y → ⊥
+pub ok-err : {A B : Type 0} (x : A) (y : B) (r : Result A B) → r ≡ Ok x → r ≡ Err y → ⊥
 ok-err x y r e f = cc
 
-module_on : {ts us : List Tok} {m : Module} → us ≡ ts → ModuleAt ts m [] → ModuleAt us m []
-module_on {m = m} e d = subst (λ u. ModuleAt u m []) (sym e) d
+module_on : {ts us : List Tok} {m : Module} → us ≡ ts → Reads AModule ts m [] → Reads AModule us m []
+module_on {m = m} e d = subst (λ u. Reads AModule u m []) (sym e) d
 
 pub one_module : (bytes : List ℕ) (m n : Module) → Spells bytes m → Spells bytes n → m ≡ n
-one_module bytes m n h k = (module_one h.parsed (module_on (ap (map tok_of) (ok_same _ _ _ h.lexed k.lexed)) k.parsed)).value
+one_module bytes m n h k = one_value AModule (map tok_of h.lexemes) h.parsed (module_on (ap (map tok_of) (ok_same _ _ _ h.lexed k.lexed)) k.parsed)
 
 -- tokens that cannot go on are not those of a module
 not_whole : (good bad : List Tok) → CannotGoOn good bad → IsText (good ++ bad) → ⊥
 not_whole good [] h d = h (d.0, module_on (sym (append-nil good)) d.1)
 not_whole good (t ∷ bad) h d = h (bad, (d.0, module_on (append_assoc good (t ∷ []) bad) d.1))
 
-true-false : (p : Bool) → p ≡ true → p ≡ false → ⊥
+pub true-false : (p : Bool) → p ≡ true → p ≡ false → ⊥
 true-false p e f = cc
 
 -- the tokens up to a bracket, the bracket and those behind it
@@ -54,7 +57,7 @@ no_module bytes _ m (of_form e p) h =
     not_whole (map tok_of p.good) (map tok_of p.bad) p.stops
     (m, module_on (sym (ap (map tok_of) (ok_same _ _ _ h.spelled.lexed e ∙ p.parts) ∙ map-append tok_of p.good p.bad)) h.spelled.parsed)
 no_module bytes _ m (of_brackets e p) h =
-    true-false _ (nests_front 2000 0 (map tok_of p.good ++ Open ∷ []) (map tok_of p.bad)
-    (ap (nests_within 2000 0) (bracketed p.good p.bracket p.bad p.opens ∙ ap (map tok_of) (sym p.parts ∙ sym (ok_same _ _ _ h.spelled.lexed e))) ∙ h.nested)) p.deep
+    true-false _ (nests_front standard_limits.brackets 0 (map tok_of p.good ++ Open ∷ []) (map tok_of p.bad)
+    (ap (nests_within standard_limits.brackets 0) (bracketed p.good p.bracket p.bad p.opens ∙ ap (map tok_of) (sym p.parts ∙ sym (ok_same _ _ _ h.spelled.lexed e))) ∙ h.nested)) p.deep
 no_module bytes _ m (of_depth before d e p past) h = true-false _ (last_depth before d (decl_within bytes m before d e p h)) past
 no_module bytes _ m (of_counts before d e p fits past) h = true-false _ (last_counts before d (decl_within bytes m before d e p h)) past

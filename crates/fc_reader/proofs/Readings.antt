@@ -1,25 +1,31 @@
 -- What is read of a file, from what its tokens are and what they spell.
 use Rattle.std.proofs.Common.{◌≡◌, ◌≤◌, ◌-◌, ℕ, Bool, true, false, ◌&&◌, ◌==◌, List, [], length, map, drop, Ok, eqb-true, sym, ap, ◌∙◌, subst}
+use Rattle.fc_syntax.specs.Limits.{standard_limits}
 use Rattle.fc_syntax.specs.declared.fault.FaultKind.{FaultKind}
 use Rattle.fc_syntax.specs.declared.fault.FaultKind.TheVariants as kind
 use Rattle.fc_syntax.specs.declared.fault.Refusal.{Refusal}
 use Rattle.fc_syntax.specs.declared.fault.Refusal.TheVariants as refusal
 use Rattle.fc_syntax.specs.declared.token.Token.{Token}
 use Rattle.fc_syntax.specs.Tree.{Module}
-use Rattle.fc_syntax.specs.Tokens.{lexeme_of, tokens_of}
+use Rattle.fc_syntax.specs.Tokens.{Lexeme, lexeme_of, tokens_of}
 use Rattle.fc_lex.specs.declared.LexError.{LexError}
 use Rattle.fc_lex.specs.declared.LexError.TheVariants as error
 use Rattle.fc_lex.specs.Faults.{IsFirstFault}
 use Rattle.std.proofs.lemmas.Bool.{and_parts, true≢false}
+use Rattle.std.proofs.lemmas.List.{drop-map, length-map}
 use Rattle.std.proofs.lemmas.Simd.{map-map}
 use Rattle.fc_model.specs.Words.{tok_of, toks}
-use Rattle.fc_model.specs.Texts.{BeginsWithDecls, ModuleAt}
-use Rattle.fc_model.specs.ReadFaults.{FirstReadFault, of_tokens, of_form, of_brackets, of_depth, of_counts, NestsWithin, ReadsTo, byte_of, decls_within}
+use Rattle.fc_model.specs.Grammar.{AModule}
+use Rattle.fc_model.specs.Reading.{Reads}
+use Rattle.fc_model.specs.Texts.{BeginsWithDecls}
+use Rattle.fc_model.specs.ReadFaults.{FirstReadFault, of_tokens, of_form, of_brackets, of_depth, of_counts, ReadsTo, byte_of, decls_within}
+use Rattle.fc_read_parts.specs.Seen.{seen, seen_all}
+use Rattle.fc_read_parts.specs.declared.terminal.Terminal.{Terminal}
 use Rattle.fc_reader.specs.Halting.{FirstBadWithin, IsDeep, IsMuch, PastLimit}
 use Rattle.fc_reader.specs.Nested.{IsPart}
 use Rattle.fc_reader.specs.Outcomes.{IsRefusalAt, IsRefusalOf}
 use Rattle.fc_reader.specs.Refusals.{IsReadRefusal}
-use Rattle.fc_reader.proofs.Ends.{bad_form, decl_at, deep_bracket, parsed, part_is_all}
+use Rattle.fc_reader.proofs.Ends.{bad_form, decl_at, deep_bracket, part_is_all}
 
 first_fault : (file bytes : List ℕ) (k : FaultKind) (at : ℕ) (r : Refusal) → IsRefusalAt file k at r → FirstReadFault bytes (record { kind = k; at = at }) → IsReadRefusal file bytes r
 first_fault file bytes k at (refusal.Fault f) e h = record {
@@ -43,42 +49,63 @@ is_at_bracket deep n r e h = let p = and_parts deep (n == 0) (sym e ∙ h) in (p
 is_elsewhere : (deep : Bool) (n : ℕ) (r : Bool) → r ≡ (deep && (n == 0)) → r ≡ false → deep ≡ true → n ≡ 0 → ⊥
 is_elsewhere deep n r e h d z = true≢false (sym (e ∙ ap (λ b. b && (n == 0)) d ∙ ap (λ k. k == 0) z) ∙ h)
 
-pub form_fault : (file bytes : List ℕ) (tokens part : List Token) (deep : Bool) (n at : ℕ) (r : Refusal) → tokens_of bytes ≡ Ok (map (lexeme_of bytes) tokens) → IsPart bytes tokens part deep
-    → (b : Bool) → b ≡ (deep && (n == 0)) → b ≡ false → FirstBadWithin (toks bytes part) n → at ≡ byte_of bytes (map (lexeme_of bytes) (drop (length part - n) part))
-    → IsRefusalAt file kind.BadForm at r → IsReadRefusal file bytes r
-form_fault file bytes tokens part deep n at r lexed p b is other w place e =
-    first_fault file bytes kind.BadForm at r e
-    (subst (λ x. FirstReadFault bytes (record { kind = kind.BadForm; at = x })) (sym place) (of_form lexed (bad_form bytes tokens part deep n p (is_elsewhere deep n b is other) w)))
+-- ---- what a file is: its tokens, each seen, and those of them that were read
 
-pub bracket_fault : (file bytes : List ℕ) (tokens part : List Token) (deep : Bool) (n at : ℕ) (r : Refusal) → tokens_of bytes ≡ Ok (map (lexeme_of bytes) tokens) → IsPart bytes tokens part deep
-    → (b : Bool) → b ≡ (deep && (n == 0)) → b ≡ true → FirstBadWithin (toks bytes part) n → at ≡ byte_of bytes (map (lexeme_of bytes) (drop (length part - 1) part))
-    → IsRefusalAt file kind.TooDeep at r → IsReadRefusal file bytes r
-bracket_fault file bytes tokens part deep n at r lexed p b is same w place e =
+pub record Seen (bytes : List ℕ) (tokens : List Token) (all part : List Terminal) (deep : Bool) : Type 0 where
+  pub lexed : tokens_of bytes ≡ Ok (map (lexeme_of bytes) tokens)
+  pub classed : seen_all all ≡ toks bytes tokens
+  pub cut : IsPart (seen_all all) (seen_all part) deep
+
+abbrev lexemes_of : List ℕ → List Token → List Lexeme
+lexemes_of bytes tokens = map (lexeme_of bytes) tokens
+
+-- the tokens of a file are those of its lexemes
+part_of : (bytes : List ℕ) (tokens : List Token) (all part : List Terminal) (deep : Bool) → Seen bytes tokens all part deep → IsPart (map tok_of (lexemes_of bytes tokens)) (seen_all part) deep
+part_of bytes tokens all part deep s = subst (λ x. IsPart x (seen_all part) deep) (s.classed ∙ sym (map-map tok_of (lexeme_of bytes) tokens)) s.cut
+
+-- the byte of a token of this number
+placed : (bytes : List ℕ) (tokens : List Token) (part : List Terminal) (n at : ℕ) → at ≡ byte_of bytes (lexemes_of bytes (drop (length part - n) tokens))
+    → at ≡ byte_of bytes (drop (length (seen_all part) - n) (lexemes_of bytes tokens))
+placed bytes tokens part n at e =
+    e ∙ ap (byte_of bytes) (sym (drop-map (lexeme_of bytes) (length part - n) tokens) ∙ ap (λ k. drop (k - n) (lexemes_of bytes tokens)) (sym (length-map part seen)))
+
+pub form_fault : (file bytes : List ℕ) (tokens : List Token) (all part : List Terminal) (deep : Bool) (n at : ℕ) (r : Refusal) → Seen bytes tokens all part deep
+    → (b : Bool) → b ≡ (deep && (n == 0)) → b ≡ false → FirstBadWithin (seen_all part) n → at ≡ byte_of bytes (lexemes_of bytes (drop (length part - n) tokens)) → IsRefusalAt file kind.BadForm at r
+    → IsReadRefusal file bytes r
+form_fault file bytes tokens all part deep n at r s b is other w place e =
+    let f = bad_form bytes (lexemes_of bytes tokens) (seen_all part) deep n (part_of bytes tokens all part deep s) (is_elsewhere deep n b is other) w in
+    first_fault file bytes kind.BadForm at r e (subst (λ x. FirstReadFault bytes (record { kind = kind.BadForm; at = x })) (sym (placed bytes tokens part n at place)) (of_form s.lexed f))
+
+pub bracket_fault : (file bytes : List ℕ) (tokens : List Token) (all part : List Terminal) (deep : Bool) (n at : ℕ) (r : Refusal) → Seen bytes tokens all part deep
+    → (b : Bool) → b ≡ (deep && (n == 0)) → b ≡ true → FirstBadWithin (seen_all part) n → at ≡ byte_of bytes (lexemes_of bytes (drop (length part - 1) tokens)) → IsRefusalAt file kind.TooDeep at r
+    → IsReadRefusal file bytes r
+bracket_fault file bytes tokens all part deep n at r s b is same w place e =
     let h = is_at_bracket deep n b is same in
-    let f = deep_bracket bytes tokens part (subst (IsPart bytes tokens part) h.0 p) (subst (FirstBadWithin (toks bytes part)) h.1 w) in
-    first_fault file bytes kind.TooDeep at r e (subst (λ x. FirstReadFault bytes (record { kind = kind.TooDeep; at = x })) (sym place) (of_brackets lexed f))
+    let p = subst (IsPart (map tok_of (lexemes_of bytes tokens)) (seen_all part)) h.0 (part_of bytes tokens all part deep s) in
+    let f = deep_bracket bytes (lexemes_of bytes tokens) (seen_all part) p (subst (FirstBadWithin (seen_all part)) h.1 w) in
+    first_fault file bytes kind.TooDeep at r e (subst (λ x. FirstReadFault bytes (record { kind = kind.TooDeep; at = x })) (sym (placed bytes tokens part 1 at place)) (of_brackets s.lexed f))
 
-pub depth_fault : (file bytes : List ℕ) (tokens part : List Token) (deep : Bool) (n at : ℕ) (r : Refusal) → tokens_of bytes ≡ Ok (map (lexeme_of bytes) tokens) → IsPart bytes tokens part deep
-    → PastLimit BeginsWithDecls IsDeep (toks bytes part) n → at ≡ byte_of bytes (map (lexeme_of bytes) (drop (length part - n) part)) → IsRefusalAt file kind.TooDeep at r
-    → IsReadRefusal file bytes r
-depth_fault file bytes tokens part deep n at r lexed p h place e =
+pub depth_fault : (file bytes : List ℕ) (tokens : List Token) (all part : List Terminal) (deep : Bool) (n at : ℕ) (r : Refusal) → Seen bytes tokens all part deep
+    → PastLimit BeginsWithDecls IsDeep (seen_all part) n → at ≡ byte_of bytes (lexemes_of bytes (drop (length part - n) tokens)) → IsRefusalAt file kind.TooDeep at r → IsReadRefusal file bytes r
+depth_fault file bytes tokens all part deep n at r s h place e =
+    let d = decl_at bytes (lexemes_of bytes tokens) (seen_all part) deep n (part_of bytes tokens all part deep s) h in
     first_fault file bytes kind.TooDeep at r e
-    (subst (λ x. FirstReadFault bytes (record { kind = kind.TooDeep; at = x })) (sym place) (of_depth h.before h.decl lexed (decl_at bytes tokens part deep n p h) h.past))
+    (subst (λ x. FirstReadFault bytes (record { kind = kind.TooDeep; at = x })) (sym (placed bytes tokens part n at place)) (of_depth h.before h.decl s.lexed d h.past))
 
-pub counts_fault : (file bytes : List ℕ) (tokens part : List Token) (deep : Bool) (n at : ℕ) (r : Refusal) → tokens_of bytes ≡ Ok (map (lexeme_of bytes) tokens) → IsPart bytes tokens part deep
-    → PastLimit BeginsWithDecls IsMuch (toks bytes part) n → at ≡ byte_of bytes (map (lexeme_of bytes) (drop (length part - n) part)) → IsRefusalAt file kind.TooMany at r
-    → IsReadRefusal file bytes r
-counts_fault file bytes tokens part deep n at r lexed p h place e =
+pub counts_fault : (file bytes : List ℕ) (tokens : List Token) (all part : List Terminal) (deep : Bool) (n at : ℕ) (r : Refusal) → Seen bytes tokens all part deep
+    → PastLimit BeginsWithDecls IsMuch (seen_all part) n → at ≡ byte_of bytes (lexemes_of bytes (drop (length part - n) tokens)) → IsRefusalAt file kind.TooMany at r → IsReadRefusal file bytes r
+counts_fault file bytes tokens all part deep n at r s h place e =
+    let d = decl_at bytes (lexemes_of bytes tokens) (seen_all part) deep n (part_of bytes tokens all part deep s) h in
     first_fault file bytes kind.TooMany at r e
-    (subst (λ x. FirstReadFault bytes (record { kind = kind.TooMany; at = x })) (sym place) (of_counts h.before h.decl lexed (decl_at bytes tokens part deep n p h) h.past.0 h.past.1))
+    (subst (λ x. FirstReadFault bytes (record { kind = kind.TooMany; at = x })) (sym (placed bytes tokens part n at place)) (of_counts h.before h.decl s.lexed d h.past.0 h.past.1))
 
-pub reads_to : (bytes : List ℕ) (tokens part : List Token) (deep : Bool) (m : Module) → length bytes ≤ 4194304 → tokens_of bytes ≡ Ok (map (lexeme_of bytes) tokens)
-    → IsPart bytes tokens part deep → ModuleAt (toks bytes part) m [] → decls_within m ≡ true → ReadsTo bytes m
-reads_to bytes tokens part deep m short lexed p d w =
-    let all = part_is_all bytes tokens part deep p d in
+pub reads_to : (bytes : List ℕ) (tokens : List Token) (all part : List Terminal) (deep : Bool) (m : Module) → length bytes ≤ standard_limits.file_bytes → Seen bytes tokens all part deep
+    → Reads AModule (seen_all part) m [] → decls_within m ≡ true → ReadsTo bytes m
+reads_to bytes tokens all part deep m short s d w =
+    let p = part_is_all (map tok_of (lexemes_of bytes tokens)) (seen_all part) deep (part_of bytes tokens all part deep s) d in
     record {
       short = short;
-      spelled = record { lexemes = map (lexeme_of bytes) tokens; lexed = lexed; parsed = parsed bytes tokens (subst (λ x. ModuleAt (toks bytes x) m []) all.all d) };
-      nested = subst NestsWithin (sym (map-map tok_of (lexeme_of bytes) tokens)) all.nested;
+      spelled = record { lexemes = lexemes_of bytes tokens; lexed = s.lexed; parsed = subst (λ x. Reads AModule x m []) p.whole d };
+      nested = p.nested;
       within = w;
     }

@@ -1,18 +1,20 @@
 -- How the reading of declarations ends where it does not reach its end.
-use Rattle.std.specs.Prelude.{◌≡◌, ◌≤◌, ◌+◌, ⊤, ℕ, true, false, ◌&&◌, nat_le, List, [], ◌∷◌, ◌++◌, length, Some}
+use Rattle.std.specs.Prelude.{◌≡◌, ◌≤◌, ◌+◌, ⊤, ℕ, true, false, ◌&&◌, nat_le, List, [], ◌∷◌, ◌++◌, length}
 use Rattle.fc_syntax.specs.Limits.{standard_limits}
 use Rattle.fc_syntax.specs.Measures.{decl_size, decls_size}
 use Rattle.fc_syntax.specs.Tree.{Decl}
 use Rattle.fc_model.specs.Words.{Tok}
-use Rattle.fc_model.specs.Texts.{DeclAt, BeginsWithDecls}
+use Rattle.fc_model.specs.Grammar.{Part, ADeclaration}
+use Rattle.fc_model.specs.Reading.{Reads}
+use Rattle.fc_model.specs.Texts.{BeginsWithDecls}
 use Rattle.fc_model.specs.ReadFaults.{are_within, counts_fit, depth_fits, WithinSoFar}
+use Rattle.fc_read_parts.specs.Reading.{StopsAt}
 use Rattle.fc_read_parts.specs.declared.parts.Stop.{Stop}
 use Rattle.fc_read_parts.specs.declared.parts.Stop.TheVariants as stop
 use Rattle.fc_reader.specs.declared.limits.Halt.{Halt}
 use Rattle.fc_reader.specs.declared.limits.Halt.TheVariants as halt
 use Rattle.fc_reader.specs.declared.limits.Measured.{Measured}
 use Rattle.fc_reader.specs.declared.limits.Measured.TheVariants as sizes
-use Rattle.fc_read_parts.specs.Machine.{Want, stuck}
 use Rattle.fc_reader.specs.Places.{FirstBad}
 
 -- the declaration nests too deep
@@ -30,7 +32,7 @@ pub record PastLimit (At : List Tok → List Decl → List Tok → Type 0) (Is :
   pub from : List Tok
   pub rest : List Tok
   pub start : At ts before from
-  pub own : DeclAt from decl rest
+  pub own : Reads ADeclaration from decl rest
   pub left : length from ≡ n
   pub within : are_within before ≡ true
   pub past : Is before decl
@@ -39,20 +41,20 @@ pub record PastLimit (At : List Tok → List Decl → List Tok → Type 0) (Is :
 abbrev pub AllWithin : (At : List Tok → List Decl → List Tok → Type 0) → List Tok → Type 0
 AllWithin At ts = (ds : List Decl) (rest : List Tok) → At ts ds rest → are_within ds ≡ true
 
--- the machine is stuck, and the declarations that stand whole are within the limits
-pub record StopsWithin (At : List Tok → List Decl → List Tok → Type 0) (w : Want) (ts : List Tok) (n : ℕ) : Type 0 where
-  pub stops : (s : List Want) → stuck (w ∷ s) ts ≡ Some n
+-- the tokens cannot go on as this part, whatever is still to come, and the declarations that stand whole are within the limits
+pub record StopsWithin (At : List Tok → List Decl → List Tok → Type 0) (p : Part) (ts : List Tok) (n : ℕ) : Type 0 where
+  pub stops : StopsAt p ts (stop.Form n)
   pub within : AllWithin At ts
 
-abbrev pub HaltsAt : (At : List Tok → List Decl → List Tok → Type 0) → Want → List Tok → Stop → Type 0
-HaltsAt At w ts stop.Memory = ⊤
-HaltsAt At w ts (stop.Form n) = StopsWithin At w ts n
+abbrev pub HaltsAt : (At : List Tok → List Decl → List Tok → Type 0) → Part → List Tok → Stop → Type 0
+HaltsAt At p ts stop.Memory = ⊤
+HaltsAt At p ts (stop.Form n) = StopsWithin At p ts n
 
 -- what a reader of declarations that halted has found
-abbrev pub Halts : (At : List Tok → List Decl → List Tok → Type 0) → Want → List Tok → Halt → Type 0
-Halts At w ts (halt.Stop s) = HaltsAt At w ts s
-Halts At w ts (halt.Depth n) = PastLimit At IsDeep ts n
-Halts At w ts (halt.Counts n) = PastLimit At IsMuch ts n
+abbrev pub Halts : (At : List Tok → List Decl → List Tok → Type 0) → Part → List Tok → Halt → Type 0
+Halts At p ts (halt.Stop s) = HaltsAt At p ts s
+Halts At p ts (halt.Depth n) = PastLimit At IsDeep ts n
+Halts At p ts (halt.Counts n) = PastLimit At IsMuch ts n
 
 -- what a declaration is to the limits, behind others of a size
 abbrev pub IsMeasured : Decl → ℕ → Measured → Type 0

@@ -17,7 +17,7 @@ pub record IsFaultOf (file bytes : List ℕ) (f : Fault) : Type 0 where
   pub at_byte : f.path ≡ place.Byte at
   pub first : FirstReadFault bytes (record { kind = f.kind; at = at })
 
--- want of memory tells nothing of the file
+-- out of memory tells nothing of the file
 abbrev pub IsReadRefusal : List ℕ → List ℕ → Refusal → Type 0
 IsReadRefusal file bytes (refusal.Fault f) = IsFaultOf file bytes f
 IsReadRefusal file bytes refusal.Memory = ⊤
@@ -27,3 +27,7 @@ abbrev pub SpellsOne : Type 0
 SpellsOne =
     ((bytes : List ℕ) (m n : Module) → Spells bytes m → Spells bytes n → m ≡ n)
     × ((bytes : List ℕ) (f : ByteFault) (m : Module) → FirstReadFault bytes f → ReadsTo bytes m → ⊥)
+
+-- bytes have at most one first fault
+abbrev pub HasOneFirstFault : Type 0
+HasOneFirstFault = (bytes : List ℕ) (f g : ByteFault) → FirstReadFault bytes f → FirstReadFault bytes g → f ≡ g

@@ -1,22 +1,28 @@
-//! Reads the text of a module.
+//! Reads the text of a module, and the parts of one from its tokens.
+//!
+//! `read_expr`, `read_type` and `read_decl` each read one form from the tokens ahead, and leave those behind it; at the first token
+//! that cannot go on they stop. They go as deep as brackets nest in the tokens that they are given: `up_to_deep_bracket` cuts these
+//! where they nest too deep. The other limits are those of a module, and `read_module` alone looks at them.
 #![tactic(auto)]
 
 ghost use Rattle.std.specs.Prelude.{◌≡◌, ◌≤◌, length, IfOk, IfErr};
+ghost use Rattle.fc_syntax.specs.Limits.{standard_limits};
 ghost use Rattle.fc_syntax.specs.View.{module_of};
-ghost use Rattle.fc_syntax.specs.Tree.{Module as ModuleTree};
-ghost use Rattle.fc_model.specs.Canonical.{IsBuilt, IsFormed};
+ghost use Rattle.fc_model.specs.Formed.{IsFormed};
 ghost use Rattle.fc_model.specs.ReadFaults.{ReadsTo};
-ghost use Rattle.fc_reader.specs.Refusals.{IsReadRefusal, SpellsOne};
+ghost use Rattle.fc_reader.specs.Refusals.{HasOneFirstFault, IsReadRefusal, SpellsOne};
 
-mod alternatives;
 mod decls;
-mod exprs;
 mod header;
 mod limits;
 mod nesting;
 mod whole;
 
+pub use crate::nesting::up_to_deep_bracket;
 use crate::whole::{read_tokens, refusal_of};
+pub use fc_read_parts::{Stop, Terminal, Tokens, terminals};
+pub use fc_read_terms::{read_declaration as read_decl, read_expression as read_expr};
+pub use fc_read_types::read_type;
 use fc_syntax::{Module, Refusal};
 use std::alloc::Global;
 
@@ -27,21 +33,27 @@ use std::alloc::Global;
 /// fault of form stands at the first token that cannot go on, or at the length of the file; brackets that nest too deep, at
 /// the first such bracket; a declaration that is too deep, has too many parts or makes the module too large, at its own
 /// opening bracket.
+#[tactic(auto, using(crate::proofs::RowsFormed::reads_formed))]
 pub fn read_module(alloc: Global, file: &str, bytes: &[u8]) -> Result<Module, Refusal>
-    requires { length bytes.now ≤ 4194304 }
+    requires { length bytes.now ≤ standard_limits.file_bytes }
     ensures found { IfOk result (λ m. ReadsTo bytes.now (module_of m)) }
     ensures formed { IfOk result (λ m. IsFormed (module_of m)) }
-    ensures built { IfOk result (λ m. IsBuilt (module_of m)) }
     ensures fault { IfErr result (IsReadRefusal file.now bytes.now) }
 {
     let tokens = match fc_lex::tokens(alloc, bytes) {
         Err(error) => return Err(refusal_of(alloc, file, error)),
         Ok(tokens) => tokens,
     };
-    read_tokens(alloc, file, bytes, tokens.as_slice())
+    let terminals = terminals(alloc, bytes, tokens.as_slice())?;
+    read_tokens(alloc, file, bytes, tokens.as_slice(), terminals.as_slice())
 }
 
 /// Bytes spell at most one module, and where there is a first fault they spell none within the limits.
 pub fn a_text_has_one_module()
     ensures one { SpellsOne }
+{}
+
+/// Bytes have at most one first fault.
+pub fn a_text_has_one_first_fault()
+    ensures one { HasOneFirstFault }
 {}

@@ -1,6 +1,7 @@
 //! The limits on what is read.
 ghost use Rattle.std.specs.Prelude.{◌≡◌, ◌≤◌, ◌+◌, min};
 ghost use Rattle.std.specs.List.{list_all};
+ghost use Rattle.fc_syntax.specs.Limits.{standard_limits};
 ghost use Rattle.fc_syntax.specs.View.{binders_of, con_of, cons_of, decl_of};
 ghost use Rattle.fc_model.specs.ReadFaults.{co_count, con_counts_fit, type_count, counts_fit as spec_counts_fit};
 ghost use Rattle.fc_reader.specs.Halting.{IsMeasured};
@@ -9,24 +10,25 @@ ghost use Rattle.fc_read_parts.specs.declared.parts.Stop.TheVariants.{Memory as 
 
 use fc_measures::{add, depth, size_of_decl};
 use fc_read_parts::Stop;
-use fc_syntax::{Binder, ConDecl, Decl, Memory};
-
-/// Depth of a declaration.
-const MOST_DEEP: u32 = 500;
-/// Size of all declarations of a file.
-const MOST_PIECES: u64 = 400_000;
-/// Fields and parameters.
-const MOST_FIELDS: u64 = 16;
+use fc_syntax::{Binder, ConDecl, Decl, Limits, Memory};
 
 /// Why the declarations of a module were not read to their end.
 #[derive(Debug, Drop)]
 pub(crate) enum Halt {
-    /// The form cannot go on, or memory was wanting.
+    /// The form cannot go on, or memory ran out.
     Stop(Stop),
     /// A declaration is too deep; how many tokens are left from its bracket on.
     Depth(usize),
     /// A declaration has too many parts or makes the module too large; how many tokens are left from its bracket on.
     Counts(usize),
+}
+
+impl From<Stop> for Halt {
+    ghost from_gives = { λ s e. e ≡ stopped s };
+
+    fn from(stop: Stop) -> Halt {
+        Halt::Stop(stop)
+    }
 }
 
 impl From<Memory> for Halt {
@@ -82,10 +84,11 @@ fn coercions_among(binders: &[Binder], most: u64) -> u64
 fn constructor_fits(con: &ConDecl) -> bool
     ensures { result ≡ con_counts_fit (con_of con.now) }
 {
-    let types = types_among(con.binders.as_slice(), MOST_FIELDS + 1);
-    let coercions = coercions_among(con.binders.as_slice(), MOST_FIELDS + 1);
-    let parts = add(coercions, con.fields.len() as u64, MOST_FIELDS + 1);
-    types <= MOST_FIELDS && parts <= MOST_FIELDS
+    let most = Limits::standard().fields as u64;
+    let types = types_among(con.binders.as_slice(), most + 1);
+    let coercions = coercions_among(con.binders.as_slice(), most + 1);
+    let parts = add(coercions, con.fields.len() as u64, most + 1);
+    types <= most && parts <= most
 }
 
 fn constructors_fit(cons: &[ConDecl]) -> bool
@@ -103,14 +106,15 @@ fn constructors_fit(cons: &[ConDecl]) -> bool
 fn counts_fit(decl: &Decl) -> bool
     ensures { result ≡ spec_counts_fit (decl_of decl.now) }
 {
+    let most = Limits::standard().fields as u64;
     match decl {
         Decl::DataType(_, params, cons) => {
             let fit = constructors_fit(cons.as_slice());
-            params.len() as u64 <= MOST_FIELDS && fit
+            params.len() as u64 <= most && fit
         }
-        Decl::NewType(_, params, _, _) => params.len() as u64 <= MOST_FIELDS,
-        Decl::Family(_, params, _) => params.len() as u64 <= MOST_FIELDS,
-        Decl::Axiom(_, params, _, _) => params.len() as u64 <= MOST_FIELDS,
+        Decl::NewType(_, params, _, _) => params.len() as u64 <= most,
+        Decl::Family(_, params, _) => params.len() as u64 <= most,
+        Decl::Axiom(_, params, _, _) => params.len() as u64 <= most,
         Decl::Def(_, _, _) => true,
         Decl::Wrap(_, _, _) => true,
     }
@@ -118,14 +122,16 @@ fn counts_fit(decl: &Decl) -> bool
 
 /// What a declaration is to the limits, behind others of this size.
 pub(crate) fn measure(decl: &Decl, size: u64) -> Measured
-    requires { size ≤ 400000 }
+    requires { size ≤ standard_limits.size }
     ensures { IsMeasured (decl_of decl.now) size result }
 {
-    if depth(decl, MOST_DEEP + 1) > MOST_DEEP {
+    let limits = Limits::standard();
+    if depth(decl, limits.depth + 1) > limits.depth {
         return Measured::Deep;
     }
-    let all = size + size_of_decl(decl, MOST_PIECES + 1);
-    if !counts_fit(decl) || all > MOST_PIECES {
+    let most = limits.size as u64;
+    let all = size + size_of_decl(decl, most + 1);
+    if !counts_fit(decl) || all > most {
         return Measured::Much;
     }
     Measured::Fits(all)

@@ -1,11 +1,13 @@
 //! A whole text, and the bytes of its faults.
-ghost use Rattle.std.specs.Prelude.{◌≡◌, ◌≤◌, ◌-◌, ◌&&◌, ◌==◌, [], length, map, drop, true, Ok, IfOk, IfErr};
-ghost use Rattle.fc_syntax.specs.Tokens.{AreSlices, lexeme_of, tokens_of};
+ghost use Rattle.std.specs.Prelude.{◌≡◌, ◌≤◌, ◌&&◌, ◌==◌, [], length, map, drop, true, Ok, IfOk, IfErr};
+ghost use Rattle.fc_syntax.specs.Limits.{standard_limits};
+ghost use Rattle.fc_syntax.specs.Tokens.{lexeme_of, tokens_of};
 ghost use Rattle.fc_syntax.specs.View.{module_of};
 ghost use Rattle.fc_model.specs.Words.{toks};
-ghost use Rattle.fc_model.specs.Canonical.{IsBuilt, IsFormed};
-ghost use Rattle.fc_model.specs.Texts.{ModuleAt};
+ghost use Rattle.fc_model.specs.Grammar.{AModule};
+ghost use Rattle.fc_model.specs.Reading.{Reads};
 ghost use Rattle.fc_model.specs.ReadFaults.{byte_of, decls_within, ReadsTo};
+ghost use Rattle.fc_read_parts.specs.Seen.{seen_all};
 ghost use Rattle.fc_reader.specs.Halting.{RefusesModule};
 ghost use Rattle.fc_reader.specs.Refusals.{IsReadRefusal};
 ghost use Rattle.fc_reader.specs.Outcomes.{IsRefusalAt, IsRefusalOf};
@@ -14,27 +16,23 @@ use crate::header::read_module_form;
 use crate::limits::Halt;
 use crate::nesting::up_to_deep_bracket;
 use fc_lex::LexError;
-use fc_read_parts::Stop;
+use fc_read_parts::{Stop, Terminal, Tokens};
 use fc_syntax::{Fault, FaultKind, Module, Place, Refusal, Text, Token};
 use std::alloc::Global;
 
 /// The module within the limits that all the tokens are a text of.
-fn read_whole(alloc: Global, bytes: &[u8], tokens: &[Token]) -> Result<Module, Halt>
-    requires { AreSlices bytes.now tokens.now }
-    ensures found { IfOk result (λ m. ModuleAt (toks bytes.now tokens.now) (module_of m) []) }
+fn read_whole(alloc: Global, tokens: &[Terminal<'_>]) -> Result<Module, Halt>
+    ensures found { IfOk result (λ m. Reads AModule (seen_all tokens.now) (module_of m) []) }
     ensures within { IfOk result (λ m. decls_within (module_of m) ≡ true) }
-    ensures fault { IfErr result (RefusesModule (toks bytes.now tokens.now)) }
+    ensures fault { IfErr result (RefusesModule (seen_all tokens.now)) }
 {
-    match read_module_form(alloc, bytes, tokens) {
-        Err(halt) => Err(halt),
-        Ok((m, rest)) => {
-            let left = rest.len();
-            if left > 0 {
-                return Err(Halt::Stop(Stop::Form(left)));
-            }
-            Ok(m)
-        }
+    let mut rest = Tokens::new(tokens);
+    let m = read_module_form(alloc, &mut rest)?;
+    let left = rest.left();
+    if left > 0 {
+        return Err(Halt::Stop(Stop::Form(left)));
     }
+    Ok(m)
 }
 
 /// Whether all tokens up to a bracket that nests too deep were taken.
@@ -50,52 +48,51 @@ pub(crate) fn read_tokens(
     file: &str,
     bytes: &[u8],
     tokens: &[Token],
+    terminals: &[Terminal<'_>],
 ) -> Result<Module, Refusal>
-    requires short { length bytes.now ≤ 4194304 }
-    requires inside { AreSlices bytes.now tokens.now }
+    requires short { length bytes.now ≤ standard_limits.file_bytes }
     requires lexed { tokens_of bytes.now ≡ Ok (map (lexeme_of bytes.now) tokens.now) }
+    requires classed { seen_all terminals.now ≡ toks bytes.now tokens.now }
     ensures found { IfOk result (λ m. ReadsTo bytes.now (module_of m)) }
-    ensures formed { IfOk result (λ m. IsFormed (module_of m)) }
-    ensures built { IfOk result (λ m. IsBuilt (module_of m)) }
     ensures fault { IfErr result (IsReadRefusal file.now bytes.now) }
 {
-    let (part, deep) = up_to_deep_bracket(bytes, tokens);
-    match read_whole(alloc, bytes, part) {
+    let (part, deep) = up_to_deep_bracket(terminals);
+    match read_whole(alloc, part) {
         Err(Halt::Stop(Stop::Memory)) => Err(Refusal::Memory),
         Err(Halt::Stop(Stop::Form(left))) => {
             let at_bracket = ends_at_bracket(deep, left);
             if at_bracket {
-                let at = byte_of_left(bytes, part, 1);
+                let at = byte_of_token(bytes, tokens, part.len() - 1);
                 return Err(refusal_at(alloc, file, FaultKind::TooDeep, at));
             }
-            let at = byte_of_left(bytes, part, left);
+            let at = byte_of_token(bytes, tokens, part.len() - left);
             Err(refusal_at(alloc, file, FaultKind::BadForm, at))
         }
         Err(Halt::Depth(left)) => {
-            let at = byte_of_left(bytes, part, left);
+            let at = byte_of_token(bytes, tokens, part.len() - left);
             Err(refusal_at(alloc, file, FaultKind::TooDeep, at))
         }
         Err(Halt::Counts(left)) => {
-            let at = byte_of_left(bytes, part, left);
+            let at = byte_of_token(bytes, tokens, part.len() - left);
             Err(refusal_at(alloc, file, FaultKind::TooMany, at))
         }
         Ok(m) => Ok(m),
     }
 }
 
-/// The byte of the first of the last `left` tokens, or the length of the file where there is none.
-fn byte_of_left(bytes: &[u8], tokens: &[Token], left: usize) -> u32
-    requires short { length bytes.now ≤ 4194304 }
-    requires inside { left ≤ length tokens.now }
-    ensures { result ≡ byte_of bytes.now (map (lexeme_of bytes.now) (drop (length tokens.now - left) tokens.now)) }
+/// The byte of the token of this number, counted from 0, or the length of the file where there is none.
+fn byte_of_token(bytes: &[u8], tokens: &[Token], number: usize) -> u32
+    requires short { length bytes.now ≤ standard_limits.file_bytes }
+    requires inside { number ≤ length tokens.now }
+    ensures { result ≡ byte_of bytes.now (map (lexeme_of bytes.now) (drop number tokens.now)) }
 {
-    match &tokens[tokens.len() - left..] {
+    match &tokens[number..] {
         [] => bytes.len() as u32,
         [token, ..] => token.from,
     }
 }
 
-/// A fault at a byte of a file; want of memory where the name of the file cannot be copied.
+/// A fault at a byte of a file; out of memory where the name of the file cannot be copied.
 fn refusal_at(alloc: Global, file: &str, kind: FaultKind, at: u32) -> Refusal
     ensures { IsRefusalAt file.now kind at result }
 {

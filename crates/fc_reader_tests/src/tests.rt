@@ -1,10 +1,20 @@
 //! Texts with the modules and faults that they have.
+mod brackets;
 mod cases;
+mod coercions;
+mod counts;
+mod declarations;
+mod deep_forms;
+mod ends;
+mod expressions;
 mod forms;
+mod headers;
 mod limits;
+mod pieces;
+mod types;
 
 use fc_reader::read_module;
-use fc_syntax::{Fault, FaultKind, Place, Refusal, Seq, Text};
+use fc_syntax::{Fault, FaultKind, Limits, Place, Refusal, Seq, Text};
 use std::alloc::Global;
 use std::process::Abort;
 use std::test::Fail;
@@ -31,7 +41,7 @@ fn told(fault: &Fault) -> Option<(FaultKind, u32)> {
 
 /// What is wrong with a text, and at which byte; `None` where nothing is.
 fn fault(alloc: Global, text: &[u8]) -> Result<Option<(FaultKind, u32)>, Fail> {
-    if text.len() > 4194304 {
+    if text.len() > Limits::standard().file_bytes as usize {
         return Err("a long text".into());
     }
     match read_module(alloc, "m.core", text) {
@@ -93,6 +103,21 @@ fn are_bad_forms(
     Ok(())
 }
 
+/// Reads each text between two others, and looks for no fault.
+fn are_read(
+    rt: &impl Abort,
+    alloc: Global,
+    front: &[u8],
+    texts: &[&[u8]],
+    back: &[u8],
+) -> Result<(), Fail> {
+    for (number, text) in texts.iter().enumerate() {
+        let text = between(alloc, front, text, back)?;
+        assert_eq!(rt; fault(alloc, text.as_slice())?, None, "row {number}");
+    }
+    Ok(())
+}
+
 /// The word at a number, counted from 0; no bytes where the list is no longer than that.
 fn word(words: &Seq<Text>, at: usize) -> &str {
     match words.get(at) {
@@ -117,14 +142,24 @@ fn reads_headers(rt: HostRuntime) -> Result<(), Fail> {
 }
 
 #[test]
+fn reads_names_of_modules(rt: HostRuntime) -> Result<(), Fail> {
+    let text = b"(module A.B_1 (imports C D.E.F) (exports))";
+    let m = read_module(rt.alloc(), "m.core", text)?;
+    assert_eq!(rt; m.name.as_str(), "A.B_1");
+    assert_eq!(rt; m.imports.len(), 2);
+    assert_eq!(rt; word(&m.imports, 0), "C");
+    assert_eq!(rt; word(&m.imports, 1), "D.E.F");
+    Ok(())
+}
+
+#[test]
 fn refuses_at_the_first_fault(rt: HostRuntime) -> Result<(), Fail> {
-    let rows: [Row<'_>; 14] = [
+    let rows: [Row<'_>; 13] = [
         (b"", FaultKind::BadForm, 0),
         (b"(module M (imports", FaultKind::BadForm, 18),
         (b"\x80(module M (imports) (exports))", FaultKind::BadByte, 0),
         (b"(module M' (imports) (exports))", FaultKind::BadForm, 8),
         (b"(module case (imports) (exports))", FaultKind::BadForm, 8),
-        (b"(module M (imports X) (exports))", FaultKind::BadForm, 19),
         (
             b"(module M (imports) (exports x case))",
             FaultKind::BadForm,

@@ -56,8 +56,8 @@ fn resolved_over(
 }
 
 /// The nameless form of a module. A word that is not in scope is `Unbound`, one that is bound twice in its space `Duplicate`: the
-/// first of them in the order of the text is answered, with its declaration and the numbers of the parts on the way to it. After
-/// want of memory nothing is known of the module.
+/// first of them in the order of the text is answered, with its declaration and the numbers of the parts on the way to it. Where
+/// memory runs out nothing is known of the module.
 pub fn resolve(alloc: Global, m: &Module) -> Result<NModule, Flawed>
     ensures form { Says nmodule_of result (resolved_or_fault (module_of m.now)) }
     ensures words { IfOk result (λ n. kept.module_hints (module_of n) ≡ kept.module_hints (module_of m.now)) }

@@ -84,7 +84,7 @@ impl Names {
         }
     }
 
-    /// Puts the word of one more binder in, the innermost. Fails where memory or a count of 32 bits is wanting.
+    /// Puts the word of one more binder in, the innermost. Fails where memory runs out or a count passes 32 bits.
     pub fn add(&mut self, alloc: Global, word: &Text) -> Result<(), Memory>
         ensures { OnOk result (self.new ≡ word.now ∷ self.old) }
     {

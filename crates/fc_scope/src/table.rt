@@ -42,7 +42,7 @@ impl Table {
         }
     }
 
-    /// Puts one more word in. Fails where memory or a count of 32 bits is wanting, and then leaves the words as they were.
+    /// Puts one more word in. Fails where memory runs out or a count passes 32 bits, and then leaves the words as they were.
     pub fn add(&mut self, alloc: Global, word: &Text) -> Result<(), Memory>
         ensures ok { OnOk result (self.new ≡ word.now ∷ self.old) }
         ensures err { OnErr result (self.new ≡ self.old) }

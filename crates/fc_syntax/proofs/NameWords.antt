@@ -43,7 +43,7 @@ or_left x y h = ap (λ b. b || y) h
 lower_starts : (b : ℕ) → ((is_lower_letter b || b == 95) || b == 36) ≡ true → is_start b ≡ true
 lower_starts b h = or_left ((is_lower_letter b || b == 95) || b == 36) (is_upper_letter b) h
 
-upper_starts : (b : ℕ) → is_upper_letter b ≡ true → is_start b ≡ true
+pub upper_starts : (b : ℕ) → is_upper_letter b ≡ true → is_start b ≡ true
 upper_starts b h = grind (arith, nat_tests)
 
 -- what a lower or an upper name is made of
@@ -106,6 +106,9 @@ no_dots b bs n =
     ap (λ x. not x && list_all (λ b. not (is_dot b)) bs) (start_is_no_dot b n.start)
     ∙ all_follows is_name_byte (λ b. not (is_dot b)) (λ b h. ap not (name_byte_is_no_dot b h)) bs n.others
 
+pub undotted : (b : ℕ) (bs : List ℕ) → is_plain_name (b ∷ bs) ≡ true → list_any is_dot (b ∷ bs) ≡ false
+undotted b bs h = not_dotted (b ∷ bs) (no_dots b bs (name_parts b bs h))
+
 pub name_is_name : (b : ℕ) (bs : List ℕ) → is_plain_name (b ∷ bs) ≡ true → is_name (b ∷ bs) ≡ true
 name_is_name b bs h =
     let w = b ∷ bs in
@@ -120,8 +123,11 @@ by_tests false true w s a b c d l e h = absurd (true≢false e)
 by_tests false false true s a b c d l e h = refl
 by_tests false false false s a b c d l e h = absurd (true≢false (sym h))
 
-pub name_kind : (at b : ℕ) (bs : List ℕ) → is_plain_name (b ∷ bs) ≡ true → word_kind at (b ∷ bs) ≡ Ok kind.Word
-name_kind at b bs h =
-    let n = name_parts b bs h in
+-- what starts as a name does, and is one, is a word
+pub starting_kind : (at b : ℕ) (bs : List ℕ) → is_start b ≡ true → is_name (b ∷ bs) ≡ true → word_kind at (b ∷ bs) ≡ Ok kind.Word
+starting_kind at b bs h k =
     by_tests (is_literal (b ∷ bs)) (is_number (b ∷ bs)) (is_name (b ∷ bs)) (is_sign (b ∷ bs)) _ _ _ _
-    (not_literal b bs n.start) (ap (λ x. x && nat_le (length (b ∷ bs)) 9) (not_digits b bs n.start)) (name_is_name b bs h)
+    (not_literal b bs h) (ap (λ x. x && nat_le (length (b ∷ bs)) 9) (not_digits b bs h)) k
+
+pub name_kind : (at b : ℕ) (bs : List ℕ) → is_plain_name (b ∷ bs) ≡ true → word_kind at (b ∷ bs) ≡ Ok kind.Word
+name_kind at b bs h = starting_kind at b bs (name_parts b bs h).start (name_is_name b bs h)

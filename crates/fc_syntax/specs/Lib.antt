@@ -6,6 +6,7 @@ pub mod Roles
 pub mod Faults
 pub mod Limits
 pub mod Tokens
+pub mod Keywords
 pub mod Hints
 pub mod Measures
 pub mod Primitives

@@ -1,10 +1,24 @@
--- The values of the primitives on machine integers of 64 bits.
-use Rattle.std.specs.Prelude.{ℤ, pos, Bool, true, false, not, int_lt, int_div, int_rem, if◌then◌else◌, Option, Some, None, ◌+ℤ◌, ◌-ℤ◌, ◌*ℤ◌}
+-- How the primitives are written, and their values on machine integers of 64 bits.
+use Rattle.std.specs.Prelude.{ℕ, ℤ, List, codes, pos, Bool, true, false, not, int_lt, int_div, int_rem, if◌then◌else◌, Option, Some, None, ◌+ℤ◌, ◌-ℤ◌, ◌*ℤ◌}
 use Rattle.std.specs.Int.{int_wrap}
 use Rattle.std.specs.Ordering.{int_eq}
 use mir.Syntax.{w64}
 use Rattle.fc_syntax.specs.declared.expr.PrimOp.{PrimOp}
 use Rattle.fc_syntax.specs.declared.expr.PrimOp.TheVariants as op
+
+-- the sign or the word of a primitive
+abbrev pub operator_text : PrimOp → List ℕ
+operator_text op.Plus = codes "+#"
+operator_text op.Minus = codes "-#"
+operator_text op.Times = codes "*#"
+operator_text op.Quot = codes "quotInt#"
+operator_text op.Rem = codes "remInt#"
+operator_text op.Eq = codes "==#"
+operator_text op.Ne = codes "/=#"
+operator_text op.Lt = codes "<#"
+operator_text op.Le = codes "<=#"
+operator_text op.Gt = codes ">#"
+operator_text op.Ge = codes ">=#"
 
 -- a comparison gives 1 or 0
 abbrev pub truth : Bool → ℤ

@@ -14,13 +14,13 @@ use std::alloc::Global;
 
 /// What a variable of a tree may be.
 pub trait Variable: Drop {
-    /// The same variable again. Fails only where memory is wanting.
+    /// The same variable again. Fails only where memory runs out.
     fn again(&self, alloc: Global) -> Result<Self, Memory>
         ensures { IfOk result (λ x. x ≡ self.now) };
 }
 
 impl Text {
-    /// The same word again. Fails only where memory is wanting.
+    /// The same word again. Fails only where memory runs out.
     pub fn copy(&self, alloc: Global) -> Result<Text, Memory>
         ensures { IfOk result (λ t. t ≡ self.now) }
     {
@@ -29,7 +29,7 @@ impl Text {
 }
 
 impl Name {
-    /// The same name again. Fails only where memory is wanting.
+    /// The same name again. Fails only where memory runs out.
     pub fn copy(&self, alloc: Global) -> Result<Name, Memory>
         ensures { IfOk result (λ n. n ≡ self.now) }
     {
@@ -45,7 +45,7 @@ impl Name {
 }
 
 impl Ref {
-    /// The same reference again. Fails only where memory is wanting.
+    /// The same reference again. Fails only where memory runs out.
     pub fn copy(&self, alloc: Global) -> Result<Ref, Memory>
         ensures { IfOk result (λ r. r ≡ self.now) }
     {
@@ -57,7 +57,7 @@ impl Ref {
 }
 
 impl Kind {
-    /// The same kind again. Fails only where memory is wanting.
+    /// The same kind again. Fails only where memory runs out.
     #[tactic(auto, using(crate::proofs::View::view_rules))]
     pub fn copy(&self, alloc: Global) -> Result<Kind, Memory>
         ensures { IfOk result (λ k. kind_of k ≡ kind_of self.now) }
@@ -75,7 +75,7 @@ impl Kind {
 }
 
 impl<L: Variable> Ty<L> {
-    /// The same type again. Fails only where memory is wanting.
+    /// The same type again. Fails only where memory runs out.
     #[tactic(auto, using(crate::proofs::View::view_rules))]
     pub fn copy(&self, alloc: Global) -> Result<Ty<L>, Memory>
         ensures { IfOk result (λ t. ty_of t ≡ ty_of self.now) }
@@ -111,7 +111,7 @@ impl<L: Variable> Ty<L> {
 }
 
 impl<L: Variable> Co<L> {
-    /// The same coercion again. Fails only where memory is wanting.
+    /// The same coercion again. Fails only where memory runs out.
     #[cycle(copy_co)]
     #[tactic(auto, using(crate::proofs::View::view_rules))]
     pub fn copy(&self, alloc: Global) -> Result<Co<L>, Memory>
@@ -204,7 +204,7 @@ fn copy_all<L: Variable>(alloc: Global, cos: &[Co<L>]) -> Result<Seq<Co<L>>, Mem
 }
 
 impl<L: Variable> Binder<L> {
-    /// The same binder again. Fails only where memory is wanting.
+    /// The same binder again. Fails only where memory runs out.
     #[tactic(auto, using(crate::proofs::View::view_rules))]
     pub fn copy(&self, alloc: Global) -> Result<Binder<L>, Memory>
         ensures { IfOk result (λ b. binder_of b ≡ binder_of self.now) }
@@ -228,7 +228,7 @@ impl<L: Variable> Binder<L> {
 }
 
 impl Head {
-    /// The same head again. Fails only where memory is wanting.
+    /// The same head again. Fails only where memory runs out.
     pub fn copy(&self, alloc: Global) -> Result<Head, Memory>
         ensures { IfOk result (λ h. h ≡ self.now) }
     {
@@ -255,7 +255,7 @@ pub(crate) fn copy_binders<L: Variable>(
 }
 
 impl Expr<Text, Name> {
-    /// The same expression again. Fails only where memory is wanting.
+    /// The same expression again. Fails only where memory runs out.
     #[cycle(copy_expr)]
     #[tactic(auto, using(crate::proofs::View::view_rules))]
     pub fn copy(&self, alloc: Global) -> Result<Expr<Text, Name>, Memory>
@@ -318,7 +318,7 @@ impl Expr<Text, Name> {
 }
 
 impl Arg<Text, Name> {
-    /// The same argument again. Fails only where memory is wanting.
+    /// The same argument again. Fails only where memory runs out.
     #[cycle(copy_expr)]
     #[tactic(auto, using(crate::proofs::View::view_rules))]
     pub fn copy(&self, alloc: Global) -> Result<Arg<Text, Name>, Memory>
@@ -333,7 +333,7 @@ impl Arg<Text, Name> {
 }
 
 impl Bind<Text, Name> {
-    /// The same binding again. Fails only where memory is wanting.
+    /// The same binding again. Fails only where memory runs out.
     #[cycle(copy_expr)]
     pub fn copy(&self, alloc: Global) -> Result<Bind<Text, Name>, Memory>
         ensures { IfOk result (λ b. bind_of b ≡ bind_of self.now) }
@@ -346,7 +346,7 @@ impl Bind<Text, Name> {
 }
 
 impl JoinBind<Text, Name> {
-    /// The same join point again. Fails only where memory is wanting.
+    /// The same join point again. Fails only where memory runs out.
     #[cycle(copy_expr)]
     pub fn copy(&self, alloc: Global) -> Result<JoinBind<Text, Name>, Memory>
         ensures { IfOk result (λ b. join_of b ≡ join_of self.now) }
@@ -359,7 +359,7 @@ impl JoinBind<Text, Name> {
 }
 
 impl Alt<Text, Name> {
-    /// The same alternative again. Fails only where memory is wanting.
+    /// The same alternative again. Fails only where memory runs out.
     #[cycle(copy_expr)]
     pub fn copy(&self, alloc: Global) -> Result<Alt<Text, Name>, Memory>
         ensures { IfOk result (λ a. alt_of a ≡ alt_of self.now) }

@@ -11,7 +11,7 @@ use crate::ty::{Name, Ty};
 use std::alloc::Global;
 
 impl Param {
-    /// The same parameter again. Fails only where memory is wanting.
+    /// The same parameter again. Fails only where memory runs out.
     pub fn copy(&self, alloc: Global) -> Result<Param, Memory>
         ensures { IfOk result (λ p. param_of p ≡ param_of self.now) }
     {
@@ -26,7 +26,7 @@ impl Param {
 }
 
 impl Plain {
-    /// The same parameter without a role again. Fails only where memory is wanting.
+    /// The same parameter without a role again. Fails only where memory runs out.
     pub fn copy(&self, alloc: Global) -> Result<Plain, Memory>
         ensures { IfOk result (λ p. plain_of p ≡ plain_of self.now) }
     {
@@ -37,7 +37,7 @@ impl Plain {
 }
 
 impl<L: Variable> ConDecl<L> {
-    /// The same constructor again. Fails only where memory is wanting.
+    /// The same constructor again. Fails only where memory runs out.
     pub fn copy(&self, alloc: Global) -> Result<ConDecl<L>, Memory>
         ensures { IfOk result (λ c. con_of c ≡ con_of self.now) }
     {
@@ -53,7 +53,7 @@ impl<L: Variable> ConDecl<L> {
 }
 
 impl Decl<Text, Name> {
-    /// The same declaration again. Fails only where memory is wanting.
+    /// The same declaration again. Fails only where memory runs out.
     pub fn copy(&self, alloc: Global) -> Result<Decl<Text, Name>, Memory>
         ensures { IfOk result (λ d. decl_of d ≡ decl_of self.now) }
     {
@@ -101,7 +101,7 @@ impl Decl<Text, Name> {
 }
 
 impl Module<Text, Name> {
-    /// The same module again. Fails only where memory is wanting.
+    /// The same module again. Fails only where memory runs out.
     pub fn copy(&self, alloc: Global) -> Result<Module<Text, Name>, Memory>
         ensures { IfOk result (λ m. module_of m ≡ module_of self.now) }
     {
@@ -120,7 +120,7 @@ impl Module<Text, Name> {
     }
 }
 
-/// The same words again. Fails only where memory is wanting.
+/// The same words again. Fails only where memory runs out.
 pub fn copy_words(alloc: Global, items: &[Text]) -> Result<Seq<Text>, Memory>
     ensures { IfOk result (λ s. s ≡ items.now) }
 {
@@ -142,7 +142,7 @@ fn copy_tys<L: Variable>(alloc: Global, items: &[Ty<L>]) -> Result<Seq<Ty<L>>, M
     Ok(all)
 }
 
-/// The same parameters again. Fails only where memory is wanting.
+/// The same parameters again. Fails only where memory runs out.
 #[tactic(auto, using(std::proofs::lemmas::List::map_push, std::proofs::lemmas::Grind::common_steps))]
 pub fn copy_params(alloc: Global, items: &[Param]) -> Result<Seq<Param>, Memory>
     ensures { IfOk result (λ s. params_of s ≡ params_of items.now) }
@@ -154,7 +154,7 @@ pub fn copy_params(alloc: Global, items: &[Param]) -> Result<Seq<Param>, Memory>
     Ok(all)
 }
 
-/// The same parameters without roles again. Fails only where memory is wanting.
+/// The same parameters without roles again. Fails only where memory runs out.
 #[tactic(auto, using(std::proofs::lemmas::List::map_push, std::proofs::lemmas::Grind::common_steps))]
 pub fn copy_plains(alloc: Global, items: &[Plain]) -> Result<Seq<Plain>, Memory>
     ensures { IfOk result (λ s. plains_of s ≡ plains_of items.now) }

@@ -1,4 +1,7 @@
 //! Expressions and what stands in them. `L` is what a variable of a type, a coercion or a join point is, `V` what a variable of a term is.
+ghost use Rattle.std.specs.Prelude.{◌≡◌};
+ghost use Rattle.fc_syntax.specs.Primitives.{operator_text};
+
 use crate::co::Co;
 use crate::seq::Seq;
 use crate::text::Text;
@@ -29,6 +32,27 @@ pub enum PrimOp {
     Gt,
     /// `>=#`
     Ge,
+}
+
+impl PrimOp {
+    /// How the primitive is written: its sign, or its word.
+    pub fn text(self) -> &'static str
+        ensures { result.now ≡ operator_text self }
+    {
+        match self {
+            PrimOp::Plus => "+#",
+            PrimOp::Minus => "-#",
+            PrimOp::Times => "*#",
+            PrimOp::Quot => "quotInt#",
+            PrimOp::Rem => "remInt#",
+            PrimOp::Eq => "==#",
+            PrimOp::Ne => "/=#",
+            PrimOp::Lt => "<#",
+            PrimOp::Le => "<=#",
+            PrimOp::Gt => ">#",
+            PrimOp::Ge => ">=#",
+        }
+    }
 }
 
 /// A binder with what it binds.

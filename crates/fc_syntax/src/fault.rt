@@ -1,4 +1,4 @@
-//! Want of memory, and faults with their places.
+//! Out of memory, and faults with their places.
 ghost use Rattle.std.specs.Prelude.{◌≡◌};
 ghost use Rattle.fc_syntax.specs.declared.fault.Refusal.TheVariants.{Memory as refused_memory};
 ghost use Rattle.fc_syntax.specs.Faults.{fault_number, fault_word};
@@ -8,7 +8,7 @@ use crate::text::Text;
 use std::alloc::{AllocError, AllocFailed};
 use thiserror::Error;
 
-/// Want of memory. A call that answers it leaves what it borrowed as it was, unless it says otherwise.
+/// Out of memory. A call that answers it leaves what it borrowed as it was, unless it says otherwise.
 #[derive(Debug, Drop, Error)]
 #[error("out of memory")]
 pub struct Memory;
@@ -259,7 +259,7 @@ pub enum Refusal {
     /// The input has a fault.
     #[error("refused")]
     Fault(Fault),
-    /// Memory was wanting, and nothing is said of the input.
+    /// Out of memory; nothing is said of the input.
     #[error("out of memory")]
     Memory,
 }

@@ -94,7 +94,7 @@ impl<T> Seq<T> {
 }
 
 impl<T: Drop> Seq<T> {
-    /// Puts an item at the end. Where memory is wanting, the list is as before and the item is dropped.
+    /// Puts an item at the end. Where memory runs out, the list is as before and the item is dropped.
     pub fn push(&mut self, item: T) -> Result<(), Memory>
         ensures ok { OnOk result (self.new ≡ self.old ++ item ∷ []) }
         ensures err { OnErr result (self.new ≡ self.old) }

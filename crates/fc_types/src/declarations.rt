@@ -28,7 +28,7 @@ pub struct Declarations<'a> {
 impl<'a> Declarations<'a> {
     ghost use Rattle.fc_types.specs.ModuleViews.{modules_of};
 
-    /// The declarations of a module. Fails only where memory is wanting.
+    /// The declarations of a module. Fails only where memory runs out.
     pub fn new(alloc: Global, m: &'a NModule) -> Result<Declarations<'a>, Memory>
         ensures { IfOk result (λ d. modules_of d ≡ nmodule_of m.now ∷ []) }
     {

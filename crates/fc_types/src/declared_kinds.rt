@@ -12,7 +12,7 @@ use fc_model::{Flawed, flaw_here};
 use fc_syntax::{FaultKind, Kind, Memory, NDecl, Param, Plain};
 use std::alloc::Global;
 
-/// The kind with an arrow from the first kind to the other. Fails only where memory is wanting.
+/// The kind with an arrow from the first kind to the other. Fails only where memory runs out.
 #[tactic(auto, using(fc_syntax::proofs::View::view_rules))]
 fn arrow_kind(alloc: Global, from: &Kind, to: Kind) -> Result<Kind, Memory>
     ensures { IfOk result (λ k. kind_of k ≡ KArrow (kind_of from.now) (kind_of to)) }
@@ -22,7 +22,7 @@ fn arrow_kind(alloc: Global, from: &Kind, to: Kind) -> Result<Kind, Memory>
     Ok(Kind::Arrow(from, to))
 }
 
-/// The kind of a data type or a newtype with these parameters. Fails only where memory is wanting.
+/// The kind of a data type or a newtype with these parameters. Fails only where memory runs out.
 fn kind_over_params(alloc: Global, params: &[Param]) -> Result<Kind, Memory>
     ensures { IfOk result (λ k. kind_of k ≡ arrows (param_kinds (nparams_of params.now)) KStar) }
 {
@@ -35,7 +35,7 @@ fn kind_over_params(alloc: Global, params: &[Param]) -> Result<Kind, Memory>
     Ok(kind)
 }
 
-/// The kind of a family with these parameters and results of this kind. Fails only where memory is wanting.
+/// The kind of a family with these parameters and results of this kind. Fails only where memory runs out.
 fn kind_over_plains(alloc: Global, params: &[Plain], result_kind: &Kind) -> Result<Kind, Memory>
     ensures { IfOk result (λ k. kind_of k ≡ arrows (nplains_of params.now) (kind_of result_kind.now)) }
 {

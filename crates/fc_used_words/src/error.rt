@@ -7,7 +7,7 @@ pub enum NotNamed {
     /// A distance reaches no binder, or a name is not known: the module itself does not declare it, or it is of a module that is
     /// not imported.
     Unscoped,
-    /// Memory or a count of 32 bits was wanting.
+    /// Out of memory, or a count of 32 bits was too small.
     Memory,
 }
 

@@ -2,12 +2,12 @@
 //! line tells whether it has its own words again.
 #![tactic(auto)]
 
-use fc_files::{Files, HostFiles, HostSink, MOST, PutAnswer, ReadAnswer, Sink};
+use fc_files::{Files, HostFiles, HostSink, PutAnswer, ReadAnswer, Sink};
 use fc_naming::name_back;
 use fc_printer::{put_decl, put_header};
 use fc_reader::read_module;
 use fc_resolve::resolve;
-use fc_syntax::{Memory, Module};
+use fc_syntax::{Limits, Memory, Module};
 use std::alloc::Global;
 use std::env::Env;
 use std::process::ExitCode;
@@ -35,7 +35,8 @@ fn comes_back(alloc: Global, m: &Module) -> Option<bool> {
 
 /// The line for a file.
 fn line_of<F: Files>(alloc: Global, files: &mut F, file: &str) -> &'static [u8] {
-    let ReadAnswer::Ok(bytes) = files.read(alloc, file, MOST) else {
+    let most = Limits::standard().file_bytes as u64;
+    let ReadAnswer::Ok(bytes) = files.read(alloc, file, most) else {
         return b"unread\n";
     };
     let Ok(m) = read_module(alloc, file, &bytes) else {

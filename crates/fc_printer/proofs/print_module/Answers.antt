@@ -9,4 +9,4 @@ use Rattle.fc_printer.proofs.print_module.Goals as goal
 pub returns-clause-reads_back : goal.returns-clause-reads_back
 returns-clause-reads_back c =
     let e : c.extend_from_slice-2.new.self.items ≡ canonical (module_of c.args.m.now) = grind (arith, common_steps) in
-    λ formed. subst (λ v. Spells v (module_of c.args.m.now)) (sym e) (canonical_spells (module_of c.args.m.now) c.requires formed)
+    λ formed. subst (λ v. Spells v (module_of c.args.m.now)) (sym e) (canonical_spells (module_of c.args.m.now) formed)

@@ -1,11 +1,11 @@
 //! Faults of cases.
-use super::{Form, are_bad_forms, fault};
+use super::{Form, are_bad_forms, are_read, fault};
 use fc_syntax::FaultKind;
 use std::test::Fail;
 
 #[test]
 fn refuses_cases_at_their_first_fault(rt: HostRuntime) -> Result<(), Fail> {
-    let rows: [Form<'_>; 21] = [
+    let rows: [Form<'_>; 20] = [
         (b"(case))", 44),
         (b"(case K (y T) T))", 45),
         (b"(case Int# (y T) T))", 45),
@@ -17,7 +17,6 @@ fn refuses_cases_at_their_first_fault(rt: HostRuntime) -> Result<(), Fail> {
         (b"(case x ((y T)) T))", 48),
         (b"(case x (type a *) T))", 48),
         (b"(case x (y) T))", 49),
-        (b"(case x (y y) T))", 50),
         (b"(case x (y (fun T)) T))", 56),
         (b"(case x (y T T) T))", 52),
         (b"(case x (y T)))", 52),
@@ -33,13 +32,19 @@ fn refuses_cases_at_their_first_fault(rt: HostRuntime) -> Result<(), Fail> {
 }
 
 #[test]
+fn binders_of_alternatives_are_of_each_sort(rt: HostRuntime) -> Result<(), Fail> {
+    let texts: [&[u8]; 3] = [b"(M.K () y)", b"(K ((type a *)) y)", b"(K ((a y)) y)"];
+    let front = b"(module M (imports) (exports) (def x T (case x (y T) T ";
+    are_read(&rt, rt.alloc(), front, texts.as_slice(), b")))")
+}
+
+#[test]
 fn refuses_alternatives_at_their_first_fault(rt: HostRuntime) -> Result<(), Fail> {
-    let rows: [Form<'_>; 26] = [
+    let rows: [Form<'_>; 23] = [
         (b"()", 56),
         (b"(z y)", 56),
         (b"(case y)", 56),
         (b"(3 y)", 56),
-        (b"(M.K () y)", 56),
         (b"((K ()) y)", 56),
         (b"(default)", 63),
         (b"(default () y)", 65),
@@ -53,9 +58,7 @@ fn refuses_alternatives_at_their_first_fault(rt: HostRuntime) -> Result<(), Fail
         (b"(K y)", 58),
         (b"(K (a T) y)", 59),
         (b"(K ((A T)) y)", 60),
-        (b"(K ((type a *)) y)", 60),
         (b"(K ((a)) y)", 61),
-        (b"(K ((a y)) y)", 62),
         (b"(K ((a T T)) y)", 64),
         (b"(K ((a T) b) y)", 65),
         (b"(K ())", 60),

@@ -1,5 +1,5 @@
 //! Faults of declarations, types and expressions.
-use super::{Form, HEADER, Row, are_bad_forms, are_refused};
+use super::{Form, HEADER, Row, are_bad_forms, are_read, are_refused};
 use fc_syntax::FaultKind;
 use std::test::Fail;
 
@@ -63,32 +63,29 @@ fn refuses_keywords_as_names(rt: HostRuntime) -> Result<(), Fail> {
 
 #[test]
 fn refuses_functions_at_their_first_fault(rt: HostRuntime) -> Result<(), Fail> {
-    let rows: [Form<'_>; 12] = [
+    let rows: [Form<'_>; 10] = [
         (b"(def x (fun) 1#)", 41),
         (b"(def x (fun Int#) 1#)", 46),
         (b"(def x (fun Int# 1#) 1#)", 47),
         (b"(def x (fun Int# Int# 1#) 1#)", 52),
         (b"(def x (fun (fun Int#) Int#) 1#)", 51),
         (b"(def x () 1#)", 38),
-        (b"(def x (T) 1#)", 38),
-        (b"(def x (Int# Int#) 1#)", 38),
+        (b"(def x (T) 1#)", 39),
         (b"(def x (lam ((y T)) y) 1#)", 38),
         (b"(def x fun 1#)", 37),
         (b"(data T () (K () (fun Int#)))", 56),
-        (b"(data T () (K () (fun T t)))", 54),
     ];
     are_bad_forms(&rt, rt.alloc(), HEADER, rows.as_slice(), b")")
 }
 
 #[test]
 fn refuses_applications_and_lambdas_at_their_first_fault(rt: HostRuntime) -> Result<(), Fail> {
-    let rows: [Form<'_>; 19] = [
+    let rows: [Form<'_>; 17] = [
         (b"(def x T (app))", 43),
         (b"(def x T (app f))", 45),
         (b"(def x T (app f Int#))", 46),
         (b"(def x T (app f a K))", 48),
         (b"(def x T (app K a))", 44),
-        (b"(def x T (app f (type T)))", 47),
         (b"(def x T (app (app f) a))", 50),
         (b"(def x T (lam))", 43),
         (b"(def x T (lam y y))", 44),
@@ -100,7 +97,6 @@ fn refuses_applications_and_lambdas_at_their_first_fault(rt: HostRuntime) -> Res
         (b"(def x T (lam ((y T) z) y))", 51),
         (b"(def x T (lam ((y T))))", 51),
         (b"(def x T (lam ((y T)) y z))", 54),
-        (b"(def x T (lam ((type a *)) y))", 46),
         (b"(def x T (lam ((fun T)) y))", 46),
     ];
     are_bad_forms(&rt, rt.alloc(), HEADER, rows.as_slice(), b")")?;
@@ -109,8 +105,20 @@ fn refuses_applications_and_lambdas_at_their_first_fault(rt: HostRuntime) -> Res
 }
 
 #[test]
+fn types_of_each_form_stand_wherever_a_type_may(rt: HostRuntime) -> Result<(), Fail> {
+    let texts: [&[u8]; 5] = [
+        b"(def x (Int# Int#) 1#)",
+        b"(data T () (K () (fun T t)))",
+        b"(def x T (app f (type T)))",
+        b"(def x T (lam ((type a *)) y))",
+        b"(def x T (letrec ((y T 1#)) y))",
+    ];
+    are_read(&rt, rt.alloc(), HEADER, texts.as_slice(), b")")
+}
+
+#[test]
 fn refuses_lets_at_their_first_fault(rt: HostRuntime) -> Result<(), Fail> {
-    let rows: [Form<'_>; 12] = [
+    let rows: [Form<'_>; 11] = [
         (b"(def x T (let))", 43),
         (b"(def x T (let y T 1# y))", 44),
         (b"(def x T (let () y))", 45),
@@ -122,7 +130,6 @@ fn refuses_lets_at_their_first_fault(rt: HostRuntime) -> Result<(), Fail> {
         (b"(def x T (let (y T 1#)))", 52),
         (b"(def x T (let (y T 1#) (z T 2#) y))", 54),
         (b"(def x T (let (y T 1#) y z))", 55),
-        (b"(def x T (letrec ((y T 1#)) y))", 40),
     ];
     are_bad_forms(&rt, rt.alloc(), HEADER, rows.as_slice(), b")")
 }

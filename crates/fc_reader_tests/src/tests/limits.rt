@@ -31,7 +31,7 @@ fn unclosed(alloc: Global, front: &[u8], piece: &[u8], count: usize) -> Result<V
 }
 
 /// What is wrong with a module of so many pieces.
-fn fault_of_many(
+pub(super) fn fault_of_many(
     alloc: Global,
     front: &[u8],
     piece: &[u8],

@@ -6,4 +6,4 @@ use Rattle.fc_naming.proofs.coercions.word_around.Goals as goal
 
 pub returns : goal.returns
 unfolding words_by_space
-returns c = may_take_co c.in_ok-word.word (co_below c.in_ok-use_co.ensures (search rules)) c.in_ok-word.ensures.free
+returns c = may_take_co (co_below c.in_ok-use_co.ensures (search rules)) c.in_ok-word.ensures

@@ -1,6 +1,5 @@
 use Rattle.std.proofs.Common.{take}
 use Rattle.fc_syntax.specs.View.{con_of}
-use Rattle.fc_model.specs.NamelessView.{ncon_of}
 use Rattle.fc_model.specs.DeclaredWords.{top_by}
 use Rattle.fc_scope.specs.ScopeWords.{locals_of}
 use Rattle.fc_naming.specs.Declarations.{IsNamedCon}
@@ -8,4 +7,4 @@ use Rattle.fc_naming.proofs.Each.{AreEach}
 use Rattle.fc_naming.proofs.declarations.named_cons.Given as goal
 
 abbrev pub invariant-loop-con : goal.invariant-loop-con
-invariant-loop-con l = AreEach (λ x y. IsNamedCon (top_by l.top) (locals_of l.scope) (ncon_of x) (con_of y)) (take l.con-index l.cons) l.out
+invariant-loop-con l = AreEach (λ x y. IsNamedCon (top_by l.top) (locals_of l.scope) (con_of x) (con_of y)) (take l.con-index l.cons) l.out

@@ -1,6 +1,7 @@
 use Rattle.std.proofs.Common.{refl}
 use Rattle.fc_model.specs.DeclaredWords.{words_by_space}
 use Rattle.fc_scope.specs.ScopeWords.{locals_of}
+use Rattle.fc_naming.proofs.NamedGroups.{bind_hints_lower}
 use Rattle.fc_naming.proofs.members.let_words.Goals as goal
 
 pub returns-clause-counted : goal.returns-clause-counted
@@ -14,6 +15,7 @@ returns-clause-around c = record {
   taken = words_by_space c.in_ok-taken.taken;
   distinct = c.in_ok-group.ensures.distinct;
   counted = c.in_ok-group.ensures.counted;
+  lower = λ h. c.in_ok-group.ensures.lower (bind_hints_lower c.args.binds.now h);
   values = c.in_ok-group.ensures.values (locals_of c.args.scope.now);
   uses = c.in_ok-taken.ensures;
 }

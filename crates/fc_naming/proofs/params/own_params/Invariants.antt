@@ -7,4 +7,4 @@ use Rattle.fc_naming.proofs.NamedDeclarations.{TookWords}
 use Rattle.fc_naming.proofs.params.own_params.Given as goal
 
 abbrev pub invariant-loop-param : goal.invariant-loop-param
-invariant-loop-param l = TookWords param_of param_hint bare_param bare_param (take l.param-index l.params) l.out l.names (set_of l.taken)
+invariant-loop-param l = TookWords param_of param_hint bare_param (take l.param-index l.params) l.out l.names (set_of l.taken)

@@ -6,11 +6,11 @@ use Rattle.fc_naming.proofs.NamedDeclarations.{took_all, took_start, took_step}
 use Rattle.fc_naming.proofs.params.own_plains.Goals as goal
 
 pub loop-plain-init : goal.loop-plain-init
-loop-plain-init c = took_start plain_of plain_hint bare_plain bare_plain c.args.plains.now _ _ _ (search rules) (search rules) (search rules)
+loop-plain-init c = took_start plain_of plain_hint bare_plain c.args.plains.now _ _ _ (search rules) (search rules) (search rules)
 
 pub loop-plain-preserved : goal.loop-plain-preserved
 loop-plain-preserved c =
-    took_step plain_of plain_hint bare_plain bare_plain c.args.plains.now c.loop-plain.plain-index c.plain-item.result _ _ (record { name = c.in_ok-name.name; kind = c.in_ok-kind.kind }) _ _ _ _ (omega arith) c.plain-item.is c.loop-plain.invariant (search rules) c.in_ok-name.ensures.chosen.free c.in_ok-name.ensures.taken (search rules) (search rules)
+    took_step plain_of plain_hint bare_plain c.args.plains.now c.loop-plain.plain-index c.plain-item.result _ _ (record { name = c.in_ok-name.name; kind = c.in_ok-kind.kind }) _ _ _ _ (omega arith) c.plain-item.is c.loop-plain.invariant (search rules) c.in_ok-name.ensures.chosen c.in_ok-name.ensures.taken (search rules) (search rules)
 
 pub returns : goal.returns
-returns c = took_all plain_of plain_hint bare_plain bare_plain c.args.plains.now c.loop-plain.plain-index _ _ _ c.loop-plain-test.false c.loop-plain.invariant
+returns c = took_all plain_of plain_hint bare_plain c.args.plains.now c.loop-plain.plain-index _ _ _ c.loop-plain-test.false c.loop-plain.invariant

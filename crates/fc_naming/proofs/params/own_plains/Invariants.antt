@@ -7,4 +7,4 @@ use Rattle.fc_naming.proofs.NamedDeclarations.{TookWords}
 use Rattle.fc_naming.proofs.params.own_plains.Given as goal
 
 abbrev pub invariant-loop-plain : goal.invariant-loop-plain
-invariant-loop-plain l = TookWords plain_of plain_hint bare_plain bare_plain (take l.plain-index l.plains) l.out l.names (set_of l.taken)
+invariant-loop-plain l = TookWords plain_of plain_hint bare_plain (take l.plain-index l.plains) l.out l.names (set_of l.taken)

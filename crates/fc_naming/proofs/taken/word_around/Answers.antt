@@ -6,4 +6,4 @@ use Rattle.fc_naming.proofs.taken.word_around.Goals as goal
 
 pub returns : goal.returns
 unfolding words_by_space
-returns c = may_take_alts c.in_ok-word.word (alts_below c.in_ok-use_alts.ensures (search rules)) c.in_ok-word.ensures.free
+returns c = may_take_alts (alts_below c.in_ok-use_alts.ensures (search rules)) c.in_ok-word.ensures

@@ -6,4 +6,4 @@ use Rattle.fc_naming.proofs.types.word_around.Goals as goal
 
 pub returns : goal.returns
 unfolding words_by_space
-returns c = may_take_ty c.in_ok-word.word (ty_below c.in_ok-use_ty.ensures (search rules)) c.in_ok-word.ensures.free
+returns c = may_take_ty (ty_below c.in_ok-use_ty.ensures (search rules)) c.in_ok-word.ensures

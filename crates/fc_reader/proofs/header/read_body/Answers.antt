@@ -1,19 +1,30 @@
-use Rattle.fc_read_parts.proofs.Forms.{hidden_read, plain_read}
-use Rattle.fc_reader.proofs.Halts.{hidden_halts, hidden_names_stop, plain_halts}
+use Rattle.std.proofs.Common.{refl}
+use Rattle.fc_model.specs.Grammar.{ABody}
+use Rattle.fc_model.specs.Texts.{SomeBodyAt}
+use Rattle.fc_read_parts.specs.Seen.{ahead}
+use Rattle.fc_reader.specs.declared.limits.Halt.TheVariants as halt
+use Rattle.fc_reader.specs.Halting.{Halts}
+use Rattle.fc_reader.proofs.Halts.{hidden_halts, hidden_names_stop, plain_halts, plain_read}
+use Rattle.fc_reader.proofs.Steps.{err_is}
 use Rattle.fc_reader.proofs.header.read_body.Goals as goal
 
-pub returns-in-Err-clause-halt : goal.returns-in-Err-clause-halt
-returns-in-Err-clause-halt c = plain_halts c.in-Err.halt c.in_default.ensures.none c.in-Err.ensures.halt
+pub returns-in_err-hidden-clause-halt : goal.returns-in_err-hidden-clause-halt
+returns-in_err-hidden-clause-halt c =
+    let s = c.in_err-hidden.field-0.0 in
+    err_is (Halts SomeBodyAt ABody (ahead c.args.tokens.now)) _ (halt.Stop s) c.from_residual.ensures.1
+    (hidden_names_stop s (c.if-opens_hidden.ensures.hidden refl) c.in_err-hidden.ensures.fault)
 
-pub returns-in-Ok-clause-read : goal.returns-in-Ok-clause-read
-returns-in-Ok-clause-read c = plain_read c.new-hidden.ensures c.in-Ok.ensures.read
+pub returns-in_err-decls-clause-halt : goal.returns-in_err-decls-clause-halt
+returns-in_err-decls-clause-halt c =
+    let h = c.in_err-decls.field-0.0 in
+    err_is (Halts SomeBodyAt ABody (ahead c.args.tokens.now)) _ h c.from_residual-in_err-decls.ensures.1
+    (hidden_halts h (c.if-opens_hidden.ensures.hidden refl) c.in_ok-hidden.ensures.read c.in_err-decls.ensures.halt)
 
-pub returns-in-Err-read_names-clause-halt : goal.returns-in-Err-read_names-clause-halt
-returns-in-Err-read_names-clause-halt c = hidden_names_stop c.in-Err-read_names.stop c.in-Some.ensures.some.is c.in-Err-read_names.ensures.fault
+pub returns-in_err-decls-2-clause-halt : goal.returns-in_err-decls-2-clause-halt
+returns-in_err-decls-2-clause-halt c =
+    let h = c.in_err-decls-2.field-0.0 in
+    err_is (Halts SomeBodyAt ABody (ahead c.args.tokens.now)) _ h c.from_residual-in_err-decls-2.ensures.1
+    (plain_halts h (c.if-opens_hidden.ensures.plain refl) c.in_err-decls-2.ensures.halt)
 
-pub returns-in-Err-read_decls-clause-halt : goal.returns-in-Err-read_decls-clause-halt
-returns-in-Err-read_decls-clause-halt c =
-    hidden_halts c.in-Err-read_decls.halt c.in-Some.ensures.some.is c.in-Ok-read_names.ensures.read c.in-Ok-read_names.ensures.taken c.in-Err-read_decls.ensures.halt
-
-pub returns-in-Ok-read_decls-clause-read : goal.returns-in-Ok-read_decls-clause-read
-returns-in-Ok-read_decls-clause-read c = hidden_read c.in-Some.ensures.some.is c.in-Ok-read_names.ensures.read c.in-Ok-read_decls.ensures.read
+pub returns-clause-read : goal.returns-clause-read
+returns-clause-read c = plain_read (c.if-opens_hidden.ensures.plain refl) c.new-hidden.ensures c.in_ok-decls-2.ensures.read

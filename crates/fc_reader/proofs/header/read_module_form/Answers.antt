@@ -1,23 +1,22 @@
-use Rattle.std.proofs.Common.{◌∷◌, ◌∙◌, ap}
-use Rattle.fc_model.specs.Words.{toks}
-use Rattle.fc_model.specs.ReadFaults.{decls_within}
-use Rattle.fc_read_parts.specs.Machine.{Body as spec_Body}
-use Rattle.fc_read_parts.proofs.Follow.{module_goes_on}
-use Rattle.fc_read_parts.proofs.Forms.{module_read}
-use Rattle.fc_reader.proofs.Halts.{body_halts, header_halts}
+use Rattle.fc_model.specs.Grammar.{AModule}
+use Rattle.fc_model.specs.Texts.{BeginsWithDecls}
+use Rattle.fc_read_parts.specs.Seen.{ahead}
+use Rattle.fc_reader.specs.declared.limits.Halt.TheVariants as halt
+use Rattle.fc_reader.specs.Halting.{Halts}
+use Rattle.fc_reader.proofs.Halts.{body_halts, header_halts, module_read}
+use Rattle.fc_reader.proofs.Steps.{err_is}
 use Rattle.fc_reader.proofs.header.read_module_form.Goals as goal
 
-pub returns-in-Err-clause-halt : goal.returns-in-Err-clause-halt
-returns-in-Err-clause-halt c = header_halts (toks c.args.bytes.now c.args.tokens.now) c.in-Err.stop c.in-Err.ensures.fault
+pub returns-in_err-header-clause-halt : goal.returns-in_err-header-clause-halt
+returns-in_err-header-clause-halt c =
+    let s = c.in_err-header.field-0.0 in
+    err_is (Halts BeginsWithDecls AModule (ahead c.args.tokens.now)) _ (halt.Stop s) c.from_residual.ensures.1 (header_halts (ahead c.args.tokens.now) s c.in_err-header.ensures.fault)
 
-pub returns-in-Err-read_body-clause-halt : goal.returns-in-Err-read_body-clause-halt
-returns-in-Err-read_body-clause-halt c = body_halts c.in-Err-read_body.halt c.in-Ok.ensures.read c.in-Ok.ensures.taken c.in-Err-read_body.ensures.halt
+pub returns-in_err-body-clause-halt : goal.returns-in_err-body-clause-halt
+returns-in_err-body-clause-halt c =
+    let h = c.in_err-body.field-0.0 in
+    err_is (Halts BeginsWithDecls AModule (ahead c.args.tokens.now)) _ h c.from_residual-in_err-body.ensures.1
+    (body_halts (ahead c.args.tokens.now) h c.in_ok-header.ensures.read c.in_err-body.ensures.halt)
 
-pub returns-in-Ok-read_body-clause-read : goal.returns-in-Ok-read_body-clause-read
-returns-in-Ok-read_body-clause-read c = module_read c.joined.ensures c.in-Ok.ensures.read c.in-Ok-read_body.ensures.read
-
-pub returns-in-Ok-read_body-clause-within : goal.returns-in-Ok-read_body-clause-within
-returns-in-Ok-read_body-clause-within c = ap decls_within c.joined.ensures ∙ c.in-Ok-read_body.ensures.within
-
-pub returns-in-Ok-read_body-clause-taken : goal.returns-in-Ok-read_body-clause-taken
-returns-in-Ok-read_body-clause-taken c = λ s. module_goes_on (toks c.args.bytes.now c.args.tokens.now) s ∙ c.in-Ok.ensures.taken (spec_Body ∷ s) ∙ c.in-Ok-read_body.ensures.taken s
+pub returns-clause-read : goal.returns-clause-read
+returns-clause-read c = module_read (ahead c.args.tokens.now) c.in_ok-header.ensures.read c.in_ok-body.ensures.read c.joined.ensures

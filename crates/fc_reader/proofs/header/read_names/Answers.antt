@@ -1,14 +1,10 @@
-use Rattle.std.proofs.Common.{◌∷◌, ◌∙◌, arith, rules}
-use Rattle.fc_read_parts.proofs.Forms.{token_is, names_more_read, names_end_read}
+use Rattle.std.proofs.Common.{refl}
+use Rattle.fc_model.specs.Grammar.{AName}
+use Rattle.fc_reader.proofs.Members.{names_start, names_more}
 use Rattle.fc_reader.proofs.header.read_names.Goals as goal
 
-pub returns-in-Some-clause-read : goal.returns-in-Some-clause-read
-returns-in-Some-clause-read c = names_end_read c.each.all (token_is c.in-Some.ensures.some.is) c.each.invariant.read
+pub each-init : goal.each-init
+each-init c = names_start AName c.new-all.ensures
 
 pub each-preserved : goal.each-preserved
-each-preserved c = record {
-  read = names_more_read c.each.all c.push.new.self c.in_ok-push.ensures.ok c.each.invariant.read c.in_ok-name.ensures.read;
-  taken = λ s. c.each.invariant.taken s ∙ c.in_default.ensures.none.names s ∙ c.in_ok-name.ensures.taken (_ ∷ s);
-  inside = search rules;
-  shorter = omega (arith, c.in_ok-name.ensures.shorter);
-}
+each-preserved c = names_more AName c.each.invariant (c.if-closes.ensures.open refl) c.in_ok-read_name.ensures.read c.in_ok-read_name.ensures.shorter c.in_ok-push.ensures.ok

@@ -1,17 +1,11 @@
-use Rattle.std.proofs.Common.{◌≡◌, ◌≤◌, List, ◌∷◌, length}
-use Rattle.fc_syntax.specs.Tokens.{AreSlices}
-use Rattle.fc_model.specs.Words.{toks}
-use Rattle.fc_read_parts.specs.Machine.{Want, Names, stuck}
-use Rattle.fc_read_parts.proofs.Forms.{NamesSoFar}
+use Rattle.std.proofs.Common.{length}
+use Rattle.fc_model.specs.Grammar.{AName}
+use Rattle.fc_read_parts.proofs.Stars.{Star, many_at}
+use Rattle.fc_read_parts.specs.Seen.{ahead}
 use Rattle.fc_reader.proofs.header.read_names.Given as goal
 
-abbrev pub decreases-each : goal.decreases-each
-decreases-each l = length l.rest
-
 abbrev pub invariant-each : goal.invariant-each
-invariant-each l = record {
-  read : NamesSoFar (toks l.bytes l.fn.tokens) l.all (toks l.bytes l.rest);
-  taken : (s : List Want) → stuck (Names ∷ s) (toks l.bytes l.fn.tokens) ≡ stuck (Names ∷ s) (toks l.bytes l.rest);
-  inside : AreSlices l.bytes l.rest;
-  shorter : length l.rest ≤ length l.fn.tokens;
-}
+invariant-each l = Star AName (many_at AName (ahead l.fn.tokens)) (ahead l.fn.tokens) l.all (ahead l.tokens)
+
+abbrev pub decreases-each : goal.decreases-each
+decreases-each l = length (ahead l.tokens)

@@ -1,12 +1,27 @@
-use Rattle.std.proofs.Common.{◌≡◌, arith, length, []}
-use Rattle.fc_model.specs.Words.{toks}
-use Rattle.fc_reader.proofs.Ends.{refused, refused_behind}
+use Rattle.std.proofs.Common.{arith, subst}
+use Rattle.fc_syntax.specs.View.{module_of}
+use Rattle.fc_model.specs.Grammar.{AModule}
+use Rattle.fc_model.specs.Texts.{BeginsWithDecls}
+use Rattle.fc_read_parts.specs.Reading.{Takes}
+use Rattle.fc_read_parts.specs.Seen.{ahead, seen_all}
+use Rattle.fc_reader.specs.Halting.{Halts, RefusesModule}
+use Rattle.fc_reader.proofs.Ends.{refused, refused_behind, whole}
+use Rattle.fc_reader.proofs.Steps.{err_is}
 use Rattle.fc_reader.proofs.whole.read_whole.Goals as goal
 
-pub returns-in-Err-clause-fault : goal.returns-in-Err-clause-fault
-returns-in-Err-clause-fault c = refused (toks c.args.bytes.now c.args.tokens.now) c.in-Err.halt c.in-Err.ensures.halt
+pub returns-in_err-m-clause-fault : goal.returns-in_err-m-clause-fault
+returns-in_err-m-clause-fault c =
+    let h = c.in_err-m.field-0.0 in
+    err_is (RefusesModule (seen_all c.args.tokens.now)) _ h c.from_residual.ensures.1
+    (refused (seen_all c.args.tokens.now) h (subst (λ ts. Halts BeginsWithDecls AModule ts h) c.new-rest.ensures c.in_err-m.ensures.halt))
 
 pub returns-then-left-gt0-clause-fault : goal.returns-then-left-gt0-clause-fault
 returns-then-left-gt0-clause-fault c =
-    refused_behind (toks c.args.bytes.now c.args.tokens.now) c.args.bytes.now c.in-Ok.rest.now
-    (λ (h : length c.in-Ok.rest.now ≡ 0). omega (arith, h)) (c.in-Ok.ensures.taken []) c.in-Ok.ensures.read c.in-Ok.ensures.within
+    let rest = ahead c.read_module_form.new.tokens in
+    refused_behind rest (subst (λ ts. Takes AModule ts (module_of c.in_ok-m.m) rest) c.new-rest.ensures c.in_ok-m.ensures.read) c.left-left.ensures c.if-left-gt0.true c.in_ok-m.ensures.within
+
+pub returns-clause-found : goal.returns-clause-found
+returns-clause-found c =
+    let rest = ahead c.read_module_form.new.tokens in
+    whole (seen_all c.args.tokens.now) rest (subst (λ ts. Takes AModule ts (module_of c.in_ok-m.m) rest) c.new-rest.ensures c.in_ok-m.ensures.read)
+    (omega (arith, c.left-left.ensures, c.if-left-gt0.false))

@@ -1,0 +1,203 @@
+//! Which forms Lint judges so far: a module that has another is refused as a whole.
+#![tactic(auto)]
+
+ghost use Rattle.std.specs.Prelude.{◌≡◌, ◌&&◌};
+ghost use Rattle.std.specs.List.{list_all};
+ghost use Rattle.fc_syntax.specs.View.{alt_of, alts_of, arg_of, args_of, binder_of, binders_of, binds_of, con_of, cons_of, decl_of, decls_of, expr_of, module_of, params_of, ty_of, tys_of};
+ghost use Rattle.fc_model.specs.Formed.{is_empty_list};
+ghost use Rattle.fc_model.specs.Supported as spec;
+
+use fc_syntax::{Alt, Arg, Bind, Binder, ConDecl, Decl, Expr, Head, Module, Param, Ty};
+
+#[cycle(types)]
+#[tactic(auto, using(fc_syntax::proofs::View::view_rules))]
+fn is_type_supported(t: &Ty) -> bool
+    ensures { result ≡ spec.is_type_supported (ty_of t.now) }
+{
+    match t {
+        Ty::Con(_) => true,
+        Ty::IntHash => true,
+        Ty::Fun(t, u) => is_type_supported(t) && is_type_supported(u),
+        Ty::Var(_) => false,
+        Ty::App(_, _) => false,
+        Ty::Forall(_, _, _) => false,
+        Ty::CoForall(_, _, _, _) => false,
+    }
+}
+
+fn are_types_supported(types: &[Ty]) -> bool
+    ensures { result ≡ list_all spec.is_type_supported (tys_of types.now) }
+{
+    for t in types {
+        if !is_type_supported(t) {
+            return false;
+        }
+    }
+    true
+}
+
+fn is_binder_supported(b: &Binder) -> bool
+    ensures { result ≡ spec.is_binder_supported (binder_of b.now) }
+{
+    match b {
+        Binder::Value(_, t) => is_type_supported(t),
+        Binder::OfType(_, _) => false,
+        Binder::OfCo(_, _, _, _) => false,
+    }
+}
+
+fn are_binders_supported(binders: &[Binder]) -> bool
+    ensures { result ≡ list_all spec.is_binder_supported (binders_of binders.now) }
+{
+    for b in binders {
+        if !is_binder_supported(b) {
+            return false;
+        }
+    }
+    true
+}
+
+fn is_head_supported(head: &Head, binders: &[Binder]) -> bool
+    ensures { result ≡ spec.is_head_supported head.now (binders_of binders.now) }
+{
+    match head {
+        Head::Default => binders.is_empty(),
+        Head::Lit(_) => binders.is_empty(),
+        Head::Con(_) => are_binders_supported(binders),
+    }
+}
+
+#[cycle(exprs)]
+#[tactic(auto, using(fc_syntax::proofs::View::view_rules))]
+fn is_expr_supported(e: &Expr) -> bool
+    ensures { result ≡ spec.is_expr_supported (expr_of e.now) }
+{
+    match e {
+        Expr::Var(_) => true,
+        Expr::Lit(_) => true,
+        Expr::App(f, a) => is_expr_supported(f) && is_arg_supported(a),
+        Expr::Lam(b, e) => is_binder_supported(b) && is_expr_supported(e),
+        Expr::Let(true, _, _) => false,
+        Expr::Let(false, binds, e) => is_bind_supported(binds.as_slice()) && is_expr_supported(e),
+        Expr::Case(e, _, t, u, alts) => {
+            let types = is_type_supported(t) && is_type_supported(u);
+            is_expr_supported(e) && (types && are_alts_supported(alts.as_slice()))
+        }
+        Expr::Con(_, args) => are_args_supported(args.as_slice()),
+        Expr::Cast(_, _) => false,
+        Expr::Prim(_, _) => false,
+        Expr::Fail(_) => false,
+        Expr::Join(_, _, _, _) => false,
+        Expr::Jump(_, _) => false,
+    }
+}
+
+#[cycle(exprs)]
+fn is_arg_supported(a: &Arg) -> bool
+    ensures { result ≡ spec.is_arg_supported (arg_of a.now) }
+{
+    match a {
+        Arg::Term(e) => is_expr_supported(e),
+        Arg::OfType(_) => false,
+        Arg::OfCo(_) => false,
+    }
+}
+
+#[cycle(exprs)]
+fn are_args_supported(args: &[Arg]) -> bool
+    ensures { result ≡ spec.are_args_supported (args_of args.now) }
+{
+    for a in args {
+        if !is_arg_supported(a) {
+            return false;
+        }
+    }
+    true
+}
+
+/// One bind.
+#[cycle(exprs)]
+#[tactic(auto, using(crate::proofs::Groups::no_group))]
+fn is_bind_supported(binds: &[Bind]) -> bool
+    ensures { result ≡ spec.is_bind_supported (binds_of binds.now) }
+{
+    match binds {
+        [] => false,
+        [bind] => is_type_supported(&bind.ty) && is_expr_supported(&bind.rhs),
+        [_, _, ..] => false,
+    }
+}
+
+#[cycle(exprs)]
+fn is_alt_supported(a: &Alt) -> bool
+    ensures { result ≡ spec.is_alt_supported (alt_of a.now) }
+{
+    is_head_supported(&a.head, a.binders.as_slice()) && is_expr_supported(&a.body)
+}
+
+#[cycle(exprs)]
+fn are_alts_supported(alts: &[Alt]) -> bool
+    ensures { result ≡ spec.are_alts_supported (alts_of alts.now) }
+{
+    for a in alts {
+        if !is_alt_supported(a) {
+            return false;
+        }
+    }
+    true
+}
+
+fn is_con_supported(con: &ConDecl) -> bool
+    ensures { result ≡ spec.is_con_supported (con_of con.now) }
+{
+    match con.binders.as_slice() {
+        [] => are_types_supported(con.fields.as_slice()),
+        [_, ..] => false,
+    }
+}
+
+fn are_cons_supported(cons: &[ConDecl]) -> bool
+    ensures { result ≡ list_all spec.is_con_supported (cons_of cons.now) }
+{
+    for con in cons {
+        if !is_con_supported(con) {
+            return false;
+        }
+    }
+    true
+}
+
+/// Constructors of a data type without parameters.
+fn are_data_supported(params: &[Param], cons: &[ConDecl]) -> bool
+    ensures { result ≡ (is_empty_list (params_of params.now) && list_all spec.is_con_supported (cons_of cons.now)) }
+{
+    match params {
+        [] => are_cons_supported(cons),
+        [_, ..] => false,
+    }
+}
+
+fn is_decl_supported(decl: &Decl) -> bool
+    ensures { result ≡ spec.is_decl_supported (decl_of decl.now) }
+{
+    match decl {
+        Decl::DataType(_, params, cons) => are_data_supported(params.as_slice(), cons.as_slice()),
+        Decl::Def(_, t, e) => is_type_supported(t) && is_expr_supported(e),
+        Decl::NewType(_, _, _, _) => false,
+        Decl::Family(_, _, _) => false,
+        Decl::Axiom(_, _, _, _) => false,
+        Decl::Wrap(_, _, _) => false,
+    }
+}
+
+/// Whether a module has only forms that Lint judges. Takes no memory.
+pub fn is_supported(m: &Module) -> bool
+    ensures { result ≡ spec.is_supported (module_of m.now) }
+{
+    for decl in m.decls.as_slice() {
+        if !is_decl_supported(decl) {
+            return false;
+        }
+    }
+    true
+}

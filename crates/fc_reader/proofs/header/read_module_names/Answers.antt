@@ -1,0 +1,10 @@
+use Rattle.std.proofs.Common.{refl}
+use Rattle.fc_model.specs.Grammar.{AModuleName}
+use Rattle.fc_reader.proofs.Members.{names_start, names_more}
+use Rattle.fc_reader.proofs.header.read_module_names.Goals as goal
+
+pub each-init : goal.each-init
+each-init c = names_start AModuleName c.new-all.ensures
+
+pub each-preserved : goal.each-preserved
+each-preserved c = names_more AModuleName c.each.invariant (c.if-closes.ensures.open refl) c.in_ok-read_module_name.ensures.read c.in_ok-read_module_name.ensures.shorter c.in_ok-push.ensures.ok

@@ -1,0 +1,203 @@
+//! Declarations of every form, and their faults.
+use super::{Form, HEADER, are_bad_forms, are_read};
+use std::test::Fail;
+
+#[test]
+fn every_form_of_declaration_is_read(rt: HostRuntime) -> Result<(), Fail> {
+    let texts: [&[u8]; 15] = [
+        b"(data T ())",
+        b"(data T ((a * N)))",
+        b"(data T ((a * N) (b # R) (c (-> * (-> # *)) P)))",
+        b"(data N ((n * N)) (R () N) (P () (R P)))",
+        b"(data T () (K ((type a *) (type b (-> * *)) (co c N a T) (co d R (T a) A.T)) a (fun b T)) (L ((co c N T T))) (M ((type a #))))",
+        b"(newtype T () Int# C)",
+        b"(newtype T ((a * R) (b (-> * *) P)) (b a) C')",
+        b"(family F () *)",
+        b"(family F ((a *) (b (-> * #))) (-> * *))",
+        b"(axiom C () T T)",
+        b"(axiom C ((a *) (b #)) (F a) A.B.T)",
+        b"(def x T y)",
+        b"(wrap x T y)",
+        b"(wrap $wf (fun T T) (lam ((x T)) A.f))",
+        b"(data T ()) (data T ()) (newtype T () T T) (family T () *) (axiom T () T T) (def x T x) (wrap x T x)",
+    ];
+    are_read(&rt, rt.alloc(), HEADER, texts.as_slice(), b")")
+}
+
+#[test]
+fn kinds_are_refused_at_their_first_fault(rt: HostRuntime) -> Result<(), Fail> {
+    let rows: [Form<'_>; 21] = [
+        (b"(family F () )", 43),
+        (b"(family F () T)", 43),
+        (b"(family F () a)", 43),
+        (b"(family F () +#)", 43),
+        (b"(family F () *#)", 43),
+        (b"(family F () N)", 43),
+        (b"(family F () ->)", 43),
+        (b"(family F () 1#)", 43),
+        (b"(family F () 2)", 43),
+        (b"(family F () ())", 44),
+        (b"(family F () (* *))", 44),
+        (b"(family F () (fun * *))", 44),
+        (b"(family F () (-> ))", 47),
+        (b"(family F () (-> *))", 48),
+        (b"(family F () (-> * * *))", 51),
+        (b"(family F () (-> T *))", 47),
+        (b"(family F () (-> * T))", 49),
+        (b"(family F () ((-> * *)))", 44),
+        (b"(family F () (-> -> * *))", 47),
+        (b"(family F () (-> (-> *) *))", 52),
+        (b"(family F () * *)", 45),
+    ];
+    are_bad_forms(&rt, rt.alloc(), HEADER, rows.as_slice(), b")")
+}
+
+#[test]
+fn parameters_are_refused_at_their_first_fault(rt: HostRuntime) -> Result<(), Fail> {
+    let rows: [Form<'_>; 36] = [
+        (b"(data)", 35),
+        (b"(data t ())", 36),
+        (b"(data A.T ())", 36),
+        (b"(data 1# ())", 36),
+        (b"(data T)", 37),
+        (b"(data T a)", 38),
+        (b"(data T (a))", 39),
+        (b"(data T (*))", 39),
+        (b"(data T (()))", 40),
+        (b"(data T ((A * N)))", 40),
+        (b"(data T ((A.a * N)))", 40),
+        (b"(data T ((case * N)))", 40),
+        (b"(data T ((type a *)))", 40),
+        (b"(data T (((a * N))))", 40),
+        (b"(data T ((a)))", 41),
+        (b"(data T ((a N)))", 42),
+        (b"(data T ((a T N)))", 42),
+        (b"(data T ((a *)))", 43),
+        (b"(data T ((a * Q)))", 44),
+        (b"(data T ((a * n)))", 44),
+        (b"(data T ((a * A.N)))", 44),
+        (b"(data T ((a * N')))", 44),
+        (b"(data T ((a * *)))", 44),
+        (b"(data T ((a * (N))))", 44),
+        (b"(data T ((a * N R)))", 46),
+        (b"(data T ((a * N) b))", 47),
+        (b"(newtype T ((a *)) T C)", 46),
+        (b"(newtype T ((a * S)) T C)", 47),
+        (b"(family F ((a * N)) *)", 46),
+        (b"(family F ((a)) *)", 43),
+        (b"(family F ((a a)) *)", 44),
+        (b"(family F (a) *)", 41),
+        (b"(family F ((A *)) *)", 42),
+        (b"(axiom C ((a * N)) T T)", 45),
+        (b"(axiom C ((type a *)) T T)", 41),
+        (b"(axiom C (T) T T)", 40),
+    ];
+    are_bad_forms(&rt, rt.alloc(), HEADER, rows.as_slice(), b")")
+}
+
+#[test]
+fn declarations_are_refused_at_their_first_fault(rt: HostRuntime) -> Result<(), Fail> {
+    let rows: [Form<'_>; 47] = [
+        (b"(newtype)", 38),
+        (b"(newtype t () T C)", 39),
+        (b"(newtype A.T () T C)", 39),
+        (b"(newtype T)", 40),
+        (b"(newtype T T C)", 41),
+        (b"(newtype T ())", 43),
+        (b"(newtype T () 1# C)", 44),
+        (b"(newtype T () () C)", 45),
+        (b"(newtype T () T)", 45),
+        (b"(newtype T () T c)", 46),
+        (b"(newtype T () T A.C)", 46),
+        (b"(newtype T () T Int#)", 46),
+        (b"(newtype T () T ())", 46),
+        (b"(newtype T () T C C)", 48),
+        (b"(family)", 37),
+        (b"(family f () *)", 38),
+        (b"(family A.F () *)", 38),
+        (b"(family F)", 39),
+        (b"(family F *)", 40),
+        (b"(family F ())", 42),
+        (b"(axiom)", 36),
+        (b"(axiom c () T T)", 37),
+        (b"(axiom A.C () T T)", 37),
+        (b"(axiom C)", 38),
+        (b"(axiom C T T)", 39),
+        (b"(axiom C ())", 41),
+        (b"(axiom C () T)", 43),
+        (b"(axiom C () T 1#)", 44),
+        (b"(axiom C () T T T)", 46),
+        (b"(axiom C () T T ())", 46),
+        (b"(def A.x T y)", 35),
+        (b"(def)", 34),
+        (b"(def x T)", 38),
+        (b"(wrap)", 35),
+        (b"(wrap X T y)", 36),
+        (b"(wrap A.x T y)", 36),
+        (b"(wrap case T y)", 36),
+        (b"(wrap x)", 37),
+        (b"(wrap x 1# y)", 38),
+        (b"(wrap x T)", 39),
+        (b"(wrap x T Y)", 40),
+        (b"(wrap x T y z)", 42),
+        (b"(module T ())", 31),
+        (b"(data T ()) (hidden x)", 43),
+        (b"(type a *)", 31),
+        (b"(A.data T ())", 31),
+        (b"(Data T ())", 31),
+    ];
+    are_bad_forms(&rt, rt.alloc(), HEADER, rows.as_slice(), b")")
+}
+
+#[test]
+fn constructors_are_refused_at_their_first_fault(rt: HostRuntime) -> Result<(), Fail> {
+    let rows: [Form<'_>; 43] = [
+        (b"(data T () K)", 41),
+        (b"(data T () ())", 42),
+        (b"(data T () (k ()))", 42),
+        (b"(data T () (A.K ()))", 42),
+        (b"(data T () (default ()))", 42),
+        (b"(data T () (K))", 43),
+        (b"(data T () (K T))", 44),
+        (b"(data T () (K (a)))", 45),
+        (b"(data T () (K (T)))", 45),
+        (b"(data T () (K (())))", 46),
+        (b"(data T () (K ((a T))))", 46),
+        (b"(data T () (K ((A *))))", 46),
+        (b"(data T () (K (type a *)))", 45),
+        (b"(data T () (K ((type))))", 50),
+        (b"(data T () (K ((type A *))))", 51),
+        (b"(data T () (K ((type A.a *))))", 51),
+        (b"(data T () (K ((type a))))", 52),
+        (b"(data T () (K ((type a T))))", 53),
+        (b"(data T () (K ((type a * N))))", 55),
+        (b"(data T () (K ((co))))", 48),
+        (b"(data T () (K ((co C N T T))))", 49),
+        (b"(data T () (K ((co c))))", 50),
+        (b"(data T () (K ((co c T T))))", 51),
+        (b"(data T () (K ((co c P T T))))", 51),
+        (b"(data T () (K ((co c N))))", 52),
+        (b"(data T () (K ((co c N T))))", 54),
+        (b"(data T () (K ((co c N 1# T))))", 53),
+        (b"(data T () (K ((co c N T T T))))", 57),
+        (b"(data T () (K ((co c N T T) (type a *))))", 59),
+        (
+            b"(data T () (K ((type a *) (co c N T T) (type b *)) T))",
+            70,
+        ),
+        (b"(data T () (K ((co c N T T) (x T))))", 59),
+        (b"(data T () (K ((type a *) (x T))))", 57),
+        (b"(data T () (K ((type a *) a)))", 56),
+        (b"(data T () (K ((co c N T T) c)))", 58),
+        (b"(data T () (K ((co c N T T) ())))", 59),
+        (b"(data T () (K ((co c N T T) (co C N T T))))", 62),
+        (b"(data T () (K ((co c N T T) (co c P T T))))", 64),
+        (b"(data T () (K ((co c N T T) (co c N T))))", 67),
+        (b"(data T () (K ((co c N T T) (co c N T T T))))", 70),
+        (b"(data T () (K () *))", 47),
+        (b"(data T () (K () 1#))", 47),
+        (b"(data T () (K () (type a)))", 48),
+        (b"(data T () (K ()) T)", 48),
+    ];
+    are_bad_forms(&rt, rt.alloc(), HEADER, rows.as_slice(), b")")
+}
