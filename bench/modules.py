@@ -1,8 +1,9 @@
 #!/usr/bin/env python3
 """Lints and builds modules of growing size with the program `coreopt`, and prints for each the seconds, the bytes a second of both and
-the peak memory of a build; the seconds are those of the processor, the least of five runs. There are five kinds of modules: constants that give a constructor two names of other definitions; functions whose bodies
-are lets and applications, a hundred deep; small functions that call others; functions by case; and one alternative of many binders, the
-outermost of which is used many times, which is refused for the number of its binders when all of it was judged. Run it from anywhere, on a
+the peak memory of a build; the seconds are those of the processor, the least of five runs. There are seven kinds of modules: constants that give a constructor two names of other definitions; functions whose bodies
+are lets and applications, a hundred deep; small functions that call others; functions by case; one alternative of many binders, the
+outermost of which is used many times, which is refused for the number of its binders when all of it was judged; data types with parameters,
+existential types and equalities, newtypes and families with their axioms; and applications whose argument has a type of 65,535 pieces. Run it from anywhere, on a
 machine where the program is built (`./coreopt build examples/Shapes.fc`), or with another program as its only word."""
 import os
 import subprocess
@@ -58,6 +59,35 @@ def wide(count):
     yield f" (def d10000 (fun T T) (lam ((x T)) (case x (y T) T (P ({binders}) (con P {uses})))))"
 
 
+def declarations(count):
+    """Data types with two parameters, an existential type and an equality, which name others; every third with a newtype, and with a
+    family and an equation."""
+    yield " (def d10000 T (con K))"
+    for i in range(count):
+        left, right = others(i, count)
+        one, two = f"D{left - 10_000}", f"D{right - 10_000}"
+        yield (
+            f" (data D{i} ((a * N) (f (-> * *) R)) (E{i} () (f a) ({one} a f) (fun a ({two} a f)))"
+            f" (G{i} ((type b *) (co c R a (f b))) (forall (d *) (fun d b ({one} b f)))))"
+        )
+        if i % 3 == 0:
+            yield f" (newtype W{i} ((a * N)) (fun a (forall (f (-> * *)) ({one} a f))) C{i})"
+            yield f" (family F{i} ((a *) (b *)) *) (axiom Q{i} ((a *)) (F{i} a T) (fun a (W{i} a)))"
+
+
+def balanced(depth):
+    """A type of functions between functions, a balanced tree of 2 ** (depth + 1) - 1 pieces."""
+    return "T" if depth == 0 else f"(fun {balanced(depth - 1)} {balanced(depth - 1)})"
+
+
+def shared(count):
+    """Applications of one function, whose argument has a large type."""
+    large = balanced(15)
+    yield f" (def h {large} h) (def f (fun {large} T) f)"
+    for i in range(count):
+        yield f" (def d{10_000 + i} T (app f h))"
+
+
 # the name of a kind, its definitions, their numbers, and the status that is wanted
 KINDS = [
     ("names", names, [11_000, 22_000, 60_000], 0),
@@ -65,6 +95,8 @@ KINDS = [
     ("small functions", small, [4_000, 8_000, 16_000], 0),
     ("cases", cases, [3_000, 6_000, 12_000], 0),
     ("wide", wide, [15_000, 30_000, 60_000], 1),
+    ("declarations", declarations, [1_000, 2_000, 4_000], 0),
+    ("shared", shared, [1_000, 3_000], 0),
 ]
 
 

@@ -9,6 +9,7 @@ use Rattle.fc_model.specs.Canonical.{canonical}
 use Rattle.fc_model.specs.Declaring.{declared_words}
 use Rattle.fc_model.specs.Faulting.{and_then}
 use Rattle.fc_model.specs.Headers.{name_of, others, written_of}
+use Rattle.fc_model.specs.Kinding.{decls_at}
 use Rattle.fc_model.specs.Linting.{Lints, done, lint_or_fault}
 use Rattle.fc_model.specs.Nameless.{NDecl, NModuleOf}
 use Rattle.fc_model.specs.Observing.{Sees}
@@ -19,7 +20,6 @@ use Rattle.fc_model.specs.Texts.{Spells}
 use Rattle.fc_model.proofs.Parts.{and_then_inv}
 use Rattle.fc_model.proofs.ResolvedModulesAre.{resolved_module_is}
 use Rattle.fc_model.proofs.Sameness.{bytes_eq_refl}
-use Rattle.fc_model.proofs.UnderHeader.{at_hidden}
 use Rattle.fc_words.specs.Asking.{Building}
 use Rattle.fc_words.specs.declared.Tuning.{Tuning}
 use Rattle.fc_build.specs.Meaning.{KeepsMeaning, ShowsTheSame}
@@ -57,9 +57,14 @@ module _ (m : Word) (imports exports h g : List Word) (ds : List NDecl) where
   exports_same None = refl
   exports_same (Some w) = refl
 
-  -- other hidden words make no other program
+  -- other hidden words leave the declarations as they are
+  declarations_same : (o : Option Word) → decls_at (NModuleOf m imports exports h ds ∷ []) o ≡ decls_at (NModuleOf m imports exports g ds ∷ []) o
+  declarations_same None = refl
+  declarations_same (Some w) = refl
+
+  -- and make no other program
   program_same : program_of (NModuleOf m imports exports h ds ∷ []) ≡ program_of (NModuleOf m imports exports g ds ∷ [])
-  program_same i n = right_side (at_hidden m imports exports h g ds n.module i) n.text
+  program_same i n = right_side (declarations_same n.module i) n.text
 
   exported_same : (n : Name) → IsExported (NModuleOf m imports exports h ds ∷ []) n → IsExported (NModuleOf m imports exports g ds ∷ []) n
   exported_same n e =

@@ -1,56 +1,28 @@
 //! Which forms Lint judges so far: a module that has another is refused as a whole.
 #![tactic(auto)]
 
-ghost use Rattle.std.specs.Prelude.{◌≡◌, ◌&&◌};
+ghost use Rattle.std.specs.Prelude.{◌≡◌};
 ghost use Rattle.std.specs.List.{list_all};
-ghost use Rattle.fc_syntax.specs.View.{alt_of, alts_of, arg_of, args_of, binder_of, binders_of, binds_of, con_of, cons_of, decl_of, decls_of, expr_of, module_of, params_of, ty_of, tys_of};
-ghost use Rattle.fc_model.specs.Formed.{is_empty_list};
+ghost use Rattle.fc_syntax.specs.View.{alt_of, alts_of, arg_of, args_of, binder_of, binders_of, binds_of, decl_of, decls_of, expr_of, module_of};
 ghost use Rattle.fc_model.specs.Supported as spec;
 
-use fc_syntax::{Alt, Arg, Bind, Binder, ConDecl, Decl, Expr, Head, Module, Param, Ty};
+use fc_syntax::{Alt, Arg, Bind, Binder, Decl, Expr, Head, Module};
 
-#[cycle(types)]
-#[tactic(auto, using(fc_syntax::proofs::View::view_rules))]
-fn is_type_supported(t: &Ty) -> bool
-    ensures { result ≡ spec.is_type_supported (ty_of t.now) }
-{
-    match t {
-        Ty::Con(_) => true,
-        Ty::IntHash => true,
-        Ty::Fun(t, u) => is_type_supported(t) && is_type_supported(u),
-        Ty::Var(_) => false,
-        Ty::App(_, _) => false,
-        Ty::Forall(_, _, _) => false,
-        Ty::CoForall(_, _, _, _) => false,
-    }
-}
-
-fn are_types_supported(types: &[Ty]) -> bool
-    ensures { result ≡ list_all spec.is_type_supported (tys_of types.now) }
-{
-    for t in types {
-        if !is_type_supported(t) {
-            return false;
-        }
-    }
-    true
-}
-
-fn is_binder_supported(b: &Binder) -> bool
-    ensures { result ≡ spec.is_binder_supported (binder_of b.now) }
+fn is_value_binder(b: &Binder) -> bool
+    ensures { result ≡ spec.is_value_binder (binder_of b.now) }
 {
     match b {
-        Binder::Value(_, t) => is_type_supported(t),
+        Binder::Value(_, _) => true,
         Binder::OfType(_, _) => false,
         Binder::OfCo(_, _, _, _) => false,
     }
 }
 
-fn are_binders_supported(binders: &[Binder]) -> bool
-    ensures { result ≡ list_all spec.is_binder_supported (binders_of binders.now) }
+fn are_value_binders(binders: &[Binder]) -> bool
+    ensures { result ≡ list_all spec.is_value_binder (binders_of binders.now) }
 {
     for b in binders {
-        if !is_binder_supported(b) {
+        if !is_value_binder(b) {
             return false;
         }
     }
@@ -63,7 +35,7 @@ fn is_head_supported(head: &Head, binders: &[Binder]) -> bool
     match head {
         Head::Default => binders.is_empty(),
         Head::Lit(_) => binders.is_empty(),
-        Head::Con(_) => are_binders_supported(binders),
+        Head::Con(_) => are_value_binders(binders),
     }
 }
 
@@ -76,17 +48,14 @@ fn is_expr_supported(e: &Expr) -> bool
         Expr::Var(_) => true,
         Expr::Lit(_) => true,
         Expr::App(f, a) => is_expr_supported(f) && is_arg_supported(a),
-        Expr::Lam(b, e) => is_binder_supported(b) && is_expr_supported(e),
+        Expr::Lam(b, e) => is_value_binder(b) && is_expr_supported(e),
         Expr::Let(true, _, _) => false,
         Expr::Let(false, binds, e) => is_bind_supported(binds.as_slice()) && is_expr_supported(e),
-        Expr::Case(e, _, t, u, alts) => {
-            let types = is_type_supported(t) && is_type_supported(u);
-            is_expr_supported(e) && (types && are_alts_supported(alts.as_slice()))
-        }
+        Expr::Case(e, _, _, _, alts) => is_expr_supported(e) && are_alts_supported(alts.as_slice()),
         Expr::Con(_, args) => are_args_supported(args.as_slice()),
         Expr::Cast(_, _) => false,
         Expr::Prim(_, _) => false,
-        Expr::Fail(_) => false,
+        Expr::Fail(_) => true,
         Expr::Join(_, _, _, _) => false,
         Expr::Jump(_, _) => false,
     }
@@ -123,7 +92,7 @@ fn is_bind_supported(binds: &[Bind]) -> bool
 {
     match binds {
         [] => false,
-        [bind] => is_type_supported(&bind.ty) && is_expr_supported(&bind.rhs),
+        [bind] => is_expr_supported(&bind.rhs),
         [_, _, ..] => false,
     }
 }
@@ -147,46 +116,16 @@ fn are_alts_supported(alts: &[Alt]) -> bool
     true
 }
 
-fn is_con_supported(con: &ConDecl) -> bool
-    ensures { result ≡ spec.is_con_supported (con_of con.now) }
-{
-    match con.binders.as_slice() {
-        [] => are_types_supported(con.fields.as_slice()),
-        [_, ..] => false,
-    }
-}
-
-fn are_cons_supported(cons: &[ConDecl]) -> bool
-    ensures { result ≡ list_all spec.is_con_supported (cons_of cons.now) }
-{
-    for con in cons {
-        if !is_con_supported(con) {
-            return false;
-        }
-    }
-    true
-}
-
-/// Constructors of a data type without parameters.
-fn are_data_supported(params: &[Param], cons: &[ConDecl]) -> bool
-    ensures { result ≡ (is_empty_list (params_of params.now) && list_all spec.is_con_supported (cons_of cons.now)) }
-{
-    match params {
-        [] => are_cons_supported(cons),
-        [_, ..] => false,
-    }
-}
-
 fn is_decl_supported(decl: &Decl) -> bool
     ensures { result ≡ spec.is_decl_supported (decl_of decl.now) }
 {
     match decl {
-        Decl::DataType(_, params, cons) => are_data_supported(params.as_slice(), cons.as_slice()),
-        Decl::Def(_, t, e) => is_type_supported(t) && is_expr_supported(e),
-        Decl::NewType(_, _, _, _) => false,
-        Decl::Family(_, _, _) => false,
-        Decl::Axiom(_, _, _, _) => false,
-        Decl::Wrap(_, _, _) => false,
+        Decl::DataType(_, _, _) => true,
+        Decl::NewType(_, _, _, _) => true,
+        Decl::Family(_, _, _) => true,
+        Decl::Axiom(_, _, _, _) => true,
+        Decl::Def(_, _, e) => is_expr_supported(e),
+        Decl::Wrap(_, _, e) => is_expr_supported(e),
     }
 }
 

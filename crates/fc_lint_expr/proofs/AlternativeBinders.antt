@@ -4,8 +4,8 @@ use Rattle.std.proofs.lemmas.Grind.{common_steps}
 use Rattle.fc_syntax.specs.declared.expr.Binder as B
 use Rattle.fc_syntax.specs.declared.ty.Ty as T
 use Rattle.fc_model.specs.Faulting.{F, and_then, under}
-use Rattle.fc_model.specs.Kinding.{kind_or_fault}
-use Rattle.fc_model.specs.Nameless.{NTy, NBinder, NBValue, NBType, NBCo, NModule}
+use Rattle.fc_model.specs.Kinding.{Modules, kind_or_fault}
+use Rattle.fc_model.specs.Nameless.{NTy, NBinder, NBValue, NBType, NBCo}
 use Rattle.fc_model.specs.NamelessView.{nbinder_of, nbinders_of, nty_of, ntys_of}
 use Rattle.fc_model.specs.Typing.{Context, binders_fit, binders_judged}
 use Rattle.fc_lint_expr.specs.AltViews.{binder_judged, binder_takes}
@@ -19,14 +19,14 @@ then_err (Ok t) i f rest h = grind (arith, common_steps)
 then_err (Err e) i f rest h = grind (arith, common_steps)
 
 -- a binder whose type has a kind stands before those that follow
-pub binders_ok : (ms : List NModule) (c : Context) (i j : ℕ) (b : NBinder) (bs : List NBinder) → binder_judged ms c.kinds i b ≡ Ok j
+pub binders_ok : (ms : Modules) (c : Context) (i j : ℕ) (b : NBinder) (bs : List NBinder) → binder_judged ms c.kinds i b ≡ Ok j
     → binders_judged ms c i (b ∷ bs) ≡ binders_judged ms c j bs
 binders_ok ms c i j (NBValue t) bs h = then_ok (under i (under 0 (kind_or_fault ms c.kinds t))) (i + 1) j (λ k. binders_judged ms c k bs) h
 binders_ok ms c i j (NBType k) bs h = grind (arith, common_steps)
 binders_ok ms c i j (NBCo r t u) bs h = grind (arith, common_steps)
 
 -- a binder with a fault ends the judgement
-pub binders_err : (ms : List NModule) (c : Context) (i : ℕ) (b : NBinder) (bs : List NBinder) (f : F) → binder_judged ms c.kinds i b ≡ Err f → binders_judged ms c i (b ∷ bs) ≡ Err f
+pub binders_err : (ms : Modules) (c : Context) (i : ℕ) (b : NBinder) (bs : List NBinder) (f : F) → binder_judged ms c.kinds i b ≡ Err f → binders_judged ms c i (b ∷ bs) ≡ Err f
 binders_err ms c i (NBValue t) bs f h = then_err (under i (under 0 (kind_or_fault ms c.kinds t))) (i + 1) f (λ k. binders_judged ms c k bs) h
 binders_err ms c i (NBType k) bs f h = grind (arith, common_steps)
 binders_err ms c i (NBCo r t u) bs f h = grind (arith, common_steps)

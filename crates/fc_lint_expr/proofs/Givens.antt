@@ -5,7 +5,8 @@ use Rattle.fc_syntax.specs.declared.expr.Arg as A
 use Rattle.fc_syntax.specs.declared.ty.Ref.{Ref}
 use Rattle.fc_syntax.specs.declared.ty.Ty as T
 use Rattle.fc_model.specs.Faulting.{F, and_then, under}
-use Rattle.fc_model.specs.Nameless.{NTy, NArg, NATerm, NAType, NACo, NArgs, MoreNArgs, NModule}
+use Rattle.fc_model.specs.Kinding.{Modules}
+use Rattle.fc_model.specs.Nameless.{NTy, NArg, NATerm, NAType, NACo, NArgs, MoreNArgs}
 use Rattle.fc_model.specs.NamelessView.{narg_of, nargs_of, nty_of, ntys_of}
 use Rattle.fc_model.specs.Typing as words
 use Rattle.fc_model.specs.Typing.{Context, args_given, is_atom, is_saturated, then_given, type_or_fault}
@@ -24,33 +25,33 @@ term_err (Ok t) b f rest h = grind (arith, common_steps)
 term_err (Err e) b f rest h = grind (arith, common_steps)
 
 -- an argument whose type is found is given before those that follow
-args_ok : (ms : List NModule) (c : Context) (i : ℕ) (a : NArg) (rest : NArgs) (g : TypedArg) → given_at ms c i a ≡ Ok (given_of g)
+args_ok : (ms : Modules) (c : Context) (i : ℕ) (a : NArg) (rest : NArgs) (g : TypedArg) → given_at ms c i a ≡ Ok (given_of g)
     → args_given ms c i (MoreNArgs a rest) ≡ then_given (nty_of g.ty) g.atom (args_given ms c (i + 1) rest)
 args_ok ms c i (NATerm e) rest g h = term_ok (under i (type_or_fault ms c e)) (is_atom e) (given_of g) (args_given ms c (i + 1) rest) h
 args_ok ms c i (NAType t) rest g h = grind (arith, common_steps)
 args_ok ms c i (NACo co) rest g h = grind (arith, common_steps)
 
 -- an argument with a fault ends the judgement
-args_err : (ms : List NModule) (c : Context) (i : ℕ) (a : NArg) (rest : NArgs) (f : F) → given_at ms c i a ≡ Err f → args_given ms c i (MoreNArgs a rest) ≡ Err f
+args_err : (ms : Modules) (c : Context) (i : ℕ) (a : NArg) (rest : NArgs) (f : F) → given_at ms c i a ≡ Err f → args_given ms c i (MoreNArgs a rest) ≡ Err f
 args_err ms c i (NATerm e) rest f h = term_err (under i (type_or_fault ms c e)) (is_atom e) f (args_given ms c (i + 1) rest) h
 args_err ms c i (NAType t) rest f h = grind (arith, common_steps)
 args_err ms c i (NACo co) rest f h = grind (arith, common_steps)
 
 -- the same of arguments of src
-pub from_ok : (ms : List NModule) (c : Context) (i : ℕ) (a : A.Arg ℕ Ref) (rest : List (A.Arg ℕ Ref)) (g : TypedArg) → arg_given ms c i a ≡ Ok (given_of g)
+pub from_ok : (ms : Modules) (c : Context) (i : ℕ) (a : A.Arg ℕ Ref) (rest : List (A.Arg ℕ Ref)) (g : TypedArg) → arg_given ms c i a ≡ Ok (given_of g)
     → args_from ms c i (a ∷ rest) ≡ then_given (nty_of g.ty) g.atom (args_from ms c (i + 1) rest)
 unfolding arg_given args_from
 from_ok ms c i a rest g h = args_ok ms c i (narg_of a) (nargs_of rest) g h
 
-pub from_err : (ms : List NModule) (c : Context) (i : ℕ) (a : A.Arg ℕ Ref) (rest : List (A.Arg ℕ Ref)) (f : F) → arg_given ms c i a ≡ Err f → args_from ms c i (a ∷ rest) ≡ Err f
+pub from_err : (ms : Modules) (c : Context) (i : ℕ) (a : A.Arg ℕ Ref) (rest : List (A.Arg ℕ Ref)) (f : F) → arg_given ms c i a ≡ Err f → args_from ms c i (a ∷ rest) ≡ Err f
 unfolding arg_given args_from
 from_err ms c i a rest f h = args_err ms c i (narg_of a) (nargs_of rest) f h
 
-pub from_none : (ms : List NModule) (c : Context) (i : ℕ) → args_from ms c i [] ≡ Ok []
+pub from_none : (ms : Modules) (c : Context) (i : ℕ) → args_from ms c i [] ≡ Ok []
 unfolding args_from
 from_none ms c i = refl
 
-pub from_whole : (ms : List NModule) (c : Context) (i : ℕ) (args : List (A.Arg ℕ Ref)) → args_from ms c i args ≡ args_given ms c i (nargs_of args)
+pub from_whole : (ms : Modules) (c : Context) (i : ℕ) (args : List (A.Arg ℕ Ref)) → args_from ms c i args ≡ args_given ms c i (nargs_of args)
 unfolding args_from
 from_whole ms c i args = refl
 
@@ -81,7 +82,7 @@ unfolding with_givens
 with_err items f = refl
 
 -- one turn of the loop over the arguments
-pub given_step : (ms : List NModule) (c : Context) (whole : Result (List words.TypedArg) F) (items new : List TypedArg) (i j k : ℕ) (args : List (A.Arg ℕ Ref)) (a : A.Arg ℕ Ref) (g : TypedArg)
+pub given_step : (ms : Modules) (c : Context) (whole : Result (List words.TypedArg) F) (items new : List TypedArg) (i j k : ℕ) (args : List (A.Arg ℕ Ref)) (a : A.Arg ℕ Ref) (g : TypedArg)
     → whole ≡ with_givens items (args_from ms c i (drop k args)) → k < length args → a ≡ get_or args k a → arg_given ms c i a ≡ Ok (given_of g)
     → new ≡ items ++ g ∷ [] → j ≡ i + 1 → whole ≡ with_givens new (args_from ms c j (drop (k + 1) args))
 given_step ms c whole items new i j k args a g so_far low is given pushed next =

@@ -1,10 +1,10 @@
 -- What the local variables in scope mean.
 use Rattle.std.specs.Prelude.{ℕ, List, [], ◌∷◌, ◌++◌, map, reverse, Result, Ok, Err}
 use Rattle.fc_syntax.specs.declared.ty.Ty as T
-use Rattle.fc_model.specs.Faulting.{F}
+use Rattle.fc_model.specs.Faulting.{F, at_distance}
 use Rattle.fc_model.specs.Nameless.{NTy}
 use Rattle.fc_model.specs.NamelessView.{nbinds_of, nty_of}
-use Rattle.fc_model.specs.Typing.{Context, bind_types, local_value}
+use Rattle.fc_model.specs.Typing.{Context, bind_types}
 use Rattle.fc_types.specs.KindViews.{kinds_of}
 use Rattle.fc_lint_expr.specs.declared.locals.Context as code
 use Rattle.fc_lint_expr.specs.declared.locals.LocalType.{LocalType}
@@ -22,7 +22,7 @@ behind ts outer = reverse ts ++ outer
 -- the type that is found among types, or the distance that is left outside of them
 abbrev pub found_among : Result (Bor (T.Ty ℕ)) ℕ → List NTy → Result NTy F
 found_among (Ok t) outer = Ok (nty_of t.now)
-found_among (Err left) outer = local_value outer left
+found_among (Err left) outer = at_distance outer left
 
 abbrev pub values_of : Locals → List NTy
 values_of End = []

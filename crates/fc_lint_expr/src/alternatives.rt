@@ -18,7 +18,7 @@ ghost use Rattle.fc_lint_expr.specs.AltViews as views;
 ghost use Rattle.fc_lint_expr.specs.AltViews.{before_of, binder_judged, constructor_judged};
 ghost use Rattle.fc_lint_expr.specs.LocalViews.{context_of};
 
-use crate::arguments::is_int_hash;
+use crate::arguments::{is_int_hash, is_plain};
 use crate::locals::Context;
 use fc_model::{Flawed, deeper, flaw_here, next_part};
 use fc_syntax::{FaultKind, Head, Kind, NBinder, NTy, Name, Text};
@@ -200,8 +200,8 @@ fn binders_take(fields: &[NTy], binders: &[NBinder]) -> bool
     true
 }
 
-/// The alternative of a constructor: `AltConstructor` where it is none of the scrutinee's type, and then `AltOrder` and
-/// `ConArity`.
+/// The alternative of a constructor: `BadForm` where it is not plain, `AltConstructor` where it is none of the scrutinee's type, and
+/// then `AltOrder` and `ConArity`.
 fn constructor_goes(
     alloc: Global,
     con: Option<DeclaredCon>,
@@ -215,6 +215,9 @@ fn constructor_goes(
     let Some(con) = con else {
         return Err(flaw_here(alloc, FaultKind::AltConstructor));
     };
+    if !is_plain(&con) {
+        return Err(flaw_here(alloc, FaultKind::BadForm));
+    }
     if !is_data_type(scrutinee, name, con.data_word) {
         return Err(flaw_here(alloc, FaultKind::AltConstructor));
     }

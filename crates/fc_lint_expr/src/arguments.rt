@@ -114,7 +114,15 @@ fn data_type(alloc: Global, name: &Name, con: &DeclaredCon) -> Result<NTy, Memor
     Ok(NTy::Con(name))
 }
 
-/// The type of a constructor that is given these terms.
+/// Whether a constructor's data type has no parameters and the constructor binds no type and no coercion.
+pub fn is_plain(con: &DeclaredCon) -> bool
+    ensures { result ≡ words.is_plain (constructor_of con.now) }
+{
+    con.params.as_slice().is_empty() && con.con.binders.as_slice().is_empty()
+}
+
+/// The type of a constructor that is given these terms: `BadForm` where the constructor is not plain, and then `ConArity`, `ArgType`
+/// and `UnliftedNotAtom`.
 pub fn constructed_type(
     alloc: Global,
     name: &Name,
@@ -126,6 +134,9 @@ pub fn constructed_type(
     match con {
         None => Err(flaw_here(alloc, FaultKind::Unbound)),
         Some(con) => {
+            if !is_plain(&con) {
+                return Err(flaw_here(alloc, FaultKind::BadForm));
+            }
             let fields = con.con.fields.as_slice();
             if !fits_arity(fields, given) {
                 return Err(flaw_here(alloc, FaultKind::ConArity));

@@ -16,7 +16,7 @@ use crate::alternatives::{
 };
 use crate::arguments::{TypedArg, constructed_type, is_atom};
 use crate::locals::{Context, Locals, local_type, value_types};
-use crate::premises::{applied_type, bind_takes, lambda_type};
+use crate::premises::{applied_type, bind_takes, fail_type, lambda_type};
 use fc_model::{Flawed, deeper, flaw_here, next_part};
 use fc_syntax::{FaultKind, NAlt, NArg, NBind, NBinder, NExpr, NTy, Name, Ref, Seq};
 use fc_types::{Declarations, Kinds, kind_of_part};
@@ -395,7 +395,10 @@ fn type_of<'x>(
             constructed_type(alloc, name, con, given.as_slice())
         }
         NExpr::Prim(_, _) => Err(flaw_here(alloc, FaultKind::BadForm)),
-        NExpr::Fail(_) => Err(flaw_here(alloc, FaultKind::BadForm)),
+        NExpr::Fail(t) => {
+            let k = kind_of_part(alloc, t, declared, context.kinds, 0)?;
+            fail_type(alloc, t, &k)
+        }
         NExpr::Join(_, _, _, _) => Err(flaw_here(alloc, FaultKind::BadForm)),
         NExpr::Jump(_, _) => Err(flaw_here(alloc, FaultKind::BadForm)),
     }
@@ -406,9 +409,10 @@ fn type_of<'x>(
 /// application `NotFunction`, `ArgType` and `UnliftedNotAtom`; for a lambda `NotAType`; for a bind `NotAType`, `LetType` and
 /// `UnliftedNotAtom`; for a constructor `Unbound`, `ConArity`, `ArgType` and `UnliftedNotAtom`; for a case `ScrutineeType` and
 /// `NotAType`; for the default of a case `AltOrder`, for a literal's alternative `LitAlt` and `AltOrder`, for a constructor's
-/// `AltConstructor`, `AltOrder` and `ConArity`, and for each of them then `AltType`; in these orders; each with the part numbers
-/// to the piece. A form that no rule is for is `BadForm`: binders and arguments that are types or coercions, casts, primitives,
-/// errors, join points and jumps.
+/// `AltConstructor`, `AltOrder` and `ConArity`, and for each of them then `AltType`; for an error `NotAType`; in these orders; each with
+/// the part numbers to the piece. A form that no rule is for yet is `BadForm`: binders and arguments that are types or coercions, casts,
+/// primitives, join points and jumps, and constructors and alternatives of data types with parameters or with binders of the
+/// constructor's own.
 pub fn lint_in_context(
     alloc: Global,
     e: &NExpr,

@@ -1,9 +1,10 @@
 //! The kinds and the types of the local variables in scope.
 ghost use Rattle.std.specs.Prelude.{◌≡◌, List, [], ◌∷◌, ◌++◌, IfOk, OnOk};
+ghost use Rattle.fc_model.specs.Faulting.{at_distance};
 ghost use Rattle.fc_model.specs.Nameless as trees;
 ghost use Rattle.fc_model.specs.NamelessView.{nbinder_of, nbinders_of, nbinds_of, nty_of};
 ghost use Rattle.fc_model.specs.Says.{Says};
-ghost use Rattle.fc_model.specs.Typing.{bind_types, binder_types, local_value};
+ghost use Rattle.fc_model.specs.Typing.{bind_types, binder_types};
 ghost use Rattle.fc_lint_expr.specs.LocalViews.{behind, found_among, types_of, values_of};
 
 use fc_model::{Flawed, flaw_here};
@@ -65,7 +66,7 @@ pub fn value_types<'a>(alloc: Global, binders: &'a [NBinder]) -> Result<Seq<Loca
 /// The type at a distance among types, the last of which is the innermost, or the distance that is left outside of them.
 #[tactic(auto, using(crate::proofs::LocalTypes::type_rules))]
 fn type_among<'a>(types: &[LocalType<'a>], distance: u32) -> Result<&'a NTy, u32>
-    ensures { (outer : List trees.NTy) → local_value (behind (types_of types.now) outer) distance ≡ found_among result outer }
+    ensures { (outer : List trees.NTy) → at_distance (behind (types_of types.now) outer) distance ≡ found_among result outer }
 {
     let count = types.len();
     let place = distance as usize;
@@ -79,7 +80,7 @@ fn type_among<'a>(types: &[LocalType<'a>], distance: u32) -> Result<&'a NTy, u32
 /// The type of the bind at a distance among binds, the last of which is the innermost, or the distance that is left outside of them.
 #[tactic(auto, using(crate::proofs::LocalTypes::bind_rules))]
 fn bind_among(binds: &[NBind], distance: u32) -> Result<&NTy, u32>
-    ensures { (outer : List trees.NTy) → local_value (behind (bind_types (nbinds_of binds.now)) outer) distance ≡ found_among result outer }
+    ensures { (outer : List trees.NTy) → at_distance (behind (bind_types (nbinds_of binds.now)) outer) distance ≡ found_among result outer }
 {
     let count = binds.len();
     let place = distance as usize;
@@ -92,7 +93,7 @@ fn bind_among(binds: &[NBind], distance: u32) -> Result<&NTy, u32>
 
 /// The type of the local variable at a distance.
 pub fn local_type(alloc: Global, locals: &Locals, distance: u32) -> Result<NTy, Flawed>
-    ensures { Says nty_of result (local_value (values_of locals.now) distance) }
+    ensures { Says nty_of result (at_distance (values_of locals.now) distance) }
 {
     match locals {
         Locals::End => Err(flaw_here(alloc, FaultKind::Unbound)),

@@ -78,3 +78,13 @@ pub fn bind_takes(alloc: Global, t: &NTy, k: &Kind, right: &NTy, atom: bool) -> 
     }
     Ok(())
 }
+
+/// The type of an error at this type, of this kind: `NotAType` where the kind is none of the types of values.
+pub fn fail_type(alloc: Global, t: &NTy, k: &Kind) -> Result<NTy, Flawed>
+    ensures { Says nty_of result (need (kinds.is_value_kind (kind_of k.now)) NotAType (Ok (nty_of t.now))) }
+{
+    if !is_value_kind(k) {
+        return Err(flaw_here(alloc, FaultKind::NotAType));
+    }
+    Ok(t.copy(alloc)?)
+}

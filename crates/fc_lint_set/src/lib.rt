@@ -1,10 +1,12 @@
 //! Lint of a nameless module: every premise of its names, declarations and types, in their order.
 #![tactic(auto)]
 
+mod constructors;
 mod definitions;
 mod exports;
+mod families;
 mod modules;
-mod parts;
 mod type_declarations;
+mod variables;
 
 pub use modules::lint_module;

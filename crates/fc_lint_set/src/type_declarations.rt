@@ -1,110 +1,157 @@
-//! That the fields of type declarations are well kinded.
+//! Type declarations: data types, newtypes, families and axioms.
+ghost use Rattle.std.specs.Prelude.{[], Ok};
+ghost use Rattle.fc_syntax.specs.declared.fault.FaultKind.TheVariants.{NotAType, UnliftedVariable};
+ghost use Rattle.fc_syntax.specs.declared.ty.Role.TheVariants.{R};
+ghost use Rattle.fc_syntax.specs.View.{kind_of};
 ghost use Rattle.fc_model.specs.Declaring.{ndecl_word};
-ghost use Rattle.fc_model.specs.Faulting.{within};
-ghost use Rattle.fc_model.specs.Linting.{done, type_decl_judged, type_decls_judged};
-ghost use Rattle.fc_model.specs.NamelessView.{ndecl_of, ndecls_of};
+ghost use Rattle.fc_model.specs.Faulting.{and_then, need, within};
+ghost use Rattle.fc_model.specs.Kinding as kinds;
+ghost use Rattle.fc_model.specs.Linting.{done, roles_judged, type_decl_judged, type_decls_judged, variables_judged};
+ghost use Rattle.fc_model.specs.Nameless.{NAxiom, NData, NNew};
+ghost use Rattle.fc_model.specs.NamelessView.{ncons_of, ndecl_of, ndecls_of, nparams_of, nplains_of, nty_of};
+ghost use Rattle.fc_model.specs.Needs.{need_in, need_in_cons};
 ghost use Rattle.fc_model.specs.Says.{Says};
-ghost use Rattle.fc_types.specs.KindViews.{kinds_of};
 ghost use Rattle.fc_types.specs.ModuleViews.{modules_of};
-ghost use Rattle.fc_lint_set.specs.Judging.{con_value, cons_from, field_value, fields_from};
 
-use crate::parts::part_after;
-use fc_model::{Flawed, deeper, flaw_here, in_declaration, next_part, word_of};
-use fc_syntax::{FaultKind, NConDecl, NDecl, NTy};
-use fc_types::{Declarations, Kinds, is_value_kind, kind_of_part};
+use crate::constructors::lint_constructors;
+use crate::families::is_family_applied;
+use crate::variables::{kinds_of_params, kinds_of_plains, lint_roles, lint_variables};
+use fc_model::{Flawed, flaw_here, in_declaration, next_part, word_of};
+use fc_roles::{needs_of_constructors, needs_of_type};
+use fc_syntax::{FaultKind, Kind, NConDecl, NDecl, NTy, Param, Plain};
+use fc_types::{Declarations, Kinds, is_lifted, is_star, kind_of_part, same_kind};
 use std::alloc::Global;
 
-/// Whether the field that is the part of this number is of a kind of values, among the kinds of the type variables in scope.
-#[tactic(auto, unfolding(crate::specs::Judging::field_value))]
-fn field_is_value(
-    alloc: Global,
-    field: &NTy,
-    declared: &Declarations,
-    kinds: &Kinds,
-    part: u32,
-) -> Result<bool, Flawed>
-    ensures { Says (λ b. b) result (field_value (modules_of declared.now) (kinds_of kinds.now) part field.now) }
+/// That the fields of a data type are of the kinds of values: `NotAType` where they are not.
+fn fields_have_values(alloc: Global, values: bool) -> Result<(), Flawed>
+    ensures { Says (λ _. done) result (need values NotAType (Ok done)) }
 {
-    let k = kind_of_part(alloc, field, declared, kinds, part)?;
-    Ok(is_value_kind(&k))
-}
-
-/// Whether all fields, of which the first is the part of this number, are of the kinds of values; or the first that has no kind.
-#[tactic(auto, using(crate::proofs::Judged::field_rules, std::proofs::lemmas::Grind::common_steps))]
-fn fields_are_values(
-    alloc: Global,
-    fields: &[NTy],
-    declared: &Declarations,
-    kinds: &Kinds,
-    first: u32,
-) -> Result<bool, Flawed>
-    ensures { Says (λ b. b) result (fields_from (modules_of declared.now) (kinds_of kinds.now) first fields.now) }
-{
-    let mut part = first;
-    let mut all = true;
-    for field in fields {
-        let value = field_is_value(alloc, field, declared, kinds, part)?;
-        all = all && value;
-        part = next_part(part)?;
-    }
-    Ok(all)
-}
-
-/// The same of the fields of a constructor that is the part of this number.
-#[tactic(auto, using(crate::proofs::Judged::fields_whole), unfolding(crate::specs::Judging::con_value))]
-fn constructor_has_values(
-    alloc: Global,
-    con: &NConDecl,
-    declared: &Declarations,
-    part: u32,
-) -> Result<bool, Flawed>
-    ensures { Says (λ b. b) result (con_value (modules_of declared.now) part con.now) }
-{
-    let first = part_after(con.binders.len())?;
-    match fields_are_values(alloc, con.fields.as_slice(), declared, &Kinds::End, first) {
-        Ok(values) => Ok(values),
-        Err(flawed) => Err(deeper(flawed, part)),
+    if values {
+        Ok(())
+    } else {
+        Err(flaw_here(alloc, FaultKind::NotAType))
     }
 }
 
-/// The same of constructors, of which the first is the part of this number.
-#[tactic(auto, using(crate::proofs::Judged::con_rules, std::proofs::lemmas::Grind::common_steps))]
-fn constructors_have_values(
+/// The roles of a data type with these constructors.
+fn lint_data_roles(
     alloc: Global,
+    params: &[Param],
     cons: &[NConDecl],
     declared: &Declarations,
-    first: u32,
-) -> Result<bool, Flawed>
-    ensures { Says (λ b. b) result (cons_from (modules_of declared.now) first cons.now) }
+) -> Result<(), Flawed>
+    ensures { Says (λ _. done) result (roles_judged (λ p. need_in_cons (modules_of declared.now) p (ncons_of cons.now)) 0 (nparams_of params.now)) }
 {
-    let mut part = first;
-    let mut all = true;
-    for con in cons {
-        let values = constructor_has_values(alloc, con, declared, part)?;
-        all = all && values;
-        part = next_part(part)?;
-    }
-    Ok(all)
+    let needs = needs_of_constructors(alloc, params.len(), cons, declared)?;
+    lint_roles(alloc, params, &needs)
 }
 
-/// The fields of a type declaration.
-#[tactic(auto, using(crate::proofs::Judged::cons_whole))]
+/// The roles of a newtype of this type.
+fn lint_newtype_roles(
+    alloc: Global,
+    params: &[Param],
+    t: &NTy,
+    declared: &Declarations,
+) -> Result<(), Flawed>
+    ensures { Says (λ _. done) result (roles_judged (λ p. need_in (modules_of declared.now) R p (nty_of t.now)) 0 (nparams_of params.now)) }
+{
+    let needs = needs_of_type(alloc, params.len(), t, declared)?;
+    lint_roles(alloc, params, &needs)
+}
+
+/// A data type: its parameters, its constructors, then `NotAType` where a field is of no kind of values, and then its roles.
+#[tactic(auto, using(crate::proofs::Params::scope_rules))]
+fn lint_data(
+    alloc: Global,
+    params: &[Param],
+    cons: &[NConDecl],
+    declared: &Declarations,
+) -> Result<(), Flawed>
+    ensures { Says (λ _. done) result (type_decl_judged (modules_of declared.now) (NData [] (nparams_of params.now) (ncons_of cons.now))) }
+{
+    let kinds = kinds_of_params(alloc, params)?;
+    let first = lint_variables(alloc, kinds.as_slice())?;
+    let scope = Kinds::Group(kinds.as_slice(), &Kinds::End);
+    let values = lint_constructors(alloc, cons, declared, &scope, first)?;
+    fields_have_values(alloc, values)?;
+    lint_data_roles(alloc, params, cons, declared)
+}
+
+/// A newtype: its parameters, its type, then `NotAType` where this is not of kind `*`, and then its roles.
+#[tactic(auto, using(crate::proofs::Params::scope_rules))]
+fn lint_newtype(
+    alloc: Global,
+    params: &[Param],
+    t: &NTy,
+    declared: &Declarations,
+) -> Result<(), Flawed>
+    ensures { Says (λ _. done) result (type_decl_judged (modules_of declared.now) (NNew [] (nparams_of params.now) (nty_of t.now) [])) }
+{
+    let kinds = kinds_of_params(alloc, params)?;
+    let part = lint_variables(alloc, kinds.as_slice())?;
+    let scope = Kinds::Group(kinds.as_slice(), &Kinds::End);
+    let kind = kind_of_part(alloc, t, declared, &scope, part)?;
+    if !is_star(&kind) {
+        return Err(flaw_here(alloc, FaultKind::NotAType));
+    }
+    lint_newtype_roles(alloc, params, t, declared)
+}
+
+/// A family: its parameters, and then `UnliftedVariable` where the kind of its result has `#`.
+fn lint_family(alloc: Global, params: &[Plain], result_kind: &Kind) -> Result<(), Flawed>
+    ensures { Says (λ _. done) result (and_then (variables_judged 0 (nplains_of params.now)) (λ _. need (kinds.is_lifted (kind_of result_kind.now)) UnliftedVariable (Ok done))) }
+{
+    let kinds = kinds_of_plains(alloc, params)?;
+    lint_variables(alloc, kinds.as_slice())?;
+    if is_lifted(result_kind) {
+        Ok(())
+    } else {
+        Err(flaw_here(alloc, FaultKind::UnliftedVariable))
+    }
+}
+
+/// An axiom: its parameters, its sides, then `FamilyArity` where the left side is no family that is applied in full, and then
+/// `KindsDiffer` where the sides have two kinds.
+#[tactic(auto, using(crate::proofs::Params::scope_rules))]
+fn lint_axiom(
+    alloc: Global,
+    params: &[Plain],
+    left: &NTy,
+    right: &NTy,
+    declared: &Declarations,
+) -> Result<(), Flawed>
+    ensures { Says (λ _. done) result (type_decl_judged (modules_of declared.now) (NAxiom [] (nplains_of params.now) (nty_of left.now) (nty_of right.now))) }
+{
+    let kinds = kinds_of_plains(alloc, params)?;
+    let part = lint_variables(alloc, kinds.as_slice())?;
+    let scope = Kinds::Group(kinds.as_slice(), &Kinds::End);
+    let left_kind = kind_of_part(alloc, left, declared, &scope, part)?;
+    let behind = next_part(part)?;
+    let right_kind = kind_of_part(alloc, right, declared, &scope, behind)?;
+    if !is_family_applied(left, declared) {
+        return Err(flaw_here(alloc, FaultKind::FamilyArity));
+    }
+    if same_kind(&left_kind, &right_kind) {
+        Ok(())
+    } else {
+        Err(flaw_here(alloc, FaultKind::KindsDiffer))
+    }
+}
+
+/// A type declaration.
+#[tactic(auto, using(fc_syntax::proofs::View::view_rules))]
 fn lint_type(alloc: Global, decl: &NDecl, declared: &Declarations) -> Result<(), Flawed>
     ensures { Says (λ _. done) result (type_decl_judged (modules_of declared.now) (ndecl_of decl.now)) }
 {
     match decl {
         NDecl::DataType(_, params, cons) => {
-            let first = part_after(params.len())?;
-            let values = constructors_have_values(alloc, cons.as_slice(), declared, first)?;
-            if values {
-                Ok(())
-            } else {
-                Err(flaw_here(alloc, FaultKind::NotAType))
-            }
+            lint_data(alloc, params.as_slice(), cons.as_slice(), declared)
         }
-        NDecl::NewType(_, _, _, _) => Err(flaw_here(alloc, FaultKind::BadForm)),
-        NDecl::Family(_, _, _) => Err(flaw_here(alloc, FaultKind::BadForm)),
-        NDecl::Axiom(_, _, _, _) => Err(flaw_here(alloc, FaultKind::BadForm)),
+        NDecl::NewType(_, params, t, _) => lint_newtype(alloc, params.as_slice(), t, declared),
+        NDecl::Family(_, params, kind) => lint_family(alloc, params.as_slice(), kind),
+        NDecl::Axiom(_, params, left, right) => {
+            lint_axiom(alloc, params.as_slice(), left, right, declared)
+        }
         NDecl::Def(_, _, _) => Ok(()),
         NDecl::Wrap(_, _, _) => Ok(()),
     }
@@ -121,8 +168,8 @@ fn lint_type_within(alloc: Global, decl: &NDecl, declared: &Declarations) -> Res
     }
 }
 
-/// The type declarations of a module, in their order: the faults of kinds in a field, `NotAType` where a field is not of the kinds
-/// of values, and `BadForm` for newtypes, families and axioms.
+/// The type declarations of a module, in their order: the faults of kinds in a type, `UnliftedVariable`, `KindsDiffer`, `NotAType`,
+/// `RoleTooWeak` and `FamilyArity`, each declaration's parts from left to right before its own premises.
 pub fn lint_types(alloc: Global, decls: &[NDecl], declared: &Declarations) -> Result<(), Flawed>
     ensures { Says (λ _. done) result (type_decls_judged (modules_of declared.now) (ndecls_of decls.now)) }
 {

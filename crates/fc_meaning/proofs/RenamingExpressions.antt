@@ -10,7 +10,7 @@ use Rattle.fc_model.specs.Faulting.{need, under}
 use Rattle.fc_model.specs.Resolution.{Top, Locals, WordSet, Found, IsValue, IsJoin, Nowhere, Value, bind_words, enter, enter_all, enter_joins, enter_values, found_term, join_words}
 use Rattle.fc_model.specs.Resolution.{no_word, no_words, plus, resolved_alt, resolved_alts, resolved_arg, resolved_args, resolved_binds, resolved_expr, resolved_exprs}
 use Rattle.fc_model.specs.Resolution.{resolved_join, resolved_joins, resolved_var, then_alt, then_join, variable, with_term}
-use Rattle.fc_model.proofs.SameDeclarations.{and_then_same, both_same, under_same}
+use Rattle.fc_model.proofs.Parts.{and_then_same, both_same, under_same}
 use Rattle.fc_meaning.specs.Renaming.{IsInjective, Renaming, KeepsUse, KeepsFree, ArgKeepsFree, ArgsKeepFree, ExprsKeepFree, BindsKeepFree, JoinsKeepFree, AltsKeepFree}
 use Rattle.fc_meaning.specs.Renaming.{renamed_alt, renamed_alts, renamed_arg, renamed_args, renamed_binder, renamed_binds, renamed_expr, renamed_exprs, renamed_join, renamed_joins, renamed_use}
 use Rattle.fc_meaning.proofs.RenamingScopes.{Follows, WordsFollow, bind_words_renamed, enter_all_renamed, enter_renamed, found_same, in_joins, in_values, join_words_renamed, plus_follows, renamed_locals}

@@ -10,7 +10,7 @@ use Rattle.fc_model.specs.Nameless.{NAxiom, NData, NFamily, NNew}
 use Rattle.fc_model.specs.Resolution.{Top, Locals, WordSet, Words, behind, distinct_params, enter_all, in_params, no_locals, no_word, no_words}
 use Rattle.fc_model.specs.Resolution.{plus, resolved_con, resolved_cons, resolved_decl, resolved_decls, resolved_or_fault, resolved_ty, resolved_tys}
 use Rattle.fc_model.specs.Resolution.{then_item, top_of}
-use Rattle.fc_model.proofs.SameDeclarations.{both_same, under_same}
+use Rattle.fc_model.proofs.Parts.{both_same, under_same}
 use Rattle.fc_meaning.specs.Renaming.{DeclKeepsFree, DeclsKeepFree, IsInjective, ModuleKeepsFree, Renaming, renamed_binder, renamed_con, renamed_decl, renamed_module, renamed_param, renamed_plain, renamed_ty}
 use Rattle.fc_meaning.proofs.RenamingScopes.{Follows, enter_all_renamed, map-reverse, plus_follows, renamed_locals}
 use Rattle.fc_meaning.proofs.RenamingTypes.{binders_same, ty_same, tys_same}

@@ -6,7 +6,7 @@ use Rattle.fc_syntax.specs.Tree.{Co, GVar, GRefl, GSym, GTrans, GTc, GCapp, GFun
 use Rattle.fc_syntax.specs.Tree.{Binder, BValue, BType, BCo}
 use Rattle.fc_model.specs.Faulting.{need, under}
 use Rattle.fc_model.specs.Resolution.{Top, Locals, Words, enter, is_new, local_co, local_type, resolved_binder, resolved_binders, resolved_co, resolved_cos, resolved_ty, resolved_tys, then_item, with_binder, with_type}
-use Rattle.fc_model.proofs.SameDeclarations.{both_same}
+use Rattle.fc_model.proofs.Parts.{both_same}
 use Rattle.fc_meaning.specs.Renaming.{IsInjective, Renaming, renamed_binder, renamed_co, renamed_cos, renamed_ty}
 use Rattle.fc_meaning.proofs.RenamingScopes.{WordsFollow, binder_follows, enter_renamed, index_same, new_same, renamed_locals}
 

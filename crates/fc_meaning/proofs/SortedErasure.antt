@@ -10,17 +10,17 @@ use Rattle.fc_syntax.specs.Tree.{Word, Module, ModuleOf}
 use Rattle.fc_model.specs.Supported.{IsSupported}
 use Rattle.fc_model.specs.Formed.{IsFormed, is_decl_formed, is_word}
 use Rattle.fc_model.specs.Erasure.{Scope, arg_sorts, below_all, below_value, binder_sorts, erased, erased_alts, erased_args, no_scope, sort_of, sort_of_type}
-use Rattle.fc_model.specs.Faulting.{within, and_then}
-use Rattle.fc_model.specs.Kinding.{decls_at}
+use Rattle.fc_model.specs.Faulting.{at_distance, within, and_then}
+use Rattle.fc_model.specs.Kinding.{Modules, decls_at}
 use Rattle.fc_model.specs.Linting.{Done, Lints, done, def_types_judged, exports_judged, lint_or_fault, right_side_judged, rights_judged, type_decls_judged}
 use Rattle.fc_model.specs.Nameless.{NTy, NBinder, NExpr, NArgs, NAlts, NDecl, NData, NNew, NFamily, NAxiom, NDef, NWrap, NModule, NModuleOf}
 use Rattle.fc_model.specs.Programs.{program_of, right_side}
 use Rattle.fc_model.specs.Resolution.{no_words, resolved_decls, top_of}
 use Rattle.fc_model.specs.ResolutionRules.{Resolves}
 use Rattle.fc_model.specs.Terms.{Sort, Lifted, Unlifted, Term, Var, IsSorted, AreSorted, AltsAreSorted, IsAtom, HasSorts, enters, head_sorts, sort_at, upr}
-use Rattle.fc_model.specs.Typing.{Context, TypedArg, Before, binder_types, local_value, no_context, type_or_fault, with_binders, with_value}
+use Rattle.fc_model.specs.Typing.{Context, TypedArg, Before, binder_types, no_context, type_or_fault, with_binders, with_value}
 use Rattle.fc_model.specs.Typing.{BindersAreKinded, no_binders, value_binder, AltsFit, no_alts, default_alt, literal_alt, con_alt}
-use Rattle.fc_model.specs.Typing.{HasType, typed_local, typed_declared, typed_literal, typed_application, typed_lambda, typed_let, typed_case, typed_con, ArgsAreGiven, no_args, one_arg, no_binds, one_bind}
+use Rattle.fc_model.specs.Typing.{HasType, typed_local, typed_declared, typed_literal, typed_application, typed_lambda, typed_let, typed_case, typed_fail, typed_con, ArgsAreGiven, no_args, one_arg, no_binds, one_bind}
 use Rattle.fc_model.proofs.Parts.{and_then_inv, err_ok, ok_ok, part}
 use Rattle.fc_model.proofs.Resolved.{within_inv}
 use Rattle.fc_model.proofs.ResolvedModulesAre.{module_is_resolved}
@@ -34,7 +34,7 @@ use Rattle.fc_meaning.proofs.Optional.{found_has, some_is, none_some}
 
 -- each variable has a binder of the sort of its type among those in scope
 abbrev Fits : Context → Scope → List Sort → Type 0
-Fits c s g = (i : ℕ) (t : NTy) → local_value c.values i ≡ Ok t → (s.sorts i ≡ sort_of_type t) × (sort_at g (s.values i) ≡ Some (sort_of_type t))
+Fits c s g = (i : ℕ) (t : NTy) → at_distance c.values i ≡ Ok t → (s.sorts i ≡ sort_of_type t) × (sort_at g (s.values i) ≡ Some (sort_of_type t))
 
 agrees : (c : Context) (s : Scope) (g : List Sort) → Fits c s g → Agrees c s
 agrees c s g fits i t p = (fits i t p).0
@@ -52,7 +52,7 @@ last_innermost : (t : NTy) (ts outer : List NTy) → reverse (t ∷ ts) ++ outer
 last_innermost t ts outer = ap (λ us. us ++ outer) (reverse-append (t ∷ []) ts) ∙ append_assoc (reverse ts) (t ∷ []) outer
 
 -- below the binders of an alternative
-fits_binders : {ms : List NModule} {k : Context} {bs : List NBinder} → BindersAreKinded ms k bs → (c : Context) (s : Scope) (g : List Sort) → Fits c s g
+fits_binders : {ms : Modules} {k : Context} {bs : List NBinder} → BindersAreKinded ms k bs → (c : Context) (s : Scope) (g : List Sort) → Fits c s g
     → Fits (with_binders bs c) (below_all bs s) (enters (binder_sorts bs) g)
 unfolding enters
 fits_binders no_binders c s g fits = fits
@@ -67,7 +67,7 @@ variable_is_atom g Lifted n h = tt
 variable_is_atom g Unlifted n h = h
 
 -- what has a type is an atom where its sort is unlifted
-is_placed : {ms : List NModule} {c : Context} {e : NExpr} {t : NTy} (s : Scope) (g : List Sort) → Fits c s g → HasType ms c e t → IsAtom g (sort_of s e) (erased s e)
+is_placed : {ms : Modules} {c : Context} {e : NExpr} {t : NTy} (s : Scope) (g : List Sort) → Fits c s g → HasType ms c e t → IsAtom g (sort_of s e) (erased s e)
 is_placed s g fits (typed_local {i = i} {t = t} p) =
     let q = fits i t p in variable_is_atom g (s.sorts i) (s.values i) (q.1 ∙ ap (λ o. Some o) (sym q.0))
 is_placed s g fits (typed_declared p) = tt
@@ -76,13 +76,14 @@ is_placed s g fits (typed_application t f a atom) = tt
 is_placed s g fits (typed_lambda k t v e) = tt
 is_placed s g fits (typed_let bs e) = tt
 is_placed s g fits (typed_case j k e t r alts v) = tt
-is_placed s g fits (typed_con k gs is args l t a) = tt
+is_placed s g fits (typed_fail k t v) = tt
+is_placed s g fits (typed_con k gs is plain args l t a) = tt
 
 module _ (m : NModule) (lint : lint_or_fault m ≡ Ok done) where
   mutual
     unfolding enters head_sorts
 
-    expr_sorted : {c : Context} {e : NExpr} {t : NTy} (s : Scope) (g : List Sort) → Fits c s g → HasType (m ∷ []) c e t → IsSupportedExpr e → IsSorted g (erased s e)
+    expr_sorted : {c : Context} {e : NExpr} {t : NTy} (s : Scope) (g : List Sort) → Fits c s g → HasType (decls_at (m ∷ [])) c e t → IsSupportedExpr e → IsSorted g (erased s e)
     expr_sorted s g fits (typed_local {i = i} {t = t} p) b = (sort_of_type t, (fits i t p).1)
     expr_sorted s g fits (typed_declared p) b = tt
     expr_sorted s g fits typed_literal b = b
@@ -97,15 +98,16 @@ module _ (m : NModule) (lint : lint_or_fault m ≡ Ok done) where
     expr_sorted s g fits (typed_let {r = true} bs e) b = absurd b
     expr_sorted {c = c} s g fits (typed_case {s = xt} j k e t r alts v) b =
         (expr_sorted s g fits e b.0, alts_sorted (below_value (sort_of_type xt) s) (sort_of_type xt ∷ g) (fits_below c s g xt fits) alts b.1)
-    expr_sorted s g fits (typed_con k gs is args l t a) b = args_sorted s g fits args b
+    expr_sorted s g fits (typed_fail k t v) b = tt
+    expr_sorted s g fits (typed_con k gs is plain args l t a) b = args_sorted s g fits args b
 
-    args_sorted : {c : Context} {args : NArgs} {gs : List TypedArg} (s : Scope) (g : List Sort) → Fits c s g → ArgsAreGiven (m ∷ []) c args gs → AreSupportedArgs args
+    args_sorted : {c : Context} {args : NArgs} {gs : List TypedArg} (s : Scope) (g : List Sort) → Fits c s g → ArgsAreGiven (decls_at (m ∷ [])) c args gs → AreSupportedArgs args
         → AreSorted g (erased_args s args) × HasSorts g (arg_sorts s args) (erased_args s args)
     args_sorted s g fits no_args b = (tt, tt)
     args_sorted s g fits (one_arg a rest) b =
         let others = args_sorted s g fits rest b.1 in ((expr_sorted s g fits a b.0, others.0), (is_placed s g fits a, others.1))
 
-    alts_sorted : {c : Context} {t rt : NTy} {b : Before} {alts : NAlts} (s : Scope) (g : List Sort) → Fits c s g → AltsFit (m ∷ []) c t rt b alts → AreSupportedAlts alts
+    alts_sorted : {c : Context} {t rt : NTy} {b : Before} {alts : NAlts} (s : Scope) (g : List Sort) → Fits c s g → AltsFit (decls_at (m ∷ [])) c t rt b alts → AreSupportedAlts alts
         → AltsAreSorted g (erased_alts s alts)
     alts_sorted s g fits no_alts b = tt
     alts_sorted {c = c} s g fits (default_alt {bs = bs} {e = e} kinded typed goes rest) b =
@@ -114,7 +116,7 @@ module _ (m : NModule) (lint : lint_or_fault m ≡ Ok done) where
     alts_sorted {c = c} s g fits (literal_alt {bs = bs} {e = e} kinded typed int goes rest) b =
         let body = expr_sorted (below_all bs s) (enters (binder_sorts bs) g) (fits_binders kinded c s g fits) typed b.1 in
         (subst (λ x. IsSorted (enters x g) (erased (below_all bs s) e)) (ap binder_sorts b.0) body, alts_sorted s g fits rest b.2)
-    alts_sorted {c = c} s g fits (con_alt {bs = bs} k kinded typed is data_type goes takes rest) b =
+    alts_sorted {c = c} s g fits (con_alt {bs = bs} k kinded typed is plain data_type goes takes rest) b =
         (expr_sorted (below_all bs s) (enters (binder_sorts bs) g) (fits_binders kinded c s g fits) typed b.1, alts_sorted s g fits rest b.2)
 
 -- DEFINITIONS
@@ -133,23 +135,23 @@ AreDefsSorted [] = Unit {0}
 AreDefsSorted (d ∷ ds) = IsDefSorted d × AreDefsSorted ds
 
 module _ (m : NModule) (lint : lint_or_fault m ≡ Ok done) where
-  right_sorted : (t : NTy) (e : NExpr) → right_side_judged (m ∷ []) t e ≡ Ok done → IsSupportedExpr e → IsSorted [] (erased no_scope e)
+  right_sorted : (t : NTy) (e : NExpr) → right_side_judged (decls_at (m ∷ [])) t e ≡ Ok done → IsSupportedExpr e → IsSorted [] (erased no_scope e)
   right_sorted t e h b =
-      let p = part 1 (type_or_fault (m ∷ []) no_context e) _ done h in
-      expr_sorted m lint no_scope [] fits_closed (given_type_is (m ∷ []) no_context e p.0 p.1) b
+      let p = part 1 (type_or_fault (decls_at (m ∷ [])) no_context e) _ done h in
+      expr_sorted m lint no_scope [] fits_closed (given_type_is (decls_at (m ∷ [])) no_context e p.0 p.1) b
 
   -- nothing but that there is no fault
   done_is : (d : Done) → d ≡ done
   done_is done = refl
 
-  definition_sorted : (n : Word) (t : NTy) (e : NExpr) (ds : List NDecl) → and_then (within n (right_side_judged (m ∷ []) t e)) (λ _. rights_judged (m ∷ []) ds) ≡ Ok done → IsSupportedExpr e
-      → IsSorted [] (erased no_scope e) × (rights_judged (m ∷ []) ds ≡ Ok done)
+  definition_sorted : (n : Word) (t : NTy) (e : NExpr) (ds : List NDecl) → and_then (within n (right_side_judged (decls_at (m ∷ [])) t e)) (λ _. rights_judged (decls_at (m ∷ [])) ds) ≡ Ok done → IsSupportedExpr e
+      → IsSorted [] (erased no_scope e) × (rights_judged (decls_at (m ∷ [])) ds ≡ Ok done)
   definition_sorted n t e ds h b =
-      let p = and_then_inv (within n (right_side_judged (m ∷ []) t e)) _ done h in
-      let q = within_inv n (right_side_judged (m ∷ []) t e) p.0 p.1 in
+      let p = and_then_inv (within n (right_side_judged (decls_at (m ∷ [])) t e)) _ done h in
+      let q = within_inv n (right_side_judged (decls_at (m ∷ [])) t e) p.0 p.1 in
       (right_sorted t e (q ∙ ap (λ d. Ok d) (done_is p.0)) b, p.2)
 
-  defs_sorted : (ds : List NDecl) → AreSupportedDecls ds → rights_judged (m ∷ []) ds ≡ Ok done → AreDefsSorted ds
+  defs_sorted : (ds : List NDecl) → AreSupportedDecls ds → rights_judged (decls_at (m ∷ [])) ds ≡ Ok done → AreDefsSorted ds
   defs_sorted [] b h = tt
   defs_sorted (NData n ps cs ∷ ds) b h = (tt, defs_sorted ds b.1 h)
   defs_sorted (NNew n ps t con ∷ ds) b h = (tt, defs_sorted ds b.1 h)
@@ -160,12 +162,12 @@ module _ (m : NModule) (lint : lint_or_fault m ≡ Ok done) where
 
 -- the right sides of a module that lints have their types
 rights_hold : (own : Word) (imports exports hidden : List Word) (ds : List NDecl) → lint_or_fault (NModuleOf own imports exports hidden ds) ≡ Ok done
-    → rights_judged (NModuleOf own imports exports hidden ds ∷ []) ds ≡ Ok done
+    → rights_judged (decls_at (NModuleOf own imports exports hidden ds ∷ [])) ds ≡ Ok done
 rights_hold own imports exports hidden ds lint =
     let m = NModuleOf own imports exports hidden ds in
     let p = and_then_inv (exports_judged m) _ done lint in
-    let q = and_then_inv (type_decls_judged (m ∷ []) ds) _ done p.2 in
-    let r = and_then_inv (def_types_judged (m ∷ []) ds) _ done q.2 in
+    let q = and_then_inv (type_decls_judged (decls_at (m ∷ [])) ds) _ done p.2 in
+    let r = and_then_inv (def_types_judged (decls_at (m ∷ [])) ds) _ done q.2 in
     r.2
 
 -- what is defined is the right side of a definition

@@ -2,21 +2,20 @@
 use Rattle.std.proofs.Common.{◌≡◌, ℕ, ◌+◌, true, false, not, ◌&&◌, List, [], ◌∷◌, map, length, Option, Some, None, Result, Ok, Err, refl, sym, subst}
 use Rattle.std.proofs.lemmas.Bool.{and_parts}
 use Rattle.std.specs.List.{list_all}
-use Rattle.fc_syntax.specs.Hints.{param_hint}
+use Rattle.fc_syntax.specs.Hints.{param_hint, plain_hint}
 use Rattle.fc_syntax.specs.declared.fault.FaultKind.TheVariants.{Duplicate}
 use Rattle.fc_syntax.specs.declared.expr.Head.{Head}
 use Rattle.fc_syntax.specs.declared.expr.Head.TheVariants as head
-use Rattle.fc_syntax.specs.Tree.{Word, Expr, EVar, ELit, EApp, ELam, ELet, ECase, ECon, ATerm, AType, ACo, Args, NoArgs, MoreArgs, Binder, BValue, Bound, Binds, NoBinds, MoreBinds}
-use Rattle.fc_syntax.specs.Tree.{Branch, Alts, NoAlts, MoreAlts, Decl, DData, DDef}
+use Rattle.fc_syntax.specs.Tree.{Word, Ty, Expr, EVar, ELit, EApp, ELam, ELet, ECase, ECon, EFail, ATerm, AType, ACo, Args, NoArgs, MoreArgs, Binder, BValue, Bound, Binds, NoBinds, MoreBinds}
+use Rattle.fc_syntax.specs.Tree.{Branch, Alts, NoAlts, MoreAlts, Decl, DData, DNew, DFamily, DAxiom, DDef, DWrap}
 use Rattle.fc_model.specs.Supported.{are_alts_supported, is_alt_supported, is_head_supported}
 use Rattle.fc_model.specs.Formed.{is_empty_list, are_alts_formed, is_alt_formed, is_bind_group, is_head_formed, is_upper_formed}
 use Rattle.fc_model.specs.Supported.{are_args_supported, is_bind_supported, is_decl_supported, is_expr_supported}
 use Rattle.fc_model.specs.Formed.{are_args_formed, are_binds_formed, is_decl_formed, is_expr_formed}
-use Rattle.fc_model.specs.Supported.{is_type_supported}
 use Rattle.fc_model.specs.Formed.{is_lower_word, is_type_formed, is_upper_formed}
 use Rattle.fc_model.specs.Declaring.{decl_word}
-use Rattle.fc_model.specs.Faulting.{F, need, within}
-use Rattle.fc_model.specs.Nameless.{NExpr, NLocal, NVar, NLit, NApp, NLam, NLet, NCase, NCon, NATerm, NBinder, NBValue, NBound, NArgs, NoNArgs, MoreNArgs, NBinds, NoNBinds, MoreNBinds}
+use Rattle.fc_model.specs.Faulting.{F, need, under, within, and_then}
+use Rattle.fc_model.specs.Nameless.{NTy, NExpr, NLocal, NVar, NLit, NApp, NLam, NLet, NCase, NCon, NFail, NATerm, NBinder, NBValue, NBound, NArgs, NoNArgs, MoreNArgs, NBinds, NoNBinds, MoreNBinds}
 use Rattle.fc_model.specs.Nameless.{NAlt, NBranch, NAlts, NoNAlts, MoreNAlts, NDecl, NData, NNew, NFamily, NAxiom, NDef, NWrap}
 use Rattle.fc_model.specs.Resolution.{Value, enter_all, no_words, resolved_alt, resolved_alts, resolved_binders, resolved_head, then_alt, with_term}
 use Rattle.fc_model.specs.Resolution.{Top, Locals, Words, Found, IsValue, IsJoin, Nowhere, behind, bind_words, declared_name, distinct_params, enter, enter_values, found_term, in_params}
@@ -45,6 +44,7 @@ abbrev mutual
   IsSupportedExpr (NLet false bs e) = IsSupportedBind bs × IsSupportedExpr e
   IsSupportedExpr (NCase e xt rt alts) = IsSupportedExpr e × AreSupportedAlts alts
   IsSupportedExpr (NCon n args) = AreSupportedArgs args
+  IsSupportedExpr (NFail t) = Unit {0}
   IsSupportedExpr e = ⊥
 
   pub AreSupportedArgs : NArgs → Type 0
@@ -116,11 +116,10 @@ module _ (top : Top) where
     expr_supported s (EApp e (ACo g)) u f b h = let y = and_parts (is_expr_supported e) false b in false_true y.1
     expr_supported s (ELam (BValue w t) e) u f b h =
         let x = and_parts (is_lower_word w && is_type_formed t) (is_expr_formed e) f in
-        let y = and_parts (is_type_supported t) (is_expr_supported e) b in
         let p = part 0 (resolved_binder top s (BValue w t)) _ u h in
         let q = part 0 (resolved_ty top s.types t) _ p.0 p.1 in
         let r = part 1 (resolved_expr top (enter (BValue w t) s) e) _ u p.2 in
-        let body = expr_supported (enter (BValue w t) s) e r.0 x.1 y.1 r.1 in
+        let body = expr_supported (enter (BValue w t) s) e r.0 x.1 b r.1 in
         subst IsSupportedExpr (ok_ok r.2) (subst (λ z. IsSupportedExpr (NLam z r.0)) (ok_ok q.2) body)
     expr_supported s (ELet false bs e) u f b h =
         let x = and_parts (are_binds_formed bs) (is_expr_formed e) (and_parts (is_bind_group false bs) (are_binds_formed bs && is_expr_formed e) f).1 in
@@ -133,19 +132,19 @@ module _ (top : Top) where
     expr_supported s (ECase e w t v alts) u f b h =
         let x = and_parts (is_expr_formed e) ((is_lower_word w && (is_type_formed t && is_type_formed v)) && are_alts_formed alts) f in
         let x' = and_parts (is_lower_word w && (is_type_formed t && is_type_formed v)) (are_alts_formed alts) x.1 in
-        let y = and_parts (is_expr_supported e) ((is_type_supported t && is_type_supported v) && are_alts_supported alts) b in
-        let y' = and_parts (is_type_supported t && is_type_supported v) (are_alts_supported alts) y.1 in
+        let y = and_parts (is_expr_supported e) (are_alts_supported alts) b in
         let p = part 0 (resolved_expr top s e) _ u h in
         let q = part 1 (resolved_ty top s.types t) _ u p.2 in
         let r = part 2 (resolved_ty top s.types v) _ u q.2 in
         let z = and_then_inv (resolved_alts top (with_term (Value w) s) 3 alts) _ u r.2 in
         let scrutinee = expr_supported s e p.0 x.0 y.0 p.1 in
-        subst IsSupportedExpr (ok_ok z.2) (scrutinee, alts_supported (with_term (Value w) s) 3 alts z.0 x'.1 y'.1 z.1)
+        subst IsSupportedExpr (ok_ok z.2) (scrutinee, alts_supported (with_term (Value w) s) 3 alts z.0 x'.1 y.1 z.1)
     expr_supported s (ECon n args) u f b h =
         let x = and_parts (is_upper_formed n) (are_args_formed args) f in
         let p = and_then_inv (declared_name top top.terms n.module n.text) _ u h in
         let q = and_then_inv (resolved_args top s 0 args) _ u p.2 in
         subst IsSupportedExpr (ok_ok q.2) (args_supported s 0 args q.0 x.1 b q.1)
+    expr_supported s (EFail t) u f b h = let p = part 0 (resolved_ty top s.types t) _ u h in subst IsSupportedExpr (ok_ok p.2) tt
     expr_supported s e u f b h = false_true b
 
     args_supported : (s : Locals) (i : ℕ) (args : Args) (us : NArgs) → are_args_formed args ≡ true → are_args_supported args ≡ true → resolved_args top s i args ≡ Ok us → AreSupportedArgs us
@@ -166,11 +165,10 @@ module _ (top : Top) where
         let x = and_parts (is_lower_word w && (is_type_formed t && is_expr_formed d)) true f in
         let x' = and_parts (is_lower_word w) (is_type_formed t && is_expr_formed d) x.0 in
         let right = and_parts (is_type_formed t) (is_expr_formed d) x'.1 in
-        let y = and_parts (is_type_supported t) (is_expr_supported d) b in
         let p = part 0 (need (not (no_word w)) Duplicate (resolved_bind top s (Bound w t d))) _ us h in
         let q = part 0 (resolved_ty top s.types t) _ p.0 p.1 in
         let r = part 1 (resolved_expr top s d) _ p.0 q.2 in
-        let right_side = expr_supported s d r.0 right.1 y.1 r.1 in
+        let right_side = expr_supported s d r.0 right.1 b r.1 in
         subst IsSupportedBind (ok_ok p.2) (subst (λ z. IsSupportedBind (MoreNBinds z NoNBinds)) (ok_ok r.2) right_side)
     bind_supported s bs us f b h = false_true b
 
@@ -191,21 +189,43 @@ module _ (top : Top) where
         let others = alts_supported s (i + 1) rest q.0 x.1 y.1 q.1 in
         subst AreSupportedAlts q.2 (subst (λ a. AreSupportedAlts (MoreNAlts a q.0)) (ok_ok z.2) (own, body, others))
 
+  -- a definition or a wrap, by what is made of its type and its right side
+  right_supported : (ws : Words) (n : Word) (t : Ty) (e : Expr) (make : NTy → NExpr → NDecl) (u : NDecl)
+      → is_lower_word n && (is_type_formed t && is_expr_formed e) ≡ true → is_expr_supported e ≡ true
+      → need (not (ws.terms n)) Duplicate (and_then (under 0 (resolved_ty top [] t)) (λ a. and_then (under 1 (resolved_expr top no_locals e)) (λ x. Ok (make a x)))) ≡ Ok u
+      → (a : NTy) × (x : NExpr) × IsSupportedExpr x × (make a x ≡ u)
+  right_supported ws n t e make u f b h =
+      let x = and_parts (is_lower_word n) (is_type_formed t && is_expr_formed e) f in
+      let right = and_parts (is_type_formed t) (is_expr_formed e) x.1 in
+      let p = need_inv (not (ws.terms n)) _ _ u h in
+      let q = part 0 (resolved_ty top [] t) _ u p.1 in
+      let r = part 1 (resolved_expr top no_locals e) _ u q.2 in
+      (q.0, r.0, expr_supported no_locals e r.0 right.1 b r.1, ok_ok r.2)
+
   decl_supported : (ws : Words) (d : Decl) (u : NDecl) → is_decl_formed d ≡ true → is_decl_supported d ≡ true → resolved_decl top ws d ≡ Ok u → IsSupportedDecl u
   decl_supported ws (DData n ps cs) u f b h =
       let p = need_inv (not (ws.types n)) _ _ u h in
       let q = and_then_inv (distinct_params no_word 0 (map param_hint ps)) _ u p.1 in
       let r = and_then_inv (resolved_cons top (in_params (map param_hint ps)) ws.terms q.0 cs) _ u q.2 in
       subst IsSupportedDecl (ok_ok r.2) tt
-  decl_supported ws (DDef n t e) u f b h =
-      let x = and_parts (is_lower_word n) (is_type_formed t && is_expr_formed e) f in
-      let right = and_parts (is_type_formed t) (is_expr_formed e) x.1 in
-      let y = and_parts (is_type_supported t) (is_expr_supported e) b in
-      let p = need_inv (not (ws.terms n)) _ _ u h in
-      let q = part 0 (resolved_ty top [] t) _ u p.1 in
-      let r = part 1 (resolved_expr top no_locals e) _ u q.2 in
-      subst IsSupportedDecl (ok_ok r.2) (expr_supported no_locals e r.0 right.1 y.1 r.1)
-  decl_supported ws d u f b h = false_true b
+  decl_supported ws (DNew n ps t con) u f b h =
+      let p = need_inv (not (ws.types n)) _ _ u h in
+      let q = and_then_inv (distinct_params no_word 0 (map param_hint ps)) _ u p.1 in
+      let r = part q.0 (resolved_ty top (in_params (map param_hint ps)).types t) _ u q.2 in
+      let v = need_inv (not (ws.coercions con)) _ _ u r.2 in
+      subst IsSupportedDecl (ok_ok v.1) tt
+  decl_supported ws (DFamily n ps k) u f b h =
+      let p = need_inv (not (ws.types n)) _ _ u h in
+      let q = and_then_inv (distinct_params no_word 0 (map plain_hint ps)) _ u p.1 in
+      subst IsSupportedDecl (ok_ok q.2) tt
+  decl_supported ws (DAxiom n ps t v) u f b h =
+      let p = need_inv (not (ws.coercions n)) _ _ u h in
+      let q = and_then_inv (distinct_params no_word 0 (map plain_hint ps)) _ u p.1 in
+      let r = part q.0 (resolved_ty top (in_params (map plain_hint ps)).types t) _ u q.2 in
+      let w = part (q.0 + 1) (resolved_ty top (in_params (map plain_hint ps)).types v) _ u r.2 in
+      subst IsSupportedDecl (ok_ok w.2) tt
+  decl_supported ws (DDef n t e) u f b h = let r = right_supported ws n t e (λ a x. NDef n a x) u f b h in subst IsSupportedDecl r.3 r.2
+  decl_supported ws (DWrap n t e) u f b h = let r = right_supported ws n t e (λ a x. NWrap n a x) u f b h in subst IsSupportedDecl r.3 r.2
 
   pub decls_supported : (ws : Words) (ds : List Decl) (us : List NDecl) → list_all is_decl_formed ds ≡ true → list_all is_decl_supported ds ≡ true → resolved_decls top ws ds ≡ Ok us
       → AreSupportedDecls us

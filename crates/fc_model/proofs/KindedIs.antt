@@ -2,9 +2,9 @@
 use Rattle.std.proofs.Common.{◌≡◌, ◌↔◌, ℕ, suc, true, ◌&&◌, List, ◌∷◌, Ok, refl, sym, ap, ◌∙◌, subst}
 use Rattle.std.proofs.lemmas.Bool.{and_parts}
 use Rattle.fc_syntax.specs.Tree.{Kind, KStar, KHash, KArrow}
-use Rattle.fc_model.specs.Kinding.{HasHeadKind, kind_variable, kind_declared, kind_int, kind_application, kind_function, kind_forall, kind_coforall}
+use Rattle.fc_model.specs.Kinding.{Modules, HasHeadKind, kind_variable, kind_declared, kind_int, kind_application, kind_function, kind_forall, kind_coforall}
 use Rattle.fc_model.specs.Kinding.{applied_kind, head_kind_or_fault, is_lifted, is_star, is_value_kind, same_kind}
-use Rattle.fc_model.specs.Nameless.{NModule, NTy, NTVar, NTCon, NTInt, NTApp, NTFun, NTForall, NTCoForall}
+use Rattle.fc_model.specs.Nameless.{NTy, NTVar, NTCon, NTInt, NTApp, NTFun, NTForall, NTCoForall}
 use Rattle.fc_model.proofs.Parts.{err_ok, ok_ok, need_inv, part}
 use Rattle.fc_model.proofs.Sameness.{false_true, same_kind_eq, same_kind_refl}
 
@@ -21,7 +21,7 @@ is_star_inv KStar h = refl
 is_star_inv KHash h = false_true h
 is_star_inv (KArrow a b) h = false_true h
 
-module _ (ms : List NModule) where
+module _ (ms : Modules) where
   -- what has a kind by cases is given it
   pub kind_is_given : {ks : List Kind} {args : ℕ} {t : NTy} {k : Kind} → HasHeadKind ms ks args t k → head_kind_or_fault ms ks args t ≡ Ok k
   kind_is_given (kind_variable p) = p

@@ -4,16 +4,16 @@ use Rattle.fc_syntax.specs.declared.ty.Name.{Name}
 use Rattle.fc_syntax.specs.declared.expr.Head.{Head}
 use Rattle.fc_syntax.specs.declared.expr.Head.TheVariants as head
 use Rattle.fc_model.specs.Faulting.{F, under}
-use Rattle.fc_model.specs.Kinding.{is_value_kind, kind_or_fault, same_type}
-use Rattle.fc_model.specs.Nameless.{NTy, NTCon, NTFun, NBinder, NBValue, NBType, NBCo, NModule}
+use Rattle.fc_model.specs.Kinding.{Modules, is_value_kind, kind_or_fault, same_type}
+use Rattle.fc_model.specs.Nameless.{NTy, NTCon, NTFun, NBinder, NBValue, NBType, NBCo}
 use Rattle.fc_model.specs.Nameless.{NExpr, NLocal, NVar, NLit, NApp, NLam, NLet, NCase, NCast, NCon, NPrim, NFail, NJoin, NJump}
 use Rattle.fc_model.specs.Nameless.{NATerm, NAType, NACo, NBound, NBranch, NArgs, NoNArgs, MoreNArgs, NBinds, NoNBinds, MoreNBinds, NAlts, NoNAlts, MoreNAlts}
 use Rattle.fc_model.specs.Typing.{Context, Constructor, TypedArg, Before, Start, AfterCon}
 use Rattle.fc_model.specs.Typing.{type_or_fault, args_given, bind_judged, binds_judged, alt_judged, alts_judged, binders_judged}
-use Rattle.fc_model.specs.Typing.{applied, atom_fits, unlifted_arguments_are_atoms, binders_fit, con_fields, constructor_in_order, con_number, constructed, constructor, data_name, default_in_order, head_goes, is_atom, is_con_of, is_int}
+use Rattle.fc_model.specs.Typing.{applied, atom_fits, unlifted_arguments_are_atoms, binders_fit, con_fields, constructor_in_order, con_number, constructed, constructor, data_name, default_in_order, head_goes, is_atom, is_con_of, is_con_plain, is_int, is_plain}
 use Rattle.fc_model.specs.Typing.{literal_in_order, is_saturated, then_given, argument_types_match, with_binders, with_binds, with_value}
 use Rattle.fc_model.specs.Typing.{BindersAreKinded, no_binders, value_binder}
-use Rattle.fc_model.specs.Typing.{HasType, typed_local, typed_declared, typed_literal, typed_application, typed_lambda, typed_let, typed_case, typed_con}
+use Rattle.fc_model.specs.Typing.{HasType, typed_local, typed_declared, typed_literal, typed_application, typed_lambda, typed_let, typed_case, typed_fail, typed_con}
 use Rattle.fc_model.specs.Typing.{ArgsAreGiven, no_args, one_arg, BindsHaveTypes, no_binds, one_bind, AltsFit, no_alts, default_alt, literal_alt, con_alt}
 use Rattle.fc_model.proofs.KindedIs.{given_kind_is, kind_is_given}
 use Rattle.fc_model.proofs.Parts.{and_then_inv, err_ok, need_inv, ok_ok, part, under_inv}
@@ -32,14 +32,15 @@ applied_inv f u atom t h = err_ok h
 
 -- what is constructed is of a constructor that the terms fit
 pub constructed_inv : (n : Name) (o : Option Constructor) (gs : List TypedArg) (t : NTy) → constructed n o gs ≡ Ok t
-    → (k : Constructor) × (o ≡ Some k) × (is_saturated k.fields gs ≡ true) × (argument_types_match k.fields gs ≡ true) × (unlifted_arguments_are_atoms k.fields gs ≡ true)
+    → (k : Constructor) × (o ≡ Some k) × (is_plain k ≡ true) × (is_saturated k.fields gs ≡ true) × (argument_types_match k.fields gs ≡ true) × (unlifted_arguments_are_atoms k.fields gs ≡ true)
     × (NTCon (data_name n k.data_word) ≡ t)
 constructed_inv n None gs t h = err_ok h
 constructed_inv n (Some k) gs t h =
-    let p = need_inv (is_saturated k.fields gs) _ _ t h in
+    let o = need_inv (is_plain k) _ _ t h in
+    let p = need_inv (is_saturated k.fields gs) _ _ t o.1 in
     let q = need_inv (argument_types_match k.fields gs) _ _ t p.1 in
     let u = need_inv (unlifted_arguments_are_atoms k.fields gs) _ _ t q.1 in
-    (k, refl, p.0, q.0, u.0, ok_ok u.1)
+    (k, refl, o.0, p.0, q.0, u.0, ok_ok u.1)
 
 -- a term with this type, and whether it is an atom
 abbrev pub given_of : NTy → Bool → TypedArg
@@ -54,7 +55,7 @@ pub is_con_of_inv : (s : NTy) (n : Name) (o : Option Constructor) → is_con_of 
 is_con_of_inv s n None h = false_true h
 is_con_of_inv s n (Some k) h = (k, refl, same_type_eq s (NTCon (data_name n k.data_word)) h)
 
-module _ (ms : List NModule) where
+module _ (ms : Modules) where
   -- BINDERS
 
   pub binders_are_judged : {c : Context} {bs : List NBinder} (i : ℕ) → BindersAreKinded ms c bs → (n : ℕ) × (binders_judged ms c i bs ≡ Ok n)
@@ -81,15 +82,17 @@ module _ (ms : List NModule) where
 
   -- a head with a constructor that goes: the constructor, and what it fits
   pub con_head_inv : (s : NTy) (n : Name) (b : Before) (bs : List NBinder) (next : Before) → head_goes ms s b (head.Con n) bs ≡ Ok next
-      → (k : Constructor) × (constructor ms n ≡ Some k) × (s ≡ NTCon (data_name n k.data_word)) × (constructor_in_order b k.number ≡ true) × (binders_fit k.fields bs ≡ true)
+      → (k : Constructor) × (constructor ms n ≡ Some k) × (is_plain k ≡ true) × (s ≡ NTCon (data_name n k.data_word)) × (constructor_in_order b k.number ≡ true) × (binders_fit k.fields bs ≡ true)
       × (AfterCon k.number ≡ next)
   con_head_inv s n b bs next h =
-      let p = need_inv (is_con_of s n (constructor ms n)) _ _ next h in
+      let o = need_inv (is_con_plain (constructor ms n)) _ _ next h in
+      let p = need_inv (is_con_of s n (constructor ms n)) _ _ next o.1 in
       let q = is_con_of_inv s n (constructor ms n) p.0 in
       let u = need_inv (constructor_in_order b (con_number (constructor ms n))) _ _ next p.1 in
       let v = need_inv (binders_fit (con_fields (constructor ms n)) bs) _ _ next u.1 in (
         q.0,
         q.1,
+        subst (λ x. is_con_plain x ≡ true) q.1 o.0,
         q.2,
         subst (λ x. constructor_in_order b (con_number x) ≡ true) q.1 u.0,
         subst (λ x. binders_fit (con_fields x) bs ≡ true) q.1 v.0,
@@ -109,7 +112,8 @@ module _ (ms : List NModule) where
     type_is_given (typed_let bs e) = let p = binds_are_judged 0 bs in rw (p.1, type_is_given e) refl
     type_is_given (typed_case {s = s} j k e t r alts v) =
         let p = alts_are_judged 3 alts in rw (type_is_given e, kind_is_given ms t, kind_is_given ms r, p.1, same_type_refl s, v) refl
-    type_is_given (typed_con k gs is args l t a) = rw (args_are_given 0 args, is, l, t, a) refl
+    type_is_given (typed_fail k t v) = rw (kind_is_given ms t, v) refl
+    type_is_given (typed_con k gs is plain args l t a) = rw (args_are_given 0 args, is, plain, l, t, a) refl
 
     pub args_are_given : {c : Context} {args : NArgs} {gs : List TypedArg} (i : ℕ) → ArgsAreGiven ms c args gs → args_given ms c i args ≡ Ok gs
     args_are_given i no_args = refl
@@ -130,10 +134,10 @@ module _ (ms : List NModule) where
         let p = binders_are_judged 0 bs in
         let q = alts_are_judged (i + 1) rest in
         (q.0, rw (p.1, type_is_given e, int, goes, same_type_refl rt) q.1)
-    alts_are_judged {rt = rt} i (con_alt k bs e is data_type goes fits rest) =
+    alts_are_judged {rt = rt} i (con_alt k bs e is plain data_type goes fits rest) =
         let p = binders_are_judged 0 bs in
         let q = alts_are_judged (i + 1) rest in
-        (q.0, rw (p.1, type_is_given e, is, same_type_of data_type, goes, fits, same_type_refl rt) q.1)
+        (q.0, rw (p.1, type_is_given e, is, plain, same_type_of data_type, goes, fits, same_type_refl rt) q.1)
 
   mutual
     -- what is given a type has it by cases
@@ -175,9 +179,12 @@ module _ (ms : List NModule) where
     given_type_is c (NCon n args) t h =
         let p = and_then_inv (args_given ms c 0 args) _ t h in
         let q = constructed_inv n (constructor ms n) p.0 t p.2 in
-        subst (λ x. HasType ms c (NCon n args) x) q.5 (typed_con q.0 p.0 q.1 (given_args_are c 0 args p.0 p.1) q.2 q.3 q.4)
+        subst (λ x. HasType ms c (NCon n args) x) q.6 (typed_con q.0 p.0 q.1 q.2 (given_args_are c 0 args p.0 p.1) q.3 q.4 q.5)
     given_type_is c (NPrim op es) t h = err_ok h
-    given_type_is c (NFail u) t h = err_ok h
+    given_type_is c (NFail u) t h =
+        let p = part 0 (kind_or_fault ms c.kinds u) _ t h in
+        let q = need_inv (is_value_kind p.0) _ _ t p.2 in
+        subst (λ x. HasType ms c (NFail u) x) (ok_ok q.1) (typed_fail p.0 (given_kind_is ms c.kinds 0 u p.0 p.1) q.0)
     given_type_is c (NJoin r u js e) t h = err_ok h
     given_type_is c (NJump i args) t h = err_ok h
 
@@ -221,8 +228,8 @@ module _ (ms : List NModule) where
         let p = part i (alt_judged ms c s rt b (NBranch (head.Con n) bs e)) _ last h in
         let q = alt_inv c s rt b (head.Con n) bs e p.0 p.1 in
         let u = con_head_inv s n b bs p.0 q.2 in
-        con_alt u.0 q.0 (given_type_is (with_binders bs c) e rt q.1) u.1 u.2 u.3 u.4
-        (subst (λ x. AltsFit ms c s rt x rest) (sym u.5) (judged_alts_fit c s rt (i + 1) p.0 rest last p.2))
+        con_alt u.0 q.0 (given_type_is (with_binders bs c) e rt q.1) u.1 u.2 u.3 u.4 u.5
+        (subst (λ x. AltsFit ms c s rt x rest) (sym u.6) (judged_alts_fit c s rt (i + 1) p.0 rest last p.2))
 
   -- the function gives a type just where the relation does
   pub type_is : (c : Context) (e : NExpr) (t : NTy) → (type_or_fault ms c e ≡ Ok t) ↔ HasType ms c e t

@@ -1,26 +1,24 @@
 -- What holds of a module holds of it under the written header: every word is one of its form, and every premise holds.
-use Rattle.std.proofs.Common.{◌≡◌, ℕ, ◌+◌, Bool, true, false, ◌&&◌, ◌||◌, bytes_eq, is_none, if◌then◌else◌, List, [], ◌∷◌, ◌++◌, length, Option, Some, None, Result, Ok, refl, sym, ap, ◌∙◌, subst}
+use Rattle.std.proofs.Common.{◌≡◌, Bool, true, false, ◌&&◌, ◌||◌, bytes_eq, is_none, if◌then◌else◌, List, [], ◌∷◌, ◌++◌, Option, Some, None, Result, Ok, refl, sym, ap, ◌∙◌, subst}
+use Rattle.std.proofs.Math.Path.{fun_ext}
 use Rattle.std.proofs.lemmas.Bool.{and_parts}
 use Rattle.std.specs.List.{list_all}
 use Rattle.std.proofs.lemmas.List.Concat.{flat_map-cons}
 use Rattle.std.proofs.lemmas.List.Folds.{list_all-append}
-use Rattle.fc_syntax.specs.declared.fault.FaultKind.TheVariants.{DefType, ExportUnknown, NotAType}
+use Rattle.fc_syntax.specs.declared.fault.FaultKind.TheVariants.{ExportUnknown}
 use Rattle.fc_syntax.specs.Tokens.{is_lower_name, is_module_name, is_upper_name}
-use Rattle.fc_syntax.specs.Tree.{Word, Kind, ConDecl, ConOf, Decl, DData, DNew, DFamily, DAxiom, DDef, DWrap, Module, ModuleOf}
+use Rattle.fc_syntax.specs.Tree.{Word, ConDecl, ConOf, Decl, DData, DNew, DFamily, DAxiom, DDef, DWrap, Module, ModuleOf}
 use Rattle.fc_model.specs.Formed.{IsFormed, are_field_binders, is_param_formed, is_plain_formed, is_con_formed, is_decl_formed, is_expr_formed, is_lower_word, is_type_formed, is_upper_word, is_word}
-use Rattle.fc_model.specs.Declaring.{con_words, decl_words, declared_words, ndecl_word, ndeclared_words}
-use Rattle.fc_model.specs.Faulting.{F, need, under, within, and_then}
+use Rattle.fc_model.specs.Declaring.{con_words, decl_words, declared_words, ndeclared_words}
+use Rattle.fc_model.specs.Faulting.{F, need, and_then}
 use Rattle.fc_model.specs.Headers.{others, written_of}
-use Rattle.fc_model.specs.Kinding.{decls_at, kind_or_fault, same_type}
-use Rattle.fc_model.specs.Linting.{Done, done, Lints, con_judged, cons_judged, def_type_judged, def_types_judged, definition_kind, exports_judged, fields_judged, lint_or_fault}
-use Rattle.fc_model.specs.Linting.{right_judged, right_side_judged, rights_judged, type_decl_judged, type_decls_judged}
-use Rattle.fc_model.specs.Nameless.{NTy, NExpr, NConDecl, NConOf, NDecl, NData, NNew, NFamily, NAxiom, NDef, NWrap, NModule, NModuleOf}
+use Rattle.fc_model.specs.Kinding.{Modules, decls_at}
+use Rattle.fc_model.specs.Linting.{Done, done, Lints, def_types_judged, exports_judged, lint_or_fault, rights_judged, type_decls_judged}
+use Rattle.fc_model.specs.Nameless.{NDecl, NModuleOf}
 use Rattle.fc_model.specs.Resolution.{WordSet, no_word, no_words, plus, plus_all, resolved_decls, resolved_or_fault, top_of}
-use Rattle.fc_model.specs.Typing.{no_context}
 use Rattle.fc_model.specs.Words.{keyword_of}
 use Rattle.fc_model.proofs.Parts.{and_then_inv, need_inv, ok_ok}
 use Rattle.fc_model.proofs.Resolved.{decls_have_words}
-use Rattle.fc_model.proofs.SameDeclarations.{both_same, kind_same, type_same}
 use Rattle.fc_model.proofs.Sameness.{bytes_eq_refl, false_true}
 
 both : (a b : Bool) → a ≡ true → b ≡ true → a && b ≡ true
@@ -113,66 +111,14 @@ written_is_formed (ModuleOf m imports exports hidden ds) h =
     let more = all_of_both is_word hidden (others seen (declared_words ds)) c.1 (others_are_among is_word seen (declared_words ds) (decls_have_formed_words ds b.1)) in
     rw (a.0, c.0, more, b.1) refl
 
--- PREMISES
-
-module _ (ms ns : List NModule) (same : (o : Option Word) → decls_at ms o ≡ decls_at ns o) where
-  fields_same : (ks : List Kind) (i : ℕ) (ts : List NTy) → fields_judged ms ks i ts ≡ fields_judged ns ks i ts
-  fields_same ks i [] = refl
-  fields_same ks i (t ∷ ts) = rw (kind_same ms ns same ks 0 t, fields_same ks (i + 1) ts) refl
-
-  con_same : (c : NConDecl) → con_judged ms c ≡ con_judged ns c
-  con_same (NConOf n bs fields) = fields_same [] (length bs) fields
-
-  cons_same : (i : ℕ) (cs : List NConDecl) → cons_judged ms i cs ≡ cons_judged ns i cs
-  cons_same i [] = refl
-  cons_same i (c ∷ cs) = rw (con_same c, cons_same (i + 1) cs) refl
-
-  type_decl_same : (d : NDecl) → type_decl_judged ms d ≡ type_decl_judged ns d
-  type_decl_same (NData n ps cs) = ap (λ r. and_then r (λ b. need b NotAType (Ok done))) (cons_same (length ps) cs)
-  type_decl_same (NNew n ps t con) = refl
-  type_decl_same (NFamily n ps k) = refl
-  type_decl_same (NAxiom n ps t u) = refl
-  type_decl_same (NDef n t e) = refl
-  type_decl_same (NWrap n t e) = refl
-
-  type_decls_same : (ds : List NDecl) → type_decls_judged ms ds ≡ type_decls_judged ns ds
-  type_decls_same [] = refl
-  type_decls_same (d ∷ ds) = both_same _ _ _ _ (ap (within (ndecl_word d)) (type_decl_same d)) (λ _. type_decls_same ds)
-
-  kind_of_def_same : (t : NTy) → and_then (under 0 (kind_or_fault ms [] t)) (λ k. definition_kind k) ≡ and_then (under 0 (kind_or_fault ns [] t)) (λ k. definition_kind k)
-  kind_of_def_same t = ap (λ r. and_then (under 0 r) (λ k. definition_kind k)) (kind_same ms ns same [] 0 t)
-
-  def_type_same : (d : NDecl) → def_type_judged ms d ≡ def_type_judged ns d
-  def_type_same (NDef n t e) = kind_of_def_same t
-  def_type_same (NWrap n t e) = kind_of_def_same t
-  def_type_same (NData n ps cs) = refl
-  def_type_same (NNew n ps t con) = refl
-  def_type_same (NFamily n ps k) = refl
-  def_type_same (NAxiom n ps t u) = refl
-
-  def_types_same : (ds : List NDecl) → def_types_judged ms ds ≡ def_types_judged ns ds
-  def_types_same [] = refl
-  def_types_same (d ∷ ds) = both_same _ _ _ _ (ap (within (ndecl_word d)) (def_type_same d)) (λ _. def_types_same ds)
-
-  right_side_same : (t : NTy) (e : NExpr) → right_side_judged ms t e ≡ right_side_judged ns t e
-  right_side_same t e = ap (λ r. and_then (under 1 r) (λ u. need (same_type t u) DefType (Ok done))) (type_same ms ns same no_context e)
-
-  right_same : (d : NDecl) → right_judged ms d ≡ right_judged ns d
-  right_same (NDef n t e) = right_side_same t e
-  right_same (NWrap n t e) = right_side_same t e
-  right_same (NData n ps cs) = refl
-  right_same (NNew n ps t con) = refl
-  right_same (NFamily n ps k) = refl
-  right_same (NAxiom n ps t u) = refl
-
-  rights_same : (ds : List NDecl) → rights_judged ms ds ≡ rights_judged ns ds
-  rights_same [] = refl
-  rights_same (d ∷ ds) = both_same _ _ _ _ (ap (within (ndecl_word d)) (right_same d)) (λ _. rights_same ds)
-
 -- other hidden words leave the declarations as they are
-pub at_hidden : (m : Word) (imports exports h g : List Word) (ds : List NDecl) (o : Option Word) → decls_at (NModuleOf m imports exports h ds ∷ []) o ≡ decls_at (NModuleOf m imports exports g ds ∷ []) o
+at_hidden : (m : Word) (imports exports h g : List Word) (ds : List NDecl) (o : Option Word) → decls_at (NModuleOf m imports exports h ds ∷ []) o ≡ decls_at (NModuleOf m imports exports g ds ∷ []) o
 at_hidden m imports exports h g ds None = refl
 at_hidden m imports exports h g ds (Some w) = refl
+
+-- the premises of declarations against what modules declare
+abbrev declarations_judged : Modules → List NDecl → Result Done F
+declarations_judged ms ds = and_then (type_decls_judged ms ds) (λ _. and_then (def_types_judged ms ds) (λ _. rights_judged ms ds))
 
 need_is_done : (b : Bool) (r : Result Done F) (d : Done) → need b ExportUnknown r ≡ Ok d → b ≡ true
 need_is_done b r d h = (need_inv b ExportUnknown r d h).0
@@ -181,12 +127,10 @@ need_is_done b r d h = (need_inv b ExportUnknown r d h).0
 hidden_lints : (m : Word) (imports exports h g : List Word) (ds : List NDecl) → list_all (plus_all (ndeclared_words ds) no_word) g ≡ true
     → lint_or_fault (NModuleOf m imports exports h ds) ≡ Ok done → lint_or_fault (NModuleOf m imports exports g ds) ≡ Ok done
 hidden_lints m imports exports h g ds declared lint =
-    let before = NModuleOf m imports exports h ds ∷ [] in
-    let after = NModuleOf m imports exports g ds ∷ [] in
-    let same = at_hidden m imports exports h g ds in
+    let same = fun_ext (at_hidden m imports exports h g ds) in
     let p = and_then_inv (exports_judged (NModuleOf m imports exports h ds)) _ done lint in
     let a = and_parts (list_all (plus_all (ndeclared_words ds) no_word) exports) (list_all (plus_all (ndeclared_words ds) no_word) h) (need_is_done _ _ p.0 p.1) in
-    rw (a.0, declared, ← type_decls_same before after same ds, ← def_types_same before after same ds, ← rights_same before after same ds) p.2
+    rw (a.0, declared) (ap (λ ms. declarations_judged ms ds) (sym same) ∙ p.2)
 
 -- hidden words that are kept are declared
 hidden_are_declared : (m : Word) (imports exports h : List Word) (ds : List NDecl) → lint_or_fault (NModuleOf m imports exports h ds) ≡ Ok done

@@ -1,7 +1,8 @@
 -- Judgements that give an answer or the first premise that fails, with its place. Their clauses stand in the order in which
 -- the premises are judged.
-use Rattle.std.specs.Prelude.{ℕ, Bool, true, false, List, [], ◌∷◌, Option, Some, None, Result, Ok, Err}
+use Rattle.std.specs.Prelude.{ℕ, zero, suc, Bool, true, false, List, [], ◌∷◌, Option, Some, None, Result, Ok, Err}
 use Rattle.fc_syntax.specs.declared.fault.FaultKind.{FaultKind}
+use Rattle.fc_syntax.specs.declared.fault.FaultKind.TheVariants.{Unbound}
 use Rattle.fc_syntax.specs.Tree.{Word}
 
 -- a premise that fails: the declaration, where it stands in one, and the part numbers from the piece that is judged on
@@ -27,3 +28,9 @@ within w (Err (At kind def path)) = Err (At kind (Some w) path)
 abbrev pub and_then : {X Y : Type 0} → Result X F → (X → Result Y F) → Result Y F
 and_then (Ok x) go = go x
 and_then (Err f) go = Err f
+
+-- what is in scope at a distance, the innermost first
+abbrev pub at_distance : {X : Type 0} → List X → ℕ → Result X F
+at_distance [] i = Err (At Unbound None [])
+at_distance (x ∷ xs) zero = Ok x
+at_distance (x ∷ xs) (suc i) = at_distance xs i

@@ -1,12 +1,12 @@
 -- The kind of a type, or the first premise that fails; and the same as a relation by cases.
-use Rattle.std.specs.Prelude.{◌≡◌, ℕ, zero, suc, Bool, true, false, ◌&&◌, nat_eq, nat_le, if◌then◌else◌, List, [], ◌∷◌, length, Option, Some, None, Result, Ok, Err}
+use Rattle.std.specs.Prelude.{◌≡◌, ℕ, suc, Bool, true, false, ◌&&◌, nat_eq, nat_le, if◌then◌else◌, List, [], ◌∷◌, length, Option, Some, None, Result, Ok, Err}
 use Rattle.std.specs.Str.{bytes_eq}
 use Rattle.fc_syntax.specs.declared.ty.Name.{Name}
 use Rattle.fc_syntax.specs.declared.ty.Role.{Role}
 use Rattle.fc_syntax.specs.declared.fault.FaultKind.TheVariants.{Unbound, KindMismatch, NotAType, FamilyArity, UnliftedVariable, KindsDiffer}
 use Rattle.fc_syntax.specs.Roles.{role_below}
 use Rattle.fc_syntax.specs.Tree.{Word, Kind, KStar, KHash, KArrow}
-use Rattle.fc_model.specs.Faulting.{F, At, need, under, and_then}
+use Rattle.fc_model.specs.Faulting.{F, At, at_distance, need, under, and_then}
 use Rattle.fc_model.specs.Nameless.{NTy, NTVar, NTCon, NTInt, NTApp, NTFun, NTForall, NTCoForall, NParam, NParamOf, NDecl, NData, NNew, NFamily, NAxiom, NDef, NWrap, NModule, NModuleOf}
 
 -- SAMENESS
@@ -41,12 +41,16 @@ same_type s t = false
 
 -- KINDS OF DECLARATIONS
 
--- the declarations of the module of a name
+-- what modules declare, each by its word
+abbrev pub Modules : Type 0
+Modules = Option Word → List NDecl
+
+-- the declarations of the module of a word, among modules
 abbrev pub decls_of_module : List NModule → Word → List NDecl
 decls_of_module [] w = []
 decls_of_module (NModuleOf n imports exports hidden ds ∷ ms) w = if bytes_eq n w then ds else decls_of_module ms w
 
-abbrev pub decls_at : List NModule → Option Word → List NDecl
+abbrev pub decls_at : List NModule → Modules
 decls_at ms None = []
 decls_at ms (Some w) = decls_of_module ms w
 
@@ -79,15 +83,10 @@ decl_kind (Some (NDef n t e)) args = Err (At Unbound None [])
 decl_kind (Some (NWrap n t e)) args = Err (At Unbound None [])
 decl_kind None args = Err (At Unbound None [])
 
-abbrev pub name_kind : List NModule → Name → ℕ → Result Kind F
-name_kind ms n args = decl_kind (type_decl (decls_at ms n.module) n.text) args
+abbrev pub name_kind : Modules → Name → ℕ → Result Kind F
+name_kind ms n args = decl_kind (type_decl (ms n.module) n.text) args
 
 -- KINDS OF TYPES
-
-abbrev pub local_kind : List Kind → ℕ → Result Kind F
-local_kind [] i = Err (At Unbound None [])
-local_kind (k ∷ ks) zero = Ok k
-local_kind (k ∷ ks) (suc i) = local_kind ks i
 
 -- `*` or `#`: the kinds of the types of values
 abbrev pub is_value_kind : Kind → Bool
@@ -113,8 +112,8 @@ applied_kind KStar k = Err (At KindMismatch None [])
 applied_kind KHash k = Err (At KindMismatch None [])
 
 -- the kind of a type under local type variables of these kinds, where it is the head of that many arguments
-abbrev pub head_kind_or_fault : List NModule → List Kind → ℕ → NTy → Result Kind F
-head_kind_or_fault ms ks args (NTVar i) = local_kind ks i
+abbrev pub head_kind_or_fault : Modules → List Kind → ℕ → NTy → Result Kind F
+head_kind_or_fault ms ks args (NTVar i) = at_distance ks i
 head_kind_or_fault ms ks args (NTCon n) = name_kind ms n args
 head_kind_or_fault ms ks args NTInt = Ok KHash
 head_kind_or_fault ms ks args (NTApp t u) =
@@ -128,12 +127,12 @@ head_kind_or_fault ms ks args (NTCoForall r t u v) =
     and_then (under 0 (head_kind_or_fault ms ks 0 t)) (λ i. and_then (under 1 (head_kind_or_fault ms ks 0 u)) (λ j.
     and_then (under 2 (head_kind_or_fault ms ks 0 v)) (λ k. need (same_kind i j) KindsDiffer (need (is_value_kind k) NotAType (Ok KStar)))))
 
-abbrev pub kind_or_fault : List NModule → List Kind → NTy → Result Kind F
+abbrev pub kind_or_fault : Modules → List Kind → NTy → Result Kind F
 kind_or_fault ms ks t = head_kind_or_fault ms ks 0 t
 
 -- The same by cases: a type, the head of that many arguments, has a kind.
-pub data HasHeadKind (ms : List NModule) : List Kind → ℕ → NTy → Kind → Type 0 where
-  kind_variable : {ks : List Kind} {args i : ℕ} {k : Kind} → local_kind ks i ≡ Ok k → HasHeadKind ms ks args (NTVar i) k
+pub data HasHeadKind (ms : Modules) : List Kind → ℕ → NTy → Kind → Type 0 where
+  kind_variable : {ks : List Kind} {args i : ℕ} {k : Kind} → at_distance ks i ≡ Ok k → HasHeadKind ms ks args (NTVar i) k
   kind_declared : {ks : List Kind} {args : ℕ} {n : Name} {k : Kind} → name_kind ms n args ≡ Ok k → HasHeadKind ms ks args (NTCon n) k
   kind_int : {ks : List Kind} {args : ℕ} → HasHeadKind ms ks args NTInt KHash
   kind_application : {ks : List Kind} {args : ℕ} {t u : NTy} {j k : Kind} → HasHeadKind ms ks (suc args) t (KArrow j k) → HasHeadKind ms ks 0 u j
@@ -145,5 +144,5 @@ pub data HasHeadKind (ms : List NModule) : List Kind → ℕ → NTy → Kind �
   kind_coforall : {ks : List Kind} {args : ℕ} {r : Role} {t u v : NTy} (j k : Kind) → HasHeadKind ms ks 0 t j → HasHeadKind ms ks 0 u j → HasHeadKind ms ks 0 v k
       → is_value_kind k ≡ true → HasHeadKind ms ks args (NTCoForall r t u v) KStar
 
-abbrev pub HasKind : List NModule → List Kind → NTy → Kind → Type 0
+abbrev pub HasKind : Modules → List Kind → NTy → Kind → Type 0
 HasKind ms ks t k = HasHeadKind ms ks 0 t k

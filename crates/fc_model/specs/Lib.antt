@@ -11,8 +11,10 @@ pub mod Headers
 pub mod Kinding
 pub mod Laws
 pub mod Linting
+pub mod LintingRules
 pub mod Nameless
 pub mod NamelessView
+pub mod Needs
 pub mod Observing
 pub mod Pieces
 pub mod Programs
@@ -23,6 +25,8 @@ pub mod ResolutionRules
 pub mod Says
 pub mod Spelling
 pub mod Stepping
+pub mod Substituting
+pub mod SubstitutionLaws
 pub mod Terms
 pub mod Texts
 pub mod Typing

@@ -1,12 +1,17 @@
 -- Lint of a module: every premise of names, declarations and typing, in its order; and the first that fails.
-use Rattle.std.specs.Prelude.{◌≡◌, ℕ, ◌+◌, Bool, true, ◌&&◌, List, [], ◌∷◌, length, None, Result, Ok, Err}
+use Rattle.std.specs.Prelude.{◌≡◌, ℕ, suc, ◌+◌, Bool, true, false, ◌&&◌, nat_eq, List, [], ◌∷◌, length, reverse, Option, Some, None, Result, Ok, Err}
 use Rattle.std.specs.List.{list_all}
-use Rattle.fc_syntax.specs.declared.fault.FaultKind.TheVariants.{BadForm, ExportUnknown, NotAType, UnliftedTop, DefType}
+use Rattle.fc_syntax.specs.declared.fault.FaultKind.TheVariants.{BadForm, ExportUnknown, NotAType, FamilyArity, UnliftedVariable, RoleTooWeak, KindsDiffer, UnliftedTop, DefType}
+use Rattle.fc_syntax.specs.declared.ty.Role.{Role}
+use Rattle.fc_syntax.specs.declared.ty.Role.TheVariants.{R}
+use Rattle.fc_syntax.specs.Roles.{role_below}
 use Rattle.fc_syntax.specs.Tree.{Kind, KStar, KHash, KArrow, Module}
 use Rattle.fc_model.specs.Declaring.{ndecl_word, ndeclared_words}
 use Rattle.fc_model.specs.Faulting.{F, At, need, under, within, and_then}
-use Rattle.fc_model.specs.Kinding.{is_value_kind, kind_or_fault, same_type}
-use Rattle.fc_model.specs.Nameless.{NTy, NConDecl, NConOf, NDecl, NData, NNew, NFamily, NAxiom, NDef, NWrap, NExpr, NModule, NModuleOf}
+use Rattle.fc_model.specs.Kinding.{Modules, decls_at, is_lifted, is_star, is_value_kind, kind_or_fault, param_kinds, same_kind, same_type, type_decl}
+use Rattle.fc_model.specs.Nameless.{NTy, NTVar, NTCon, NTInt, NTApp, NTFun, NTForall, NTCoForall, NBinder, NBValue, NBType, NBCo, NParam, NParamOf}
+use Rattle.fc_model.specs.Nameless.{NConDecl, NConOf, NDecl, NData, NNew, NFamily, NAxiom, NDef, NWrap, NExpr, NModule, NModuleOf}
+use Rattle.fc_model.specs.Needs.{need_in, need_in_cons}
 use Rattle.fc_model.specs.Resolution.{no_word, plus_all, resolved_or_fault}
 use Rattle.fc_model.specs.Typing.{no_context, type_or_fault}
 
@@ -24,31 +29,92 @@ exports_judged (NModuleOf m imports exports hidden ds) =
 
 -- TYPE DECLARATIONS
 
--- fields from part i on: each is well kinded; and whether all are of the kinds of values
-abbrev pub fields_judged : List NModule → List Kind → ℕ → List NTy → Result Bool F
-fields_judged ms ks i [] = Ok true
-fields_judged ms ks i (t ∷ ts) =
-    and_then (under i (kind_or_fault ms ks t)) (λ k. and_then (fields_judged ms ks (i + 1) ts) (λ b. Ok (is_value_kind k && b)))
+-- type variables from part i on, each of a kind without `#`; the number of the part after them
+abbrev pub variables_judged : ℕ → List Kind → Result ℕ F
+variables_judged i [] = Ok i
+variables_judged i (k ∷ ks) = and_then (under i (need (is_lifted k) UnliftedVariable (Ok done))) (λ _. variables_judged (i + 1) ks)
 
--- a constructor without binders of its own
-abbrev pub con_judged : List NModule → NConDecl → Result Bool F
-con_judged ms (NConOf n bs fields) = fields_judged ms [] (length bs) fields
+-- a binder of a constructor: whether its ends have one kind, where it is a coercion; a field has no binder
+abbrev pub con_binder_judged : Modules → List Kind → NBinder → Result Bool F
+con_binder_judged ms ks (NBValue t) = Err (At BadForm None [])
+con_binder_judged ms ks (NBType k) = need (is_lifted k) UnliftedVariable (Ok true)
+con_binder_judged ms ks (NBCo r t u) = and_then (under 0 (kind_or_fault ms ks t)) (λ j. and_then (under 1 (kind_or_fault ms ks u)) (λ k. Ok (same_kind j k)))
 
--- constructors from part i on; and whether all their fields are of the kinds of values
-abbrev pub cons_judged : List NModule → ℕ → List NConDecl → Result Bool F
-cons_judged ms i [] = Ok true
-cons_judged ms i (c ∷ cs) = and_then (under i (con_judged ms c)) (λ b. and_then (cons_judged ms (i + 1) cs) (λ rest. Ok (b && rest)))
+-- the kinds in scope behind a binder, and behind several
+abbrev pub kinds_behind : NBinder → List Kind → List Kind
+kinds_behind (NBValue t) ks = ks
+kinds_behind (NBType k) ks = k ∷ ks
+kinds_behind (NBCo r t u) ks = ks
 
--- a type declaration: its parts, and then that its fields are of kind `*` or `#`
-abbrev pub type_decl_judged : List NModule → NDecl → Result Done F
-type_decl_judged ms (NData n ps cs) = and_then (cons_judged ms (length ps) cs) (λ b. need b NotAType (Ok done))
-type_decl_judged ms (NNew n ps t con) = Err (At BadForm None [])
-type_decl_judged ms (NFamily n ps k) = Err (At BadForm None [])
-type_decl_judged ms (NAxiom n ps t u) = Err (At BadForm None [])
+abbrev pub kinds_behind_all : List NBinder → List Kind → List Kind
+kinds_behind_all [] ks = ks
+kinds_behind_all (b ∷ bs) ks = kinds_behind_all bs (kinds_behind b ks)
+
+-- the binders of a constructor from part i on, behind coercions the ends of each of which have one kind, or not; the same of all
+abbrev pub con_binders_judged : Modules → List Kind → ℕ → Bool → List NBinder → Result Bool F
+con_binders_judged ms ks i one [] = Ok one
+con_binders_judged ms ks i one (b ∷ bs) = and_then (under i (con_binder_judged ms ks b)) (λ same. con_binders_judged ms (kinds_behind b ks) (i + 1) (one && same) bs)
+
+-- fields from part i on, behind fields that are all of the kinds of values, or not: each is well kinded; the same of all
+abbrev pub fields_judged : Modules → List Kind → ℕ → Bool → List NTy → Result Bool F
+fields_judged ms ks i all [] = Ok all
+fields_judged ms ks i all (t ∷ ts) = and_then (under i (kind_or_fault ms ks t)) (λ k. fields_judged ms ks (i + 1) (all && is_value_kind k) ts)
+
+-- a constructor: its binders, its fields, and then that the ends of its coercions have one kind; whether its fields are of the kinds of
+-- values
+abbrev pub con_judged : Modules → List Kind → NConDecl → Result Bool F
+con_judged ms ks (NConOf n bs fields) =
+    and_then (con_binders_judged ms ks 0 true bs) (λ one. and_then (fields_judged ms (kinds_behind_all bs ks) (length bs) true fields) (λ values. need one KindsDiffer (Ok values)))
+
+-- constructors from part i on, behind constructors whose fields are all of the kinds of values, or not; the same of all
+abbrev pub cons_judged : Modules → List Kind → ℕ → Bool → List NConDecl → Result Bool F
+cons_judged ms ks i all [] = Ok all
+cons_judged ms ks i all (c ∷ cs) = and_then (under i (con_judged ms ks c)) (λ values. cons_judged ms ks (i + 1) (all && values) cs)
+
+-- the roles of parameters from part i on, none above the parameter's need; the last parameter is the innermost, so that a parameter is
+-- as far from what the declaration holds as parameters follow it
+abbrev pub roles_judged : (ℕ → Role) → ℕ → List NParam → Result Done F
+roles_judged needed i [] = Ok done
+roles_judged needed i (NParamOf k r ∷ ps) = and_then (under i (need (role_below r (needed (length ps))) RoleTooWeak (Ok done))) (λ _. roles_judged needed (i + 1) ps)
+
+-- a family of that many parameters
+abbrev pub is_family_of : Option NDecl → ℕ → Bool
+is_family_of (Some (NFamily n ps k)) args = nat_eq (length ps) args
+is_family_of (Some (NData n ps cs)) args = false
+is_family_of (Some (NNew n ps t con)) args = false
+is_family_of (Some (NAxiom n ps t u)) args = false
+is_family_of (Some (NDef n t e)) args = false
+is_family_of (Some (NWrap n t e)) args = false
+is_family_of None args = false
+
+-- a type, the head of that many arguments, that makes a family applied to exactly as many types as it has parameters
+abbrev pub is_family_applied : Modules → ℕ → NTy → Bool
+is_family_applied ms args (NTVar i) = false
+is_family_applied ms args (NTCon n) = is_family_of (type_decl (ms n.module) n.text) args
+is_family_applied ms args NTInt = false
+is_family_applied ms args (NTApp t u) = is_family_applied ms (suc args) t
+is_family_applied ms args (NTFun t u) = false
+is_family_applied ms args (NTForall k t) = false
+is_family_applied ms args (NTCoForall r t u v) = false
+
+-- a type declaration: its parts, and then its own premises. Of data: that its fields are of kind `*` or `#`, and its roles; of a
+-- newtype: that its type is of kind `*`, and its roles; of a family: the kind of its result; of an axiom: that its left side is a
+-- family that is applied in full, and that both sides have one kind.
+abbrev pub type_decl_judged : Modules → NDecl → Result Done F
+type_decl_judged ms (NData n ps cs) =
+    and_then (variables_judged 0 (param_kinds ps)) (λ i. and_then (cons_judged ms (reverse (param_kinds ps)) i true cs) (λ b.
+    need b NotAType (roles_judged (λ p. need_in_cons ms p cs) 0 ps)))
+type_decl_judged ms (NNew n ps t con) =
+    and_then (variables_judged 0 (param_kinds ps)) (λ i. and_then (under i (kind_or_fault ms (reverse (param_kinds ps)) t)) (λ k.
+    need (is_star k) NotAType (roles_judged (λ p. need_in ms R p t) 0 ps)))
+type_decl_judged ms (NFamily n ps k) = and_then (variables_judged 0 ps) (λ _. need (is_lifted k) UnliftedVariable (Ok done))
+type_decl_judged ms (NAxiom n ps t u) =
+    and_then (variables_judged 0 ps) (λ i. and_then (under i (kind_or_fault ms (reverse ps) t)) (λ j. and_then (under (i + 1) (kind_or_fault ms (reverse ps) u)) (λ k.
+    need (is_family_applied ms 0 t) FamilyArity (need (same_kind j k) KindsDiffer (Ok done)))))
 type_decl_judged ms (NDef n t e) = Ok done
 type_decl_judged ms (NWrap n t e) = Ok done
 
-abbrev pub type_decls_judged : List NModule → List NDecl → Result Done F
+abbrev pub type_decls_judged : Modules → List NDecl → Result Done F
 type_decls_judged ms [] = Ok done
 type_decls_judged ms (d ∷ ds) = and_then (within (ndecl_word d) (type_decl_judged ms d)) (λ _. type_decls_judged ms ds)
 
@@ -60,7 +126,7 @@ definition_kind KStar = Ok done
 definition_kind KHash = Err (At UnliftedTop None [])
 definition_kind (KArrow j k) = Err (At NotAType None [])
 
-abbrev pub def_type_judged : List NModule → NDecl → Result Done F
+abbrev pub def_type_judged : Modules → NDecl → Result Done F
 def_type_judged ms (NDef n t e) = and_then (under 0 (kind_or_fault ms [] t)) (λ k. definition_kind k)
 def_type_judged ms (NWrap n t e) = and_then (under 0 (kind_or_fault ms [] t)) (λ k. definition_kind k)
 def_type_judged ms (NData n ps cs) = Ok done
@@ -68,15 +134,15 @@ def_type_judged ms (NNew n ps t con) = Ok done
 def_type_judged ms (NFamily n ps k) = Ok done
 def_type_judged ms (NAxiom n ps t u) = Ok done
 
-abbrev pub def_types_judged : List NModule → List NDecl → Result Done F
+abbrev pub def_types_judged : Modules → List NDecl → Result Done F
 def_types_judged ms [] = Ok done
 def_types_judged ms (d ∷ ds) = and_then (within (ndecl_word d) (def_type_judged ms d)) (λ _. def_types_judged ms ds)
 
 -- the right side of a definition has the written type
-abbrev pub right_side_judged : List NModule → NTy → NExpr → Result Done F
+abbrev pub right_side_judged : Modules → NTy → NExpr → Result Done F
 right_side_judged ms t e = and_then (under 1 (type_or_fault ms no_context e)) (λ u. need (same_type t u) DefType (Ok done))
 
-abbrev pub right_judged : List NModule → NDecl → Result Done F
+abbrev pub right_judged : Modules → NDecl → Result Done F
 right_judged ms (NDef n t e) = right_side_judged ms t e
 right_judged ms (NWrap n t e) = right_side_judged ms t e
 right_judged ms (NData n ps cs) = Ok done
@@ -84,7 +150,7 @@ right_judged ms (NNew n ps t con) = Ok done
 right_judged ms (NFamily n ps k) = Ok done
 right_judged ms (NAxiom n ps t u) = Ok done
 
-abbrev pub rights_judged : List NModule → List NDecl → Result Done F
+abbrev pub rights_judged : Modules → List NDecl → Result Done F
 rights_judged ms [] = Ok done
 rights_judged ms (d ∷ ds) = and_then (within (ndecl_word d) (right_judged ms d)) (λ _. rights_judged ms ds)
 
@@ -93,7 +159,7 @@ rights_judged ms (d ∷ ds) = and_then (within (ndecl_word d) (right_judged ms d
 -- a module against itself: exported and hidden words, type declarations, types of definitions, right sides
 abbrev pub lint_or_fault : NModule → Result Done F
 lint_or_fault (NModuleOf m imports exports hidden ds) =
-    let ms = NModuleOf m imports exports hidden ds ∷ [] in
+    let ms = decls_at (NModuleOf m imports exports hidden ds ∷ []) in
     and_then (exports_judged (NModuleOf m imports exports hidden ds)) (λ _. and_then (type_decls_judged ms ds) (λ _.
     and_then (def_types_judged ms ds) (λ _. rights_judged ms ds)))
 

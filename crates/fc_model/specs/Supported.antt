@@ -1,47 +1,37 @@
--- The forms that Lint judges so far: a module that has another is refused as a whole.
+-- The forms that Lint judges so far: a module that has another is refused as a whole. All types and all declarations are judged.
 use Rattle.std.specs.Prelude.{◌≡◌, Bool, true, false, ◌&&◌, List}
 use Rattle.std.specs.List.{list_all}
 use Rattle.fc_syntax.specs.declared.expr.Head.{Head}
 use Rattle.fc_syntax.specs.declared.expr.Head.TheVariants as head
-use Rattle.fc_syntax.specs.Tree.{Ty, TVar, TCon, TInt, TApp, TFun, TForall, TCoForall}
 use Rattle.fc_syntax.specs.Tree.{Expr, EVar, ELit, EApp, ELam, ELet, ECase, ECast, ECon, EPrim, EFail, EJoin, EJump, Arg, ATerm, AType, ACo, Args, NoArgs, MoreArgs}
 use Rattle.fc_syntax.specs.Tree.{Alt, Branch, Alts, NoAlts, MoreAlts}
-use Rattle.fc_syntax.specs.Tree.{Binder, BValue, BType, BCo, Bound, Binds, NoBinds, MoreBinds, ConDecl, ConOf, Decl, DData, DNew, DFamily, DAxiom, DDef, DWrap, Module, ModuleOf}
+use Rattle.fc_syntax.specs.Tree.{Binder, BValue, BType, BCo, Bound, Binds, NoBinds, MoreBinds, Decl, DData, DNew, DFamily, DAxiom, DDef, DWrap, Module, ModuleOf}
 use Rattle.fc_model.specs.Formed.{is_empty_list}
 
-abbrev pub is_type_supported : Ty → Bool
-is_type_supported (TVar a) = false
-is_type_supported (TCon n) = true
-is_type_supported TInt = true
-is_type_supported (TApp t u) = false
-is_type_supported (TFun t u) = is_type_supported t && is_type_supported u
-is_type_supported (TForall a k t) = false
-is_type_supported (TCoForall r t u v) = false
-
-abbrev pub is_binder_supported : Binder → Bool
-is_binder_supported (BValue x t) = is_type_supported t
-is_binder_supported (BType a k) = false
-is_binder_supported (BCo c r t u) = false
+abbrev pub is_value_binder : Binder → Bool
+is_value_binder (BValue x t) = true
+is_value_binder (BType a k) = false
+is_value_binder (BCo c r t u) = false
 
 -- only a constructor has binders
 abbrev pub is_head_supported : Head → List Binder → Bool
 is_head_supported head.Default bs = is_empty_list bs
 is_head_supported (head.Lit n) bs = is_empty_list bs
-is_head_supported (head.Con n) bs = list_all is_binder_supported bs
+is_head_supported (head.Con n) bs = list_all is_value_binder bs
 
 abbrev mutual
   pub is_expr_supported : Expr → Bool
   is_expr_supported (EVar n) = true
   is_expr_supported (ELit n) = true
   is_expr_supported (EApp f a) = is_expr_supported f && is_arg_supported a
-  is_expr_supported (ELam b e) = is_binder_supported b && is_expr_supported e
+  is_expr_supported (ELam b e) = is_value_binder b && is_expr_supported e
   is_expr_supported (ELet true bs e) = false
   is_expr_supported (ELet false bs e) = is_bind_supported bs && is_expr_supported e
-  is_expr_supported (ECase e x t u alts) = is_expr_supported e && ((is_type_supported t && is_type_supported u) && are_alts_supported alts)
+  is_expr_supported (ECase e x t u alts) = is_expr_supported e && are_alts_supported alts
   is_expr_supported (ECast e g) = false
   is_expr_supported (ECon n args) = are_args_supported args
   is_expr_supported (EPrim op es) = false
-  is_expr_supported (EFail t) = false
+  is_expr_supported (EFail t) = true
   is_expr_supported (EJoin r t js e) = false
   is_expr_supported (EJump j args) = false
 
@@ -57,7 +47,7 @@ abbrev mutual
   -- one bind
   pub is_bind_supported : Binds → Bool
   is_bind_supported NoBinds = false
-  is_bind_supported (MoreBinds (Bound x t e) NoBinds) = is_type_supported t && is_expr_supported e
+  is_bind_supported (MoreBinds (Bound x t e) NoBinds) = is_expr_supported e
   is_bind_supported (MoreBinds (Bound x t e) (MoreBinds b rest)) = false
 
   pub is_alt_supported : Alt → Bool
@@ -67,16 +57,13 @@ abbrev mutual
   are_alts_supported NoAlts = true
   are_alts_supported (MoreAlts a rest) = is_alt_supported a && are_alts_supported rest
 
-abbrev pub is_con_supported : ConDecl → Bool
-is_con_supported (ConOf n bs fields) = is_empty_list bs && list_all is_type_supported fields
-
 abbrev pub is_decl_supported : Decl → Bool
-is_decl_supported (DData n ps cs) = is_empty_list ps && list_all is_con_supported cs
-is_decl_supported (DNew n ps t con) = false
-is_decl_supported (DFamily n ps k) = false
-is_decl_supported (DAxiom n ps t u) = false
-is_decl_supported (DDef n t e) = is_type_supported t && is_expr_supported e
-is_decl_supported (DWrap n t e) = false
+is_decl_supported (DData n ps cs) = true
+is_decl_supported (DNew n ps t con) = true
+is_decl_supported (DFamily n ps k) = true
+is_decl_supported (DAxiom n ps t u) = true
+is_decl_supported (DDef n t e) = is_expr_supported e
+is_decl_supported (DWrap n t e) = is_expr_supported e
 
 abbrev pub is_supported : Module → Bool
 is_supported (ModuleOf m imports exports hidden ds) = list_all is_decl_supported ds

@@ -1,14 +1,15 @@
 -- The type of an expression, or the first premise that fails; and the same as a relation by cases.
-use Rattle.std.specs.Prelude.{◌≡◌, ℕ, zero, suc, ℤ, ◌+◌, Bool, true, false, not, ◌&&◌, ◌||◌, nat_lt, int_lt, if◌then◌else◌, List, [], ◌∷◌, ◌++◌, reverse, Option, Some, None, Result, Ok, Err}
+use Rattle.std.specs.Prelude.{◌≡◌, ℕ, ℤ, ◌+◌, Bool, true, false, not, ◌&&◌, ◌||◌, nat_lt, int_lt, if◌then◌else◌, List, [], ◌∷◌, ◌++◌, reverse, Option, Some, None, Result, Ok, Err}
 use Rattle.std.specs.Str.{bytes_eq}
 use Rattle.fc_syntax.specs.declared.ty.Name.{Name}
 use Rattle.fc_syntax.specs.declared.expr.Head.{Head}
 use Rattle.fc_syntax.specs.declared.expr.Head.TheVariants as head
 use Rattle.fc_syntax.specs.declared.fault.FaultKind.TheVariants.{BadForm, Unbound, NotAType, ArgType, NotFunction, UnliftedNotAtom, AltType, AltOrder, AltConstructor, ConArity, ScrutineeType, LetType, LitAlt}
 use Rattle.fc_syntax.specs.Tree.{Word, Kind}
-use Rattle.fc_model.specs.Faulting.{F, At, need, under, and_then}
-use Rattle.fc_model.specs.Kinding.{HasKind, decls_at, is_value_kind, kind_or_fault, same_type}
-use Rattle.fc_model.specs.Nameless.{NTy, NTVar, NTCon, NTInt, NTApp, NTFun, NTForall, NTCoForall, NParam, NConDecl, NConOf, NDecl, NData, NNew, NFamily, NAxiom, NDef, NWrap, NModule}
+use Rattle.fc_model.specs.Faulting.{F, At, at_distance, need, under, and_then}
+use Rattle.fc_model.specs.Formed.{is_empty_list}
+use Rattle.fc_model.specs.Kinding.{Modules, HasKind, is_value_kind, kind_or_fault, same_type}
+use Rattle.fc_model.specs.Nameless.{NTy, NTVar, NTCon, NTInt, NTApp, NTFun, NTForall, NTCoForall, NParam, NConDecl, NConOf, NDecl, NData, NNew, NFamily, NAxiom, NDef, NWrap}
 use Rattle.fc_model.specs.Nameless.{NBinder, NBValue, NBType, NBCo, NArg, NATerm, NAType, NACo, NBind, NBound, NAlt, NBranch}
 use Rattle.fc_model.specs.Nameless.{NExpr, NLocal, NVar, NLit, NApp, NLam, NLet, NCase, NCast, NCon, NPrim, NFail, NJoin, NJump}
 use Rattle.fc_model.specs.Nameless.{NArgs, NoNArgs, MoreNArgs, NBinds, NoNBinds, MoreNBinds, NAlts, NoNAlts, MoreNAlts}
@@ -26,11 +27,6 @@ no_context = record { kinds = []; values = [] }
 abbrev pub with_value : NTy → Context → Context
 with_value t c = record c { values = t ∷ c.values }
 
-abbrev pub local_value : List NTy → ℕ → Result NTy F
-local_value [] i = Err (At Unbound None [])
-local_value (t ∷ ts) zero = Ok t
-local_value (t ∷ ts) (suc i) = local_value ts i
-
 -- the first definition of a word
 abbrev pub def_type : List NDecl → Word → Result NTy F
 def_type [] w = Err (At Unbound None [])
@@ -41,8 +37,8 @@ def_type (NAxiom n ps t u ∷ ds) w = def_type ds w
 def_type (NDef n t e ∷ ds) w = if bytes_eq n w then Ok t else def_type ds w
 def_type (NWrap n t e ∷ ds) w = if bytes_eq n w then Ok t else def_type ds w
 
-abbrev pub value_type : List NModule → Name → Result NTy F
-value_type ms n = def_type (decls_at ms n.module) n.text
+abbrev pub value_type : Modules → Name → Result NTy F
+value_type ms n = def_type (ms n.module) n.text
 
 -- a constructor: the word of its data type, its number among the constructors there, and what it declares
 pub record Constructor : Type 0 where
@@ -71,8 +67,12 @@ con_decl (NAxiom n ps t u ∷ ds) w = con_decl ds w
 con_decl (NDef n t e ∷ ds) w = con_decl ds w
 con_decl (NWrap n t e ∷ ds) w = con_decl ds w
 
-abbrev pub constructor : List NModule → Name → Option Constructor
-constructor ms n = con_decl (decls_at ms n.module) n.text
+abbrev pub constructor : Modules → Name → Option Constructor
+constructor ms n = con_decl (ms n.module) n.text
+
+-- a constructor whose data type has no parameters and which binds no type and no coercion
+abbrev pub is_plain : Constructor → Bool
+is_plain k = is_empty_list k.params && is_empty_list k.binders
 
 -- the data type of a constructor stands in the constructor's module
 abbrev pub data_name : Name → Word → Name
@@ -139,11 +139,11 @@ is_saturated [] [] = true
 is_saturated (x ∷ xs) (y ∷ ys) = is_saturated xs ys
 is_saturated xs ys = false
 
--- a constructor without type parameters and binders of its own, given these terms
+-- a constructor without type parameters and binders of its own, given these terms; others are not judged yet
 abbrev pub constructed : Name → Option Constructor → List TypedArg → Result NTy F
 constructed n None gs = Err (At Unbound None [])
 constructed n (Some k) gs =
-    need (is_saturated k.fields gs) ConArity (need (argument_types_match k.fields gs) ArgType (need (unlifted_arguments_are_atoms k.fields gs) UnliftedNotAtom (Ok (NTCon (data_name n k.data_word)))))
+    need (is_plain k) BadForm (need (is_saturated k.fields gs) ConArity (need (argument_types_match k.fields gs) ArgType (need (unlifted_arguments_are_atoms k.fields gs) UnliftedNotAtom (Ok (NTCon (data_name n k.data_word))))))
 
 abbrev pub then_given : NTy → Bool → Result (List TypedArg) F → Result (List TypedArg) F
 then_given t atom (Ok gs) = Ok (record { type = t; atom = atom } ∷ gs)
@@ -187,6 +187,11 @@ abbrev pub is_con_of : NTy → Name → Option Constructor → Bool
 is_con_of s n None = false
 is_con_of s n (Some k) = same_type s (NTCon (data_name n k.data_word))
 
+-- alternatives of other constructors are not judged yet
+abbrev pub is_con_plain : Option Constructor → Bool
+is_con_plain None = true
+is_con_plain (Some k) = is_plain k
+
 abbrev pub con_number : Option Constructor → ℕ
 con_number None = 0
 con_number (Some k) = k.number
@@ -196,12 +201,13 @@ con_fields None = []
 con_fields (Some k) = k.fields
 
 -- an alternative for a scrutinee of this type, by its head: what stands before the next one
-abbrev pub head_goes : List NModule → NTy → Before → Head → List NBinder → Result Before F
+abbrev pub head_goes : Modules → NTy → Before → Head → List NBinder → Result Before F
 head_goes ms s b head.Default bs = need (default_in_order b) AltOrder (Ok AfterDefault)
 head_goes ms s b (head.Lit n) bs = need (is_int s) LitAlt (need (literal_in_order b n) AltOrder (Ok (AfterLit n)))
 head_goes ms s b (head.Con n) bs =
-    need (is_con_of s n (constructor ms n)) AltConstructor (need (constructor_in_order b (con_number (constructor ms n))) AltOrder
-    (need (binders_fit (con_fields (constructor ms n)) bs) ConArity (Ok (AfterCon (con_number (constructor ms n))))))
+    need (is_con_plain (constructor ms n)) BadForm (need (is_con_of s n (constructor ms n)) AltConstructor
+    (need (constructor_in_order b (con_number (constructor ms n))) AltOrder
+    (need (binders_fit (con_fields (constructor ms n)) bs) ConArity (Ok (AfterCon (con_number (constructor ms n)))))))
 
 abbrev pub binder_types : List NBinder → List NTy
 binder_types [] = []
@@ -221,7 +227,7 @@ abbrev pub with_binds : NBinds → Context → Context
 with_binds bs c = record c { values = reverse (bind_types bs) ++ c.values }
 
 -- the types of value binders from part i on are well kinded
-abbrev pub binders_judged : List NModule → Context → ℕ → List NBinder → Result ℕ F
+abbrev pub binders_judged : Modules → Context → ℕ → List NBinder → Result ℕ F
 binders_judged ms c i [] = Ok i
 binders_judged ms c i (NBValue t ∷ bs) = and_then (under i (under 0 (kind_or_fault ms c.kinds t))) (λ _. binders_judged ms c (i + 1) bs)
 binders_judged ms c i (NBType k ∷ bs) = Err (At BadForm None [])
@@ -234,8 +240,8 @@ abbrev pub unsupported : {X : Type 0} → Result X F
 unsupported = Err (At BadForm None [])
 
 abbrev mutual
-  pub type_or_fault : List NModule → Context → NExpr → Result NTy F
-  type_or_fault ms c (NLocal i) = local_value c.values i
+  pub type_or_fault : Modules → Context → NExpr → Result NTy F
+  type_or_fault ms c (NLocal i) = at_distance c.values i
   type_or_fault ms c (NVar n) = value_type ms n
   type_or_fault ms c (NLit n) = Ok NTInt
   type_or_fault ms c (NApp f a) = and_then (under 0 (type_or_fault ms c f)) (λ t. argument_applied ms c t a)
@@ -253,40 +259,40 @@ abbrev mutual
   type_or_fault ms c (NCast e g) = unsupported
   type_or_fault ms c (NCon n args) = and_then (args_given ms c 0 args) (λ gs. constructed n (constructor ms n) gs)
   type_or_fault ms c (NPrim op es) = unsupported
-  type_or_fault ms c (NFail t) = unsupported
+  type_or_fault ms c (NFail t) = and_then (under 0 (kind_or_fault ms c.kinds t)) (λ k. need (is_value_kind k) NotAType (Ok t))
   type_or_fault ms c (NJoin r t js e) = unsupported
   type_or_fault ms c (NJump i args) = unsupported
 
   -- a head of type t applied to an argument
-  pub argument_applied : List NModule → Context → NTy → NArg → Result NTy F
+  pub argument_applied : Modules → Context → NTy → NArg → Result NTy F
   argument_applied ms c t (NATerm a) = and_then (under 1 (type_or_fault ms c a)) (λ u. applied t u (is_atom a))
   argument_applied ms c t (NAType u) = unsupported
   argument_applied ms c t (NACo g) = unsupported
 
   -- terms from part i on
-  pub args_given : List NModule → Context → ℕ → NArgs → Result (List TypedArg) F
+  pub args_given : Modules → Context → ℕ → NArgs → Result (List TypedArg) F
   args_given ms c i NoNArgs = Ok []
   args_given ms c i (MoreNArgs (NATerm a) rest) = and_then (under i (type_or_fault ms c a)) (λ t. then_given t (is_atom a) (args_given ms c (i + 1) rest))
   args_given ms c i (MoreNArgs (NAType u) rest) = unsupported
   args_given ms c i (MoreNArgs (NACo g) rest) = unsupported
 
-  pub bind_judged : List NModule → Context → Bool → NBind → Result NTy F
+  pub bind_judged : Modules → Context → Bool → NBind → Result NTy F
   bind_judged ms c r (NBound t e) =
       and_then (under 0 (kind_or_fault ms c.kinds t)) (λ k. and_then (under 1 (type_or_fault ms c e)) (λ u.
       need (is_value_kind k) NotAType (need (same_type t u) LetType (need (atom_fits t (not r && is_atom e)) UnliftedNotAtom (Ok t)))))
 
   -- binds from part i on, and the number of the part after them
-  pub binds_judged : List NModule → Context → Bool → ℕ → NBinds → Result ℕ F
+  pub binds_judged : Modules → Context → Bool → ℕ → NBinds → Result ℕ F
   binds_judged ms c r i NoNBinds = Ok i
   binds_judged ms c r i (MoreNBinds b rest) = and_then (under i (bind_judged ms c r b)) (λ t. binds_judged ms c r (i + 1) rest)
 
-  pub alt_judged : List NModule → Context → NTy → NTy → Before → NAlt → Result Before F
+  pub alt_judged : Modules → Context → NTy → NTy → Before → NAlt → Result Before F
   alt_judged ms c s rt b (NBranch h bs e) =
       and_then (binders_judged ms c 0 bs) (λ i. and_then (under i (type_or_fault ms (with_binders bs c) e)) (λ u.
       and_then (head_goes ms s b h bs) (λ next. need (same_type u rt) AltType (Ok next))))
 
   -- alternatives from part i on, for a scrutinee of type s and a result of type rt
-  pub alts_judged : List NModule → Context → NTy → NTy → ℕ → Before → NAlts → Result Before F
+  pub alts_judged : Modules → Context → NTy → NTy → ℕ → Before → NAlts → Result Before F
   alts_judged ms c s rt i b NoNAlts = Ok b
   alts_judged ms c s rt i b (MoreNAlts a rest) = and_then (under i (alt_judged ms c s rt b a)) (λ next. alts_judged ms c s rt (i + 1) next rest)
 
@@ -310,8 +316,8 @@ from_some f (Some x) = f x
 from_some f None = None
 
 -- the type of an expression without judging its premises, where the parts that it is read off have one
-abbrev pub type_read_off : List NModule → Context → NExpr → Option NTy
-type_read_off ms c (NLocal i) = answered (local_value c.values i)
+abbrev pub type_read_off : Modules → Context → NExpr → Option NTy
+type_read_off ms c (NLocal i) = answered (at_distance c.values i)
 type_read_off ms c (NVar n) = answered (value_type ms n)
 type_read_off ms c (NLit n) = Some NTInt
 type_read_off ms c (NApp f (NATerm a)) = from_some result_of (type_read_off ms c f)
@@ -325,20 +331,20 @@ type_read_off ms c (NCase e xt rt alts) = Some rt
 type_read_off ms c (NCast e g) = None
 type_read_off ms c (NCon n args) = from_some (λ k. Some (NTCon (data_name n k.data_word))) (constructor ms n)
 type_read_off ms c (NPrim op es) = None
-type_read_off ms c (NFail t) = None
+type_read_off ms c (NFail t) = Some t
 type_read_off ms c (NJoin r t js e) = None
 type_read_off ms c (NJump i args) = None
 
 -- THE RELATION
 
-pub data BindersAreKinded (ms : List NModule) (c : Context) : List NBinder → Type 0 where
+pub data BindersAreKinded (ms : Modules) (c : Context) : List NBinder → Type 0 where
   no_binders : BindersAreKinded ms c []
   value_binder : {t : NTy} {bs : List NBinder} (k : Kind) → HasKind ms c.kinds t k → BindersAreKinded ms c bs → BindersAreKinded ms c (NBValue t ∷ bs)
 
 mutual
   -- an expression has a type
-  pub data HasType (ms : List NModule) : Context → NExpr → NTy → Type 0 where
-    typed_local : {c : Context} {i : ℕ} {t : NTy} → local_value c.values i ≡ Ok t → HasType ms c (NLocal i) t
+  pub data HasType (ms : Modules) : Context → NExpr → NTy → Type 0 where
+    typed_local : {c : Context} {i : ℕ} {t : NTy} → at_distance c.values i ≡ Ok t → HasType ms c (NLocal i) t
     typed_declared : {c : Context} {n : Name} {t : NTy} → value_type ms n ≡ Ok t → HasType ms c (NVar n) t
     typed_literal : {c : Context} {n : ℤ} → HasType ms c (NLit n) NTInt
     typed_application : {c : Context} {f a : NExpr} (t : NTy) {u : NTy} → HasType ms c f (NTFun t u) → HasType ms c a t
@@ -349,22 +355,23 @@ mutual
         → HasType ms (with_binds bs c) e t → HasType ms c (NLet r bs e) t
     typed_case : {c : Context} {e : NExpr} {s rt : NTy} {alts : NAlts} (j k : Kind) → HasType ms c e s → HasKind ms c.kinds s j → HasKind ms c.kinds rt k
         → AltsFit ms (with_value s c) s rt Start alts → is_value_kind k ≡ true → HasType ms c (NCase e s rt alts) rt
-    typed_con : {c : Context} {n : Name} {args : NArgs} (k : Constructor) (gs : List TypedArg) → constructor ms n ≡ Some k → ArgsAreGiven ms c args gs
+    typed_fail : {c : Context} {t : NTy} (k : Kind) → HasKind ms c.kinds t k → is_value_kind k ≡ true → HasType ms c (NFail t) t
+    typed_con : {c : Context} {n : Name} {args : NArgs} (k : Constructor) (gs : List TypedArg) → constructor ms n ≡ Some k → is_plain k ≡ true → ArgsAreGiven ms c args gs
         → is_saturated k.fields gs ≡ true → argument_types_match k.fields gs ≡ true → unlifted_arguments_are_atoms k.fields gs ≡ true
         → HasType ms c (NCon n args) (NTCon (data_name n k.data_word))
 
-  pub data ArgsAreGiven (ms : List NModule) : Context → NArgs → List TypedArg → Type 0 where
+  pub data ArgsAreGiven (ms : Modules) : Context → NArgs → List TypedArg → Type 0 where
     no_args : {c : Context} → ArgsAreGiven ms c NoNArgs []
     one_arg : {c : Context} {a : NExpr} {rest : NArgs} {t : NTy} {gs : List TypedArg} → HasType ms c a t → ArgsAreGiven ms c rest gs
         → ArgsAreGiven ms c (MoreNArgs (NATerm a) rest) (record { type = t; atom = is_atom a } ∷ gs)
 
-  pub data BindsHaveTypes (ms : List NModule) : Context → Bool → NBinds → Type 0 where
+  pub data BindsHaveTypes (ms : Modules) : Context → Bool → NBinds → Type 0 where
     no_binds : {c : Context} {r : Bool} → BindsHaveTypes ms c r NoNBinds
     one_bind : {c : Context} {r : Bool} {t : NTy} {e : NExpr} {rest : NBinds} (k : Kind) → HasKind ms c.kinds t k → is_value_kind k ≡ true → HasType ms c e t
         → atom_fits t (not r && is_atom e) ≡ true → BindsHaveTypes ms c r rest → BindsHaveTypes ms c r (MoreNBinds (NBound t e) rest)
 
   -- alternatives of result type rt fit a scrutinee of type s, behind what stands before them
-  pub data AltsFit (ms : List NModule) : Context → NTy → NTy → Before → NAlts → Type 0 where
+  pub data AltsFit (ms : Modules) : Context → NTy → NTy → Before → NAlts → Type 0 where
     no_alts : {c : Context} {s rt : NTy} {b : Before} → AltsFit ms c s rt b NoNAlts
     default_alt : {c : Context} {s rt : NTy} {b : Before} {bs : List NBinder} {e : NExpr} {rest : NAlts} → BindersAreKinded ms c bs
         → HasType ms (with_binders bs c) e rt → default_in_order b ≡ true
@@ -373,5 +380,5 @@ mutual
         → HasType ms (with_binders bs c) e rt → is_int s ≡ true → literal_in_order b n ≡ true
         → AltsFit ms c s rt (AfterLit n) rest → AltsFit ms c s rt b (MoreNAlts (NBranch (head.Lit n) bs e) rest)
     con_alt : {c : Context} {s rt : NTy} {b : Before} {bs : List NBinder} {n : Name} {e : NExpr} {rest : NAlts} (k : Constructor) → BindersAreKinded ms c bs
-        → HasType ms (with_binders bs c) e rt → constructor ms n ≡ Some k → s ≡ NTCon (data_name n k.data_word) → constructor_in_order b k.number ≡ true → binders_fit k.fields bs ≡ true
+        → HasType ms (with_binders bs c) e rt → constructor ms n ≡ Some k → is_plain k ≡ true → s ≡ NTCon (data_name n k.data_word) → constructor_in_order b k.number ≡ true → binders_fit k.fields bs ≡ true
         → AltsFit ms c s rt (AfterCon k.number) rest → AltsFit ms c s rt b (MoreNAlts (NBranch (head.Con n) bs e) rest)

@@ -1,9 +1,34 @@
 //! Laws of the definitions.
-ghost use Rattle.fc_model.specs.Laws.{KindsAreByCases, KindsAreUnique, NamelessFormsAreByCases, NamelessFormsAreUnique, SamenessIsEquality, TypesAreByCases, TypesAreReadOff, TypesAreUnique};
+ghost use Rattle.fc_model.specs.Laws.{
+  ConstructorNeedsAreLeast,
+  KindsAreByCases,
+  KindsAreUnique,
+  LintIsByCases,
+  NamelessFormsAreByCases,
+  NamelessFormsAreUnique,
+  NeedsAreLeast,
+  SamenessIsEquality,
+  TypesAreByCases,
+  TypesAreReadOff,
+  TypesAreUnique,
+};
+ghost use Rattle.fc_model.specs.SubstitutionLaws.{
+  InstantiatedWithin,
+  InstantiatingKeepsKinds,
+  KindedIsScoped,
+  MoreArgumentsKeepKinds,
+  OnlyValuesCount,
+  ShiftedBelow,
+  ShiftedIsKept,
+  ShiftingKeepsKinds,
+  SubstitutionKeepsKinds,
+  SubstitutionsCompose,
+  VariablesForThemselves,
+};
 
-/// Resolution, kinds and types as functions, which give the first fault, and as relations by cases are the same; each module has at
-/// most one nameless form, each type at most one kind and each expression at most one type, which is the one that is read off
-/// without judging premises.
+/// Resolution, kinds, types and Lint as functions, which give the first fault, and as relations by cases are the same; each module has
+/// at most one nameless form, each type at most one kind and each expression at most one type, which is the one that is read off
+/// without judging premises; the need of a parameter is the least of the roles at which it occurs.
 pub fn judgements_agree()
     ensures nameless_forms { NamelessFormsAreByCases }
     ensures one_nameless_form { NamelessFormsAreUnique }
@@ -13,4 +38,23 @@ pub fn judgements_agree()
     ensures types { TypesAreByCases }
     ensures one_type { TypesAreUnique }
     ensures read_off { TypesAreReadOff }
+    ensures needs { NeedsAreLeast }
+    ensures constructor_needs { ConstructorNeedsAreLeast }
+    ensures lint { LintIsByCases }
+{}
+
+/// Types in place of the variables of a type: only what is put in for its own variables counts, one substitution after another is one
+/// substitution, also below binders, and the whole keeps its kind where each type that is put in has the kind of its variable.
+pub fn substitution_agrees()
+    ensures only_values { OnlyValuesCount }
+    ensures themselves { VariablesForThemselves }
+    ensures compose { SubstitutionsCompose }
+    ensures shifted { ShiftedIsKept }
+    ensures below { ShiftedBelow }
+    ensures within { InstantiatedWithin }
+    ensures scoped { KindedIsScoped }
+    ensures more_arguments { MoreArgumentsKeepKinds }
+    ensures kinds { SubstitutionKeepsKinds }
+    ensures shifted_kinds { ShiftingKeepsKinds }
+    ensures instantiated_kinds { InstantiatingKeepsKinds }
 {}

@@ -34,7 +34,7 @@ pub enum Kind {
 }
 
 /// A role: how much a use of a type distinguishes (GHC's roles, "Safe zero-cost coercions for Haskell").
-#[derive(Clone, Copy, Debug, PartialEq, Eq)]
+#[derive(Clone, Copy, Debug, PartialEq, Eq, Hash)]
 pub enum Role {
     /// Nominal: equal names.
     N,

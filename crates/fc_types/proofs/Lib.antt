@@ -1,2 +1,3 @@
 pub mod FirstDeclared
 pub mod FirstPuts
+pub mod LocalKinds

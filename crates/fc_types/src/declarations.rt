@@ -29,8 +29,9 @@ impl<'a> Declarations<'a> {
     ghost use Rattle.fc_types.specs.ModuleViews.{modules_of};
 
     /// The declarations of a module. Fails only where memory runs out.
+    #[tactic(auto, unfolding(crate::specs::ModuleViews::modules_of))]
     pub fn new(alloc: Global, m: &'a NModule) -> Result<Declarations<'a>, Memory>
-        ensures { IfOk result (λ d. modules_of d ≡ nmodule_of m.now ∷ []) }
+        ensures { IfOk result (λ d. modules_of d ≡ decls_at (nmodule_of m.now ∷ [])) }
     {
         let decls = m.decls.as_slice();
         let types = types_by_word(alloc, decls)?;
@@ -45,8 +46,9 @@ impl<'a> Declarations<'a> {
     }
 
     /// Whether a name is one of this module's.
+    #[tactic(auto, unfolding(crate::specs::ModuleViews::modules_of))]
     fn has_module_of(&self, name: &Name) -> bool
-        ensures { decls_at (modules_of self.now) name.now.module ≡ (if result then ndecls_of self.now.module.now.decls else []) }
+        ensures { modules_of self.now name.now.module ≡ (if result then ndecls_of self.now.module.now.decls else []) }
     {
         match &name.module {
             None => false,
@@ -56,7 +58,7 @@ impl<'a> Declarations<'a> {
 
     /// The type of a name: a data type, a newtype or a family. Takes no memory.
     pub fn type_named(&self, name: &Name) -> Option<&NDecl>
-        ensures { option_map (λ d. ndecl_of d.now) result ≡ type_decl (decls_at (modules_of self.now) name.now.module) name.now.text }
+        ensures { option_map (λ d. ndecl_of d.now) result ≡ type_decl (modules_of self.now name.now.module) name.now.text }
     {
         if !self.has_module_of(name) {
             return None;

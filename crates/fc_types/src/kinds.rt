@@ -33,7 +33,7 @@ pub fn is_value_kind(kind: &Kind) -> bool
 
 /// Whether a kind is `*`. Takes no memory.
 #[tactic(auto, using(fc_syntax::proofs::View::view_rules))]
-fn is_star(kind: &Kind) -> bool
+pub fn is_star(kind: &Kind) -> bool
     ensures { result ≡ words.is_star (kind_of kind.now) }
 {
     match kind {
@@ -45,7 +45,7 @@ fn is_star(kind: &Kind) -> bool
 
 /// Whether a kind has no `#`. Takes no memory.
 #[tactic(auto, using(fc_syntax::proofs::View::view_rules))]
-fn is_lifted(kind: &Kind) -> bool
+pub fn is_lifted(kind: &Kind) -> bool
     ensures { result ≡ words.is_lifted (kind_of kind.now) }
 {
     match kind {

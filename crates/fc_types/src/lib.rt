@@ -9,7 +9,7 @@ mod sameness;
 mod tables;
 
 pub use declarations::Declarations;
-pub use kind_scope::Kinds;
-pub use kinds::{is_value_kind, kind, kind_of_part};
+pub use kind_scope::{Kinds, LocalKind};
+pub use kinds::{is_lifted, is_star, is_value_kind, kind, kind_of_part};
 pub use sameness::{same_kind, same_name, same_type, same_word};
 pub use tables::DeclaredCon;

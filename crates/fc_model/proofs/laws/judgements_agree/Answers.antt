@@ -1,4 +1,6 @@
 use Rattle.fc_model.proofs.KindedIs.{kind_is, kind_is_one}
+use Rattle.fc_model.proofs.LintedIs.{lint_is}
+use Rattle.fc_model.proofs.NeedsAre.{need_is, need_is_in_cons}
 use Rattle.fc_model.proofs.ResolvedModulesAre.{a_module_has_one_nameless_form, resolves_iff}
 use Rattle.fc_model.proofs.Sameness.{same_type_is}
 use Rattle.fc_model.proofs.TypedIs.{type_is, type_is_one}
@@ -28,3 +30,12 @@ returns-clause-one_type c = type_is_one
 
 pub returns-clause-read_off : goal.returns-clause-read_off
 returns-clause-read_off c ms d e t typed = type_is_read_off ms typed
+
+pub returns-clause-needs : goal.returns-clause-needs
+returns-clause-needs c = need_is
+
+pub returns-clause-constructor_needs : goal.returns-clause-constructor_needs
+returns-clause-constructor_needs c = need_is_in_cons
+
+pub returns-clause-lint : goal.returns-clause-lint
+returns-clause-lint c = lint_is

@@ -1,0 +1,88 @@
+//! The type variables of declarations: their kinds, and their roles.
+ghost use Rattle.std.specs.Prelude.{◌≡◌, ◌++◌, [], ◌∷◌, Ok, IfOk, OnOk};
+ghost use Rattle.fc_syntax.specs.View.{kind_of};
+ghost use Rattle.fc_syntax.specs.Roles.{role_below};
+ghost use Rattle.fc_syntax.specs.declared.fault.FaultKind.TheVariants.{RoleTooWeak, UnliftedVariable};
+ghost use Rattle.fc_model.specs.Faulting.{need, under};
+ghost use Rattle.fc_model.specs.Kinding as kinds;
+ghost use Rattle.fc_model.specs.Kinding.{param_kinds};
+ghost use Rattle.fc_model.specs.Linting.{done, roles_judged, variables_judged};
+ghost use Rattle.fc_model.specs.NamelessView.{nparams_of, nplains_of};
+ghost use Rattle.fc_model.specs.Says.{Says};
+ghost use Rattle.fc_types.specs.KindViews.{own_kinds};
+ghost use Rattle.fc_roles.specs.NeedViews.{need_at};
+
+use fc_model::{Flawed, deeper, flaw_here, next_part};
+use fc_roles::Needs;
+use fc_syntax::{FaultKind, Kind, Memory, Param, Plain, Role, Seq};
+use fc_types::{LocalKind, is_lifted};
+use std::alloc::Global;
+
+/// The kinds of parameters with roles, in their order. Fails only where memory runs out.
+pub fn kinds_of_params<'a>(alloc: Global, params: &'a [Param]) -> Result<Seq<LocalKind<'a>>, Memory>
+    ensures { IfOk result (λ ks. own_kinds ks ≡ param_kinds (nparams_of params.now)) }
+{
+    let mut kinds = Seq::new(alloc);
+    for param in params {
+        kinds.push(LocalKind { kind: &param.kind })?;
+    }
+    Ok(kinds)
+}
+
+/// The kinds of parameters without roles, in their order. Fails only where memory runs out.
+pub fn kinds_of_plains<'a>(alloc: Global, params: &'a [Plain]) -> Result<Seq<LocalKind<'a>>, Memory>
+    ensures { IfOk result (λ ks. own_kinds ks ≡ nplains_of params.now) }
+{
+    let mut kinds = Seq::new(alloc);
+    for param in params {
+        kinds.push(LocalKind { kind: &param.kind })?;
+    }
+    Ok(kinds)
+}
+
+/// The type variable that is the part of this number: `UnliftedVariable` where its kind has `#`.
+fn lint_variable(alloc: Global, kind: &Kind, part: u32) -> Result<(), Flawed>
+    ensures { Says (λ _. done) result (under part (need (kinds.is_lifted (kind_of kind.now)) UnliftedVariable (Ok done))) }
+{
+    if is_lifted(kind) {
+        Ok(())
+    } else {
+        Err(deeper(flaw_here(alloc, FaultKind::UnliftedVariable), part))
+    }
+}
+
+/// The type variables of a declaration, which are its first parts; the number of the part behind them.
+pub fn lint_variables(alloc: Global, variables: &[LocalKind]) -> Result<u32, Flawed>
+    ensures { Says (λ i. i) result (variables_judged 0 (own_kinds variables.now)) }
+{
+    let mut part = 0u32;
+    for variable in variables {
+        lint_variable(alloc, variable.kind, part)?;
+        part = next_part(part)?;
+    }
+    Ok(part)
+}
+
+/// The role of the parameter that is the part of this number: `RoleTooWeak` where it is above the parameter's need.
+fn lint_role(alloc: Global, role: Role, needed: Role, part: u32) -> Result<(), Flawed>
+    ensures { Says (λ _. done) result (under part (need (role_below role needed) RoleTooWeak (Ok done))) }
+{
+    if role.below(needed) {
+        Ok(())
+    } else {
+        Err(deeper(flaw_here(alloc, FaultKind::RoleTooWeak), part))
+    }
+}
+
+/// The roles of the parameters of a declaration, which are its first parts.
+pub fn lint_roles(alloc: Global, params: &[Param], needs: &Needs) -> Result<(), Flawed>
+    ensures { Says (λ _. done) result (roles_judged (need_at needs.now) 0 (nparams_of params.now)) }
+{
+    let mut part = 0u32;
+    for (number, param) in params.iter().enumerate() {
+        let needed = needs.of(params.len() - 1 - number);
+        lint_role(alloc, param.role, needed, part)?;
+        part = next_part(part)?;
+    }
+    Ok(())
+}

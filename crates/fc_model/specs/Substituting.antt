@@ -1,0 +1,62 @@
+-- Types in place of the variables of a type. A type that is put in below binders keeps its own variables: they are shifted past the
+-- binders, so that none is captured.
+use Rattle.std.specs.Prelude.{ℕ, zero, suc, ◌<◌}
+use Rattle.fc_model.specs.Nameless.{NTy, NTVar, NTCon, NTInt, NTApp, NTFun, NTForall, NTCoForall}
+
+-- VARIABLES IN PLACE OF VARIABLES
+
+-- below one binder more, whose variable stays
+abbrev pub renaming_below : (ℕ → ℕ) → ℕ → ℕ
+renaming_below r zero = zero
+renaming_below r (suc i) = suc (r i)
+
+abbrev pub renamed_type : (ℕ → ℕ) → NTy → NTy
+renamed_type r (NTVar i) = NTVar (r i)
+renamed_type r (NTCon n) = NTCon n
+renamed_type r NTInt = NTInt
+renamed_type r (NTApp t u) = NTApp (renamed_type r t) (renamed_type r u)
+renamed_type r (NTFun t u) = NTFun (renamed_type r t) (renamed_type r u)
+renamed_type r (NTForall k t) = NTForall k (renamed_type (renaming_below r) t)
+renamed_type r (NTCoForall o t u v) = NTCoForall o (renamed_type r t) (renamed_type r u) (renamed_type r v)
+
+-- a type past one binder more of a type variable
+abbrev pub shifted_type : NTy → NTy
+shifted_type t = renamed_type suc t
+
+-- TYPES IN PLACE OF VARIABLES
+
+-- below one binder more, whose variable stays
+abbrev pub types_below : (ℕ → NTy) → ℕ → NTy
+types_below s zero = NTVar zero
+types_below s (suc i) = shifted_type (s i)
+
+-- all variables at once, each by its type
+abbrev pub substituted_type : (ℕ → NTy) → NTy → NTy
+substituted_type s (NTVar i) = s i
+substituted_type s (NTCon n) = NTCon n
+substituted_type s NTInt = NTInt
+substituted_type s (NTApp t u) = NTApp (substituted_type s t) (substituted_type s u)
+substituted_type s (NTFun t u) = NTFun (substituted_type s t) (substituted_type s u)
+substituted_type s (NTForall k t) = NTForall k (substituted_type (types_below s) t)
+substituted_type s (NTCoForall o t u v) = NTCoForall o (substituted_type s t) (substituted_type s u) (substituted_type s v)
+
+-- a type for the innermost variable; the others stand one binder further in than what they refer to
+abbrev pub type_for_innermost : NTy → ℕ → NTy
+type_for_innermost u zero = u
+type_for_innermost u (suc i) = NTVar i
+
+-- the body of a `forall` at a type
+abbrev pub instantiated : NTy → NTy → NTy
+instantiated u t = substituted_type (type_for_innermost u) t
+
+-- WHERE VARIABLES STAND
+
+-- each variable has a binder in the type, or is one of this many outside
+abbrev pub IsScopedType : ℕ → NTy → Type 0
+IsScopedType n (NTVar i) = i < n
+IsScopedType n (NTCon c) = Unit {0}
+IsScopedType n NTInt = Unit {0}
+IsScopedType n (NTApp t u) = IsScopedType n t × IsScopedType n u
+IsScopedType n (NTFun t u) = IsScopedType n t × IsScopedType n u
+IsScopedType n (NTForall k t) = IsScopedType (suc n) t
+IsScopedType n (NTCoForall o t u v) = IsScopedType n t × IsScopedType n u × IsScopedType n v

@@ -1,0 +1,16 @@
+//! Types in a table in which equal types have equal numbers. What is done to a type is done once for each part that types share, so
+//! that a type whose tree is far larger than the text that it was written with costs no more than that text.
+#![tactic(auto)]
+
+mod building;
+mod closing;
+mod kinds;
+mod node;
+mod opening;
+mod parts;
+mod reading;
+mod spot;
+mod table;
+
+pub use node::TypeId;
+pub use table::TypeTable;

@@ -1,0 +1,159 @@
+//! The nodes of a table.
+ghost use Rattle.std.specs.Prelude.{◌≡◌, ◌+◌, ◌-◌, max, IfOk};
+ghost use Rattle.std.specs.Option.{option_map};
+ghost use Rattle.fc_type_table.specs.Names.{name_from, name_of};
+
+use fc_syntax::{Memory, Role, Text};
+
+/// The most that parts of a type in a table nest. A type that would be deeper is answered as out of memory, so that a walk over
+/// a type keeps off the end of the stack.
+pub(crate) const DEEPEST: u32 = 10_000;
+
+/// A type by its number in a table.
+#[derive(Clone, Copy, Debug, PartialEq, Eq, Hash)]
+pub struct TypeId(pub(crate) u32);
+
+/// A name of a type.
+#[derive(Clone, Copy, PartialEq, Eq, Hash)]
+pub struct NameKey<'a> {
+    /// The module before the dot, `None` for a word without a dot.
+    pub module: Option<&'a str>,
+    /// The word itself.
+    pub text: &'a str,
+}
+
+impl<'a> NameKey<'a> {
+    /// The key of a name: the module before the dot, if there is one, and the word itself. Takes no memory.
+    pub fn new(qualifier: Option<&'a Text>, text: &'a Text) -> NameKey<'a>
+        ensures { name_of result ≡ name_from (option_map (λ w. w.now) qualifier.entry) text.now }
+    {
+        NameKey {
+            module: qualifier.map(Text::as_str),
+            text: text.as_str(),
+        }
+    }
+}
+
+/// One piece of a type or of a kind, whose parts have numbers.
+#[derive(Clone, Copy, PartialEq, Eq, Hash)]
+pub enum Piece<'a> {
+    /// The kind `*`.
+    Star,
+    /// The kind `#`.
+    Hash,
+    /// The kind of what goes from the first kind to the second.
+    Arrow(TypeId, TypeId),
+    /// A variable that a `forall` of the type binds, by its distance to its binder.
+    Bound(u32),
+    /// A variable of the context, by its place there, counted from the outermost.
+    Free(u32),
+    /// A data type, newtype or family.
+    Con(NameKey<'a>),
+    /// `Int#`.
+    IntHash,
+    /// A type applied to one type.
+    App(TypeId, TypeId),
+    /// Functions from the first type to the second.
+    Fun(TypeId, TypeId),
+    /// A `forall` over a variable of the kind.
+    Forall(TypeId, TypeId),
+    /// The type of what takes a coercion between the first two types.
+    CoForall(Role, TypeId, TypeId, TypeId),
+}
+
+/// What is kept of each type, so that a walk sees at once where it has nothing to do.
+#[derive(Clone, Copy, PartialEq, Eq, Hash)]
+pub struct Measure {
+    /// How deep the type is.
+    pub depth: u32,
+    /// Each index that is bound outside the type is below this: 0 where there is none.
+    pub loose: u32,
+    /// Each place of a variable of the context is below this: 0 where there is none.
+    pub levels: u32,
+}
+
+impl Measure {
+    /// Of a piece without parts and without variables.
+    pub fn leaf() -> Measure
+        ensures { result ≡ record { depth = 0; loose = 0; levels = 0 } }
+    {
+        Measure {
+            depth: 0,
+            loose: 0,
+            levels: 0,
+        }
+    }
+
+    /// Of a variable that a `forall` binds.
+    pub fn bound(index: u32) -> Result<Measure, Memory>
+        ensures { IfOk result (λ m. m ≡ record { depth = 0; loose = index + 1; levels = 0 }) }
+    {
+        match index.checked_add(1) {
+            Some(loose) => Ok(Measure {
+                depth: 0,
+                loose,
+                levels: 0,
+            }),
+            None => Err(Memory),
+        }
+    }
+
+    /// Of a variable of the context.
+    pub fn free(level: u32) -> Result<Measure, Memory>
+        ensures { IfOk result (λ m. m ≡ record { depth = 0; loose = 0; levels = level + 1 }) }
+    {
+        match level.checked_add(1) {
+            Some(levels) => Ok(Measure {
+                depth: 0,
+                loose: 0,
+                levels,
+            }),
+            None => Err(Memory),
+        }
+    }
+
+    /// Of two parts together.
+    pub fn beside(self, other: Measure) -> Measure
+        ensures { result ≡ record { depth = max self.depth other.depth; loose = max self.loose other.loose; levels = max self.levels other.levels } }
+    {
+        Measure {
+            depth: self.depth.max(other.depth),
+            loose: self.loose.max(other.loose),
+            levels: self.levels.max(other.levels),
+        }
+    }
+
+    /// Of a body behind the binder of a variable of a kind.
+    pub fn behind(self, kind: Measure) -> Measure
+        ensures { result ≡ record { depth = max kind.depth self.depth; loose = self.loose - 1; levels = self.levels } }
+    {
+        Measure {
+            depth: kind.depth.max(self.depth),
+            loose: self.loose.saturating_sub(1),
+            levels: self.levels,
+        }
+    }
+
+    /// Of a piece with these parts.
+    pub fn around(self) -> Result<Measure, Memory>
+        ensures { IfOk result (λ m. m ≡ record { depth = self.depth + 1; loose = self.loose; levels = self.levels }) }
+    {
+        if self.depth >= DEEPEST {
+            return Err(Memory);
+        }
+        Ok(Measure {
+            depth: self.depth + 1,
+            loose: self.loose,
+            levels: self.levels,
+        })
+    }
+}
+
+/// A piece, and what is kept of the type that it is the outermost piece of.
+#[derive(Clone, Copy, PartialEq, Eq, Hash)]
+pub struct Node<'a> {
+    /// The piece.
+    pub piece: Piece<'a>,
+    /// What is kept of the type.
+    pub measure: Measure,
+}
