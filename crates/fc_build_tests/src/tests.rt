@@ -280,12 +280,12 @@ fn a_module_is_refused_as_a_whole_behind_its_form_and_before_its_names(
         ),
         // imports count before forms
         (
-            b"(module M (imports N) (exports) (family F () *))",
+            b"(module M (imports N) (exports) (def x T (letrec ((z T z)) z)))",
             b"refused 12 ImportUnknown M - -\n",
         ),
         // forms count before names
         (
-            b"(module M (imports) (exports) (family F () *) (def f T x))",
+            b"(module M (imports) (exports) (def f T (letrec ((z T z)) x)))",
             b"refused 3 BadForm M.fc - -\n",
         ),
         // a name in a module that is not imported
