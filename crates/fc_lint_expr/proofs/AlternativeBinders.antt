@@ -1,14 +1,15 @@
 -- The binders of an alternative, one after the other.
-use Rattle.std.proofs.Common.{◌≡◌, refl, ap, ◌∙◌, ◌+◌, ◌&&◌, ℕ, Bool, true, false, Result, Ok, Err, List, [], ◌∷◌, length, arith}
+use Rattle.std.proofs.Common.{◌≡◌, refl, sym, ap, ◌∙◌, ◌+◌, ◌&&◌, ℕ, Bool, true, false, Result, Ok, Err, List, [], ◌∷◌, length, arith}
 use Rattle.std.proofs.lemmas.Grind.{common_steps}
-use Rattle.fc_syntax.specs.declared.expr.Binder as B
-use Rattle.fc_syntax.specs.declared.ty.Ty as T
 use Rattle.fc_model.specs.Faulting.{F, and_then, under}
-use Rattle.fc_model.specs.Kinding.{Modules, kind_or_fault}
+use Rattle.fc_model.specs.Kinding.{Modules, kind_or_fault, same_type}
 use Rattle.fc_model.specs.Nameless.{NTy, NBinder, NBValue, NBType, NBCo}
-use Rattle.fc_model.specs.NamelessView.{nbinder_of, nbinders_of, nty_of, ntys_of}
-use Rattle.fc_model.specs.Typing.{Context, binders_fit, binders_judged}
-use Rattle.fc_lint_expr.specs.AltViews.{binder_judged, binder_takes}
+use Rattle.fc_model.specs.Typing.{Context, binder_types, binders_fit, binders_judged}
+use Rattle.fc_lint_expr.specs.AltViews.{binder_judged, value_binders}
+use Rattle.fc_type_table.specs.declared.node.Node.{Node}
+use Rattle.fc_type_table.specs.declared.node.TypeId.{TypeId}
+use Rattle.fc_lint_expr.proofs.Numbers.{length-shown_all, step_rules}
+use Rattle.fc_lint_expr.specs.Numbers.{shown_all_at}
 
 then_ok : {X : Type 0} (r : Result X F) (i j : ℕ) (rest : ℕ → Result ℕ F) → and_then {Y = ℕ} r (λ _. Ok i) ≡ Ok j → and_then r (λ _. rest i) ≡ rest j
 then_ok (Ok t) i j rest h = grind (arith, common_steps)
@@ -33,22 +34,36 @@ binders_err ms c i (NBCo r t u) bs f h = grind (arith, common_steps)
 
 pub ruleset binder_rules = (binders_ok, binders_err)
 
--- the fields are taken where each binder takes its own
-pub fits_more : (t : NTy) (ts : List NTy) (b : NBinder) (bs : List NBinder) → binders_fit (t ∷ ts) (b ∷ bs) ≡ binder_takes t b && binders_fit ts bs
-fits_more t ts (NBValue u) bs = refl
-fits_more t ts (NBType k) bs = refl
-fits_more t ts (NBCo r u v) bs = refl
+-- only the kinds of the context count
+pub binders_alike : (ms : Modules) (c d : Context) (i : ℕ) (bs : List NBinder) → c.kinds ≡ d.kinds → binders_judged ms c i bs ≡ binders_judged ms d i bs
+binders_alike ms c d i [] e = refl
+binders_alike ms c d i (NBValue t ∷ bs) e = rw (e, binders_alike ms c d (i + 1) bs e) refl
+binders_alike ms c d i (NBType k ∷ bs) e = refl
+binders_alike ms c d i (NBCo r t u ∷ bs) e = refl
 
+behind_ok : {X : Type 0} (r : Result X F) (rest : Result ℕ F) (j : ℕ) → and_then {Y = ℕ} r (λ _. rest) ≡ Ok j → rest ≡ Ok j
+behind_ok (Ok x) rest j h = h
+behind_ok (Err f) rest j h = cc
+
+-- binders that are judged well are of values
+pub binders_are : (ms : Modules) (c : Context) (i j : ℕ) (bs : List NBinder) → binders_judged ms c i bs ≡ Ok j → bs ≡ value_binders (binder_types bs)
+binders_are ms c i j [] h = refl
+binders_are ms c i j (NBValue t ∷ bs) h = ap (λ xs. NBValue t ∷ xs) (binders_are ms c (i + 1) j bs (behind_ok (under i (under 0 (kind_or_fault ms c.kinds t))) (binders_judged ms c (i + 1) bs) j h))
+binders_are ms c i j (NBType k ∷ bs) h = cc
+binders_are ms c i j (NBCo r t u ∷ bs) h = cc
+
+-- the fields are taken where there are as many binders
 and_false : (b : Bool) → b && false ≡ false
 and_false true = refl
 and_false false = refl
 
--- and where they are as many
-pub fits_as_many : (ts : List (T.Ty ℕ)) (bs : List (B.Binder ℕ)) → (length ts ≡ length bs → ⊥) → binders_fit (ntys_of ts) (nbinders_of bs) ≡ false
+fits_as_many : (ts us : List NTy) → (length ts ≡ length us → ⊥) → binders_fit ts (value_binders us) ≡ false
 fits_as_many [] [] h = absurd (h refl)
-fits_as_many [] (b ∷ bs) h = refl
+fits_as_many [] (u ∷ us) h = refl
 fits_as_many (t ∷ ts) [] h = refl
-fits_as_many (t ∷ ts) (b ∷ bs) h =
-    fits_more (nty_of t) (ntys_of ts) (nbinder_of b) (nbinders_of bs) ∙ ap (λ r. binder_takes (nty_of t) (nbinder_of b) && r) (fits_as_many ts bs (λ e. h (omega arith))) ∙ and_false (binder_takes (nty_of t) (nbinder_of b))
+fits_as_many (t ∷ ts) (u ∷ us) h = ap (λ r. same_type t u && r) (fits_as_many ts us (λ e. h (omega arith))) ∙ and_false (same_type t u)
 
-pub ruleset fit_rules = (fits_more, fits_as_many)
+pub numbers_as_many : (ns : List Node) (n : ℕ) (ids us : List TypeId) → (length ids ≡ length us → ⊥) → binders_fit (shown_all_at ns n ids) (value_binders (shown_all_at ns n us)) ≡ false
+numbers_as_many ns n ids us h = fits_as_many (shown_all_at ns n ids) (shown_all_at ns n us) (λ e. h (sym (length-shown_all ns n ids) ∙ e ∙ length-shown_all ns n us))
+
+pub ruleset fit_rules = (numbers_as_many, step_rules)

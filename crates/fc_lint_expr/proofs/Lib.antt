@@ -1,3 +1,10 @@
 pub mod AlternativeBinders
+pub mod Closed
+pub mod Contexts
+pub mod Declared
+pub mod Fields
+pub mod Functions
 pub mod Givens
 pub mod LocalTypes
+pub mod Numbers
+pub mod Turns

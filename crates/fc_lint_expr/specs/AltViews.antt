@@ -1,10 +1,10 @@
 -- What stands before an alternative, and the judgements of an alternative's parts one by one.
-use Rattle.std.specs.Prelude.{ℕ, ◌+◌, Bool, false, List, [], Option, None, Result, Ok, Err}
+use Rattle.std.specs.Prelude.{ℕ, ◌+◌, List, [], ◌∷◌, Option, None, Result, Ok, Err}
 use Rattle.fc_syntax.specs.Tree.{Kind}
 use Rattle.fc_syntax.specs.declared.ty.Name.{Name}
 use Rattle.fc_syntax.specs.declared.fault.FaultKind.TheVariants.{BadForm, AltConstructor, AltOrder, ConArity}
 use Rattle.fc_model.specs.Faulting.{F, At, and_then, need, under}
-use Rattle.fc_model.specs.Kinding.{Modules, kind_or_fault, same_type}
+use Rattle.fc_model.specs.Kinding.{Modules, kind_or_fault}
 use Rattle.fc_model.specs.Nameless.{NTy, NBinder, NBValue, NBType, NBCo}
 use Rattle.fc_model.specs.Typing as words
 use Rattle.fc_model.specs.Typing.{Constructor, binders_fit, con_fields, constructor_in_order, con_number, is_con_of, is_con_plain}
@@ -23,11 +23,10 @@ binder_judged ms ks i (NBValue t) = and_then (under i (under 0 (kind_or_fault ms
 binder_judged ms ks i (NBType k) = Err (At BadForm None [])
 binder_judged ms ks i (NBCo r t u) = Err (At BadForm None [])
 
--- whether a binder stands for a field of this type
-abbrev pub binder_takes : NTy → NBinder → Bool
-binder_takes t (NBValue u) = same_type t u
-binder_takes t (NBType k) = false
-binder_takes t (NBCo r u v) = false
+-- binders of values of these types
+abbrev pub value_binders : List NTy → List NBinder
+value_binders [] = []
+value_binders (t ∷ ts) = NBValue t ∷ value_binders ts
 
 -- the alternative of a constructor of this name
 abbrev pub constructor_judged : NTy → words.Before → Name → Option Constructor → List NBinder → Result words.Before F

@@ -1,2 +1,4 @@
+pub mod ClosedTypes
 pub mod Judged
 pub mod Params
+pub mod RightSides

@@ -1,5 +1,5 @@
 //! The types and the right sides of definitions.
-ghost use Rattle.std.specs.Prelude.{[]};
+ghost use Rattle.std.specs.Prelude.{[], OnOk};
 ghost use Rattle.fc_model.specs.Declaring.{ndecl_word};
 ghost use Rattle.fc_model.specs.Faulting.{and_then, under, within};
 ghost use Rattle.fc_model.specs.Kinding.{kind_or_fault};
@@ -9,11 +9,14 @@ ghost use Rattle.fc_model.specs.NamelessView.{ndecl_of, ndecls_of, nexpr_of, nty
 ghost use Rattle.fc_model.specs.Says.{Says};
 ghost use Rattle.fc_syntax.specs.View.{kind_of};
 ghost use Rattle.fc_types.specs.ModuleViews.{modules_of};
+ghost use Rattle.fc_type_table.specs.TypeTables.{nodes_of};
+ghost use Rattle.fc_lint_expr.specs.DeclaredViews.{AreConstructorsClosed, AreDefinitionsClosed, AreRead, modules_read};
 
-use fc_lint_expr::lint;
+use fc_lint_expr::{DeclaredTypes, has_type};
 use fc_model::{Flawed, deeper, flaw_here, in_declaration, word_of};
 use fc_syntax::{FaultKind, Kind, NDecl, NExpr, NTy};
-use fc_types::{Declarations, Kinds, kind_of_part, same_type};
+use fc_type_table::TypeTable;
+use fc_types::{Declarations, Kinds, kind_of_part};
 use std::alloc::Global;
 
 /// The kind of the type of a definition: `UnliftedTop` at `#`, and `NotAType` at a kind with an arrow.
@@ -80,55 +83,92 @@ pub fn lint_definition_types(
 }
 
 /// The right side of a definition of this type.
-fn lint_right_side(alloc: Global, t: &NTy, e: &NExpr, declared: &Declarations) -> Result<(), Flawed>
-    ensures { Says (λ _. done) result (right_side_judged (modules_of declared.now) (nty_of t.now) (nexpr_of e.now)) }
+#[tactic(auto, using(crate::proofs::RightSides::right_rules))]
+fn lint_right_side<'a>(
+    alloc: Global,
+    t: &'a NTy,
+    e: &'a NExpr,
+    types: &mut TypeTable<'a>,
+    declared: &DeclaredTypes<'_, 'a>,
+) -> Result<(), Flawed>
+    requires { AreRead (nodes_of types.old) declared.now }
+    ensures says { Says (λ _. done) result (right_side_judged (modules_read declared.now) (nty_of t.now) (nexpr_of e.now)) }
+    ensures read { OnOk result (AreRead (nodes_of types.new) declared.now) }
 {
-    let u = match lint(alloc, e, declared) {
-        Ok(u) => u,
-        Err(flawed) => return Err(deeper(flawed, 1)),
-    };
-    if same_type(t, &u) {
-        Ok(())
-    } else {
-        Err(flaw_here(alloc, FaultKind::DefType))
+    match has_type(alloc, e, t, types, declared) {
+        Ok(true) => Ok(()),
+        Ok(false) => Err(flaw_here(alloc, FaultKind::DefType)),
+        Err(flawed) => Err(deeper(flawed, 1)),
     }
 }
 
 /// The right side of a declaration that has one.
-fn lint_right(alloc: Global, decl: &NDecl, declared: &Declarations) -> Result<(), Flawed>
-    ensures { Says (λ _. done) result (right_judged (modules_of declared.now) (ndecl_of decl.now)) }
+fn lint_right<'a>(
+    alloc: Global,
+    decl: &'a NDecl,
+    types: &mut TypeTable<'a>,
+    declared: &DeclaredTypes<'_, 'a>,
+) -> Result<(), Flawed>
+    requires { AreRead (nodes_of types.old) declared.now }
+    ensures says { Says (λ _. done) result (right_judged (modules_read declared.now) (ndecl_of decl.now)) }
+    ensures read { OnOk result (AreRead (nodes_of types.new) declared.now) }
 {
     match decl {
-        NDecl::Def(_, t, e) => lint_right_side(alloc, t, e, declared),
+        NDecl::Def(_, t, e) => lint_right_side(alloc, t, e, types, declared),
         NDecl::DataType(_, _, _) => Ok(()),
         NDecl::NewType(_, _, _, _) => Ok(()),
         NDecl::Family(_, _, _) => Ok(()),
         NDecl::Axiom(_, _, _, _) => Ok(()),
-        NDecl::Wrap(_, t, e) => lint_right_side(alloc, t, e, declared),
+        NDecl::Wrap(_, t, e) => lint_right_side(alloc, t, e, types, declared),
     }
 }
 
 /// The same, with the word of the declaration in a flaw.
 #[tactic(auto, using(fc_model::proofs::Declares::bare_decl_word))]
-fn lint_right_within(alloc: Global, decl: &NDecl, declared: &Declarations) -> Result<(), Flawed>
-    ensures { Says (λ _. done) result (within (ndecl_word (ndecl_of decl.now)) (right_judged (modules_of declared.now) (ndecl_of decl.now))) }
+fn lint_right_within<'a>(
+    alloc: Global,
+    decl: &'a NDecl,
+    types: &mut TypeTable<'a>,
+    declared: &DeclaredTypes<'_, 'a>,
+) -> Result<(), Flawed>
+    requires { AreRead (nodes_of types.old) declared.now }
+    ensures says { Says (λ _. done) result (within (ndecl_word (ndecl_of decl.now)) (right_judged (modules_read declared.now) (ndecl_of decl.now))) }
+    ensures read { OnOk result (AreRead (nodes_of types.new) declared.now) }
 {
-    match lint_right(alloc, decl, declared) {
+    match lint_right(alloc, decl, types, declared) {
         Ok(()) => Ok(()),
         Err(flawed) => Err(in_declaration(alloc, flawed, word_of(decl))),
     }
 }
 
-/// The right sides of the definitions of a module, in their order: the faults of `lint` there, and `DefType`.
-pub fn lint_right_sides(
+/// The same of each declaration, in their order.
+fn lint_rights<'a>(
     alloc: Global,
-    decls: &[NDecl],
-    declared: &Declarations,
+    decls: &'a [NDecl],
+    types: &mut TypeTable<'a>,
+    declared: &DeclaredTypes<'_, 'a>,
 ) -> Result<(), Flawed>
-    ensures { Says (λ _. done) result (rights_judged (modules_of declared.now) (ndecls_of decls.now)) }
+    requires { AreRead (nodes_of types.old) declared.now }
+    ensures { Says (λ _. done) result (rights_judged (modules_read declared.now) (ndecls_of decls.now)) }
 {
     for decl in decls {
-        lint_right_within(alloc, decl, declared)?;
+        lint_right_within(alloc, decl, types, declared)?;
     }
     Ok(())
+}
+
+/// The right sides of the definitions of a module, in their order: the faults of `lint` there, and `DefType`. The types of the
+/// definitions and the fields of the constructors were judged before, so that none has a variable of another.
+pub fn lint_right_sides<'a>(
+    alloc: Global,
+    decls: &'a [NDecl],
+    declared: &Declarations<'a>,
+) -> Result<(), Flawed>
+    requires definitions { AreDefinitionsClosed (modules_of declared.now) }
+    requires constructors { AreConstructorsClosed (modules_of declared.now) }
+    ensures { Says (λ _. done) result (rights_judged (modules_of declared.now) (ndecls_of decls.now)) }
+{
+    let mut types = TypeTable::new(alloc);
+    let read = DeclaredTypes::new(alloc, declared, &mut types)?;
+    lint_rights(alloc, decls, &mut types, &read)
 }

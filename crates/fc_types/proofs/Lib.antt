@@ -1,3 +1,4 @@
+pub mod ByNumber
 pub mod FirstDeclared
 pub mod FirstPuts
 pub mod LocalKinds

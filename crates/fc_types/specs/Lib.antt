@@ -1,6 +1,7 @@
 pub mod Codes
 pub mod FirstDeclared
 pub mod KindViews
+pub mod Listed
 pub mod ModuleViews
 pub mod TableViews
 pub mod Tables

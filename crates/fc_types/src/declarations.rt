@@ -1,6 +1,6 @@
 //! The declarations of a module, found by their words.
-ghost use Rattle.std.specs.Prelude.{◌≡◌, [], ◌∷◌, IfOk, if◌then◌else◌};
-ghost use Rattle.std.specs.Option.{option_map};
+ghost use Rattle.std.specs.Prelude.{◌≡◌, [], ◌∷◌, length, slice_get, IfOk, IfSome, if◌then◌else◌};
+ghost use Rattle.std.specs.Option.{option_and_then, option_map};
 ghost use Rattle.fc_model.specs.Kinding.{decls_at, type_decl};
 ghost use Rattle.fc_model.specs.NamelessView.{ndecl_of, ndecls_of, nmodule_of, nty_of};
 ghost use Rattle.fc_model.specs.Typing.{constructor, value_type};
@@ -26,6 +26,7 @@ pub struct Declarations<'a> {
 }
 
 impl<'a> Declarations<'a> {
+    ghost use Rattle.fc_types.specs.Listed.{IsConstructor, IsDefinitionType, constructors_in, definition_types};
     ghost use Rattle.fc_types.specs.ModuleViews.{modules_of};
 
     /// The declarations of a module. Fails only where memory runs out.
@@ -93,5 +94,62 @@ impl<'a> Declarations<'a> {
             None => None,
             Some(con) => Some(*con),
         }
+    }
+    /// How many words have a definition. Takes no memory.
+    #[tactic(auto, unfolding(crate::specs::Listed::definition_types))]
+    pub fn definition_count(&self) -> usize
+        ensures { result ≡ length (definition_types self.now) }
+    {
+        self.definitions.len()
+    }
+
+    /// The type of a definition by its number below `definition_count`: words are numbered in the order of their first definitions.
+    pub fn definition_at(&self, number: usize) -> Option<&'a NTy>
+        ensures value { option_map (λ t. nty_of t.now) result ≡ slice_get (definition_types self.now) number }
+        ensures declared { IfSome result (λ t. IsDefinitionType (modules_of self.now) (nty_of t.now)) }
+    {
+        match self.definitions.get_index(number) {
+            None => None,
+            Some((_, ty)) => Some(*ty),
+        }
+    }
+
+    /// The number of the definition of a name. Takes no memory.
+    pub fn definition_number(&self, name: &Name) -> Option<usize>
+        ensures { found (option_and_then (λ i. slice_get (definition_types self.now) i) result) ≡ value_type (modules_of self.now) name.now }
+    {
+        if !self.has_module_of(name) {
+            return None;
+        }
+        self.definitions.get_index_of(name.text.as_str())
+    }
+
+    /// How many words have a constructor. Takes no memory.
+    #[tactic(auto, unfolding(crate::specs::Listed::constructors_in))]
+    pub fn constructor_count(&self) -> usize
+        ensures { result ≡ length (constructors_in self.now) }
+    {
+        self.constructors.len()
+    }
+
+    /// A constructor by its number below `constructor_count`: words are numbered in the order of their first constructors.
+    pub fn constructor_at(&self, number: usize) -> Option<DeclaredCon<'a>>
+        ensures value { option_map constructor_of result ≡ slice_get (constructors_in self.now) number }
+        ensures declared { IfSome result (λ k. IsConstructor (modules_of self.now) (constructor_of k)) }
+    {
+        match self.constructors.get_index(number) {
+            None => None,
+            Some((_, con)) => Some(*con),
+        }
+    }
+
+    /// The number of the constructor of a name. Takes no memory.
+    pub fn constructor_number(&self, name: &Name) -> Option<usize>
+        ensures { option_and_then (λ i. slice_get (constructors_in self.now) i) result ≡ constructor (modules_of self.now) name.now }
+    {
+        if !self.has_module_of(name) {
+            return None;
+        }
+        self.constructors.get_index_of(name.text.as_str())
     }
 }
