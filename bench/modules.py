@@ -1,9 +1,11 @@
 #!/usr/bin/env python3
 """Lints and builds modules of growing size with the program `coreopt`, and prints for each the seconds, the bytes a second of both and
-the peak memory of a build; the seconds are those of the processor, the least of five runs. There are seven kinds of modules: constants that give a constructor two names of other definitions; functions whose bodies
+the peak memory of a build; the seconds are those of the processor, the least of five runs. There are ten kinds of modules: constants that give a constructor two names of other definitions; functions whose bodies
 are lets and applications, a hundred deep; small functions that call others; functions by case; one alternative of many binders, the
 outermost of which is used many times, which is refused for the number of its binders when all of it was judged; data types with parameters,
-existential types and equalities, newtypes and families with their axioms; and applications whose argument has a type of 65,535 pieces. Run it from anywhere, on a
+existential types and equalities, newtypes and families with their axioms; applications whose argument has a type of 65,535 pieces; polymorphic
+functions, which call others at types made of their own variables; join points, fifty deep, with jumps in their alternatives; and applications of a
+polymorphic function, whose type has 65,535 pieces, each at a type of its own. Run it from anywhere, on a
 machine where the program is built (`./coreopt build examples/Shapes.fc`), or with another program as its only word."""
 import os
 import subprocess
@@ -75,9 +77,9 @@ def declarations(count):
             yield f" (family F{i} ((a *) (b *)) *) (axiom Q{i} ((a *)) (F{i} a T) (fun a (W{i} a)))"
 
 
-def balanced(depth):
+def balanced(depth, leaf="T"):
     """A type of functions between functions, a balanced tree of 2 ** (depth + 1) - 1 pieces."""
-    return "T" if depth == 0 else f"(fun {balanced(depth - 1)} {balanced(depth - 1)})"
+    return leaf if depth == 0 else f"(fun {balanced(depth - 1, leaf)} {balanced(depth - 1, leaf)})"
 
 
 def shared(count):
@@ -86,6 +88,41 @@ def shared(count):
     yield f" (def h {large} h) (def f (fun {large} T) f)"
     for i in range(count):
         yield f" (def d{10_000 + i} T (app f h))"
+
+
+def polymorphic(count):
+    """Functions over two types, which call two others, one of them at a type of functions between these two."""
+    for i in range(count):
+        left, right = others(i, count)
+        inner = f"(lam ((g (fun a b))) (app d{right} (type a) (type b) g x))"
+        yield (
+            f" (def d{10_000 + i} (forall (a *) (forall (b *) (fun (fun a b) a b)))"
+            f" (lam ((type a *) (type b *) (f (fun a b)) (x a)) (app d{left} (type (fun a b)) (type b) {inner} f)))"
+        )
+
+
+def joins(count):
+    """Functions of fifty join points, each in the body of the one before, to which both of its alternatives jump; and a loop in the innermost."""
+    for i in range(count):
+        other, _ = others(i, count)
+        points = "".join(
+            f"(join T (j{k} ((y T)) (case y (z T) T (K () (jump j{k - 1} z)) (P ((a T) (b T)) (jump j{k - 1} b)))) " for k in range(1, DEEP // 2)
+        )
+        loop = f"(joinrec T ((r ((y T)) (case y (z T) T (default (jump j{DEEP // 2 - 1} z)) (P ((a T) (b T)) (jump r b))))) (jump r x))"
+        yield f" (def d{10_000 + i} (fun T T) (lam ((x T)) (join T (j0 ((y T)) (app d{other} y)) {points}{loop}{')' * (DEEP // 2)}))"
+
+
+def numeral(i):
+    """A type for each number: the types of what a function takes are its binary digits."""
+    return "T" if i == 0 else f"(fun {'T' if i % 2 else '(fun T T)'} {numeral(i // 2)})"
+
+
+def instances(count):
+    """Applications of one polymorphic function of a large type to an argument of a large polymorphic type, both at one type."""
+    large = balanced(15, "a")
+    yield f" (def h (forall (a *) {large}) h) (def f (forall (a *) (fun {large} T)) f)"
+    for i in range(count):
+        yield f" (def d{10_000 + i} T (app f (type {numeral(i)}) (app h (type {numeral(i)}))))"
 
 
 # the name of a kind, its definitions, their numbers, and the status that is wanted
@@ -97,6 +134,9 @@ KINDS = [
     ("wide", wide, [15_000, 30_000, 60_000], 1),
     ("declarations", declarations, [1_000, 2_000, 4_000], 0),
     ("shared", shared, [1_000, 3_000], 0),
+    ("polymorphic", polymorphic, [2_000, 4_000, 8_000], 0),
+    ("joins", joins, [60, 120, 240], 0),
+    ("instances", instances, [1_000, 3_000], 0),
 ]
 
 

@@ -257,7 +257,7 @@ fn a_module_is_refused_as_a_whole_behind_its_form_and_before_its_names(
     rt: HostRuntime,
 ) -> Result<(), Fail> {
     let alloc = rt.alloc();
-    let cases: [(&[u8], &[u8]); 7] = [
+    let cases: [(&[u8], &[u8]); 11] = [
         // an import of a module that is not in the set
         (
             b"(module M (imports N) (exports))",
@@ -273,19 +273,35 @@ fn a_module_is_refused_as_a_whole_behind_its_form_and_before_its_names(
             b"(module M (imports M N) (exports))",
             b"refused 12 ImportUnknown M - -\n",
         ),
-        // a form that is not judged yet
+        // forms that are not judged yet: a cast, coercions as an argument and as binders of a lambda, an alternative and a join point
         (
-            b"(module M (imports) (exports) (def x T (letrec ((z T z)) z)))",
+            b"(module M (imports) (exports) (data T () (K ())) (def x T (cast x (refl R T))))",
+            b"refused 3 BadForm M.fc - -\n",
+        ),
+        (
+            b"(module M (imports) (exports) (data T () (K ())) (def x T (con K (co (refl R T)))))",
+            b"refused 3 BadForm M.fc - -\n",
+        ),
+        (
+            b"(module M (imports) (exports) (data T () (K ())) (def x T (lam ((co c R T T)) x)))",
+            b"refused 3 BadForm M.fc - -\n",
+        ),
+        (
+            b"(module M (imports) (exports) (data T () (K ((co c R T T)))) (def x T (case x (y T) T (K ((co c R T T)) x))))",
+            b"refused 3 BadForm M.fc - -\n",
+        ),
+        (
+            b"(module M (imports) (exports) (data T () (K ())) (def x T (join T (j ((co c R T T)) x) x)))",
             b"refused 3 BadForm M.fc - -\n",
         ),
         // imports count before forms
         (
-            b"(module M (imports N) (exports) (def x T (letrec ((z T z)) z)))",
+            b"(module M (imports N) (exports) (def x T (cast x c)))",
             b"refused 12 ImportUnknown M - -\n",
         ),
         // forms count before names
         (
-            b"(module M (imports) (exports) (def f T (letrec ((z T z)) x)))",
+            b"(module M (imports) (exports) (def f T (cast x c)))",
             b"refused 3 BadForm M.fc - -\n",
         ),
         // a name in a module that is not imported
@@ -305,7 +321,7 @@ fn a_module_is_refused_as_a_whole_behind_its_form_and_before_its_names(
 #[test]
 fn each_fault_has_its_number_and_place(rt: HostRuntime) -> Result<(), Fail> {
     let alloc = rt.alloc();
-    let cases: [(&[u8], &[u8]); 25] = [
+    let cases: [(&[u8], &[u8]); 30] = [
         // of bytes, form and limits
         (
             b"\x80(module M (imports) (exports))",
@@ -358,6 +374,10 @@ fn each_fault_has_its_number_and_place(rt: HostRuntime) -> Result<(), Fail> {
             b"51 NotFunction M f 1",
         ),
         (
+            b"(module M (imports) (exports) (data Int () (I# () Int#)) (def f Int (app f (type Int))))",
+            b"52 NotForall M f 1",
+        ),
+        (
             b"(module M (imports) (exports) (data Int () (I# () Int#)) (def f Int (let (n Int# (case f (m Int) Int# (I# ((k Int#)) k))) (con I# n))))",
             b"53 UnliftedNotAtom M f 1.0",
         ),
@@ -382,12 +402,28 @@ fn each_fault_has_its_number_and_place(rt: HostRuntime) -> Result<(), Fail> {
             b"59 ScrutineeType M f 1",
         ),
         (
+            b"(module M (imports) (exports) (data Int () (I# () Int#)) (def f Int (join Int (j () f) (case (jump j) (x Int) Int (default x)))))",
+            b"60 JumpNotTail M f 1.2.0",
+        ),
+        (
+            b"(module M (imports) (exports) (data Int () (I# () Int#)) (def f Int (join Int (j () f) (jump j f))))",
+            b"61 JumpArity M f 1.2",
+        ),
+        (
+            b"(module M (imports) (exports) (data Int () (I# () Int#)) (def f Int (join Int (j ((type a *) (x a)) x) f)))",
+            b"62 EscapingType M f 1.1",
+        ),
+        (
             b"(module M (imports) (exports) (data Int () (I# () Int#)) (def f Int 0#))",
             b"63 DefType M f -",
         ),
         (
             b"(module M (imports) (exports) (data Int () (I# () Int#)) (def f Int (let (x Int 0#) x)))",
             b"64 LetType M f 1.0",
+        ),
+        (
+            b"(module M (imports) (exports) (data Int () (I# () Int#)) (def f Int (prim +# 0#)))",
+            b"65 PrimArity M f 1",
         ),
         (
             b"(module M (imports) (exports) (data Int () (I# () Int#)) (def f Int (case f (x Int) Int (0# x))))",
@@ -559,6 +595,39 @@ fn functions_are_written(rt: HostRuntime) -> Result<(), Fail> {
     assert!(rt; holds(alloc, &mut ran, "./M.opt.fc", Some(core))?);
     let interface: &[u8] =
         b"(interface 1 M (imports) (exports compose) (hidden T K y)\n (data T () (K ()))\n (value compose (fun (fun T T) (fun T T) T T) (sig) none)\n (value y T (sig) none))\n";
+    assert!(rt; holds(alloc, &mut ran, "./M.fci", Some(interface))?);
+    Ok(())
+}
+
+#[test]
+fn polymorphic_functions_are_written(rt: HostRuntime) -> Result<(), Fail> {
+    let alloc = rt.alloc();
+    let text =
+        b"(module Id (imports) (exports id) (def id (forall (a *) (fun a a)) (lam ((type a *)) (lam ((x a)) x))))";
+    let mut ran = run_over(&rt, alloc, &["build", "M.fc"], text, &SOUND)?;
+    assert_eq!(rt; ran.status, 0);
+    assert_eq!(rt; ran.out.bytes(), b"built Id\n".as_slice());
+    let core: &[u8] =
+        b"(module Id (imports) (exports id)\n (def id (forall (a *) (fun a a)) (lam ((type a *) (x a)) x)))\n";
+    assert!(rt; holds(alloc, &mut ran, "./Id.opt.fc", Some(core))?);
+    let interface: &[u8] =
+        b"(interface 1 Id (imports) (exports id)\n (value id (forall (a *) (fun a a)) (sig) none))\n";
+    assert!(rt; holds(alloc, &mut ran, "./Id.fci", Some(interface))?);
+    Ok(())
+}
+
+#[test]
+fn loops_are_written(rt: HostRuntime) -> Result<(), Fail> {
+    let alloc = rt.alloc();
+    let text =
+        b"(module M (imports) (exports f)\n(wrap f (fun Int# Int#) (lam ((n Int#)) (joinrec Int# ((go ((k Int#)) (case (prim ># k 09#) (b Int#) Int# (default k) (0# (case (prim +# k 1#) (m Int#) Int# (default (jump go m))))))) (jump go n)))))";
+    let mut ran = run_over(&rt, alloc, &["build", "M.fc"], text, &SOUND)?;
+    assert_eq!(rt; ran.status, 0);
+    let core: &[u8] =
+        b"(module M (imports) (exports f)\n (wrap f (fun Int# Int#) (lam ((n Int#)) (joinrec Int# ((go ((k Int#)) (case (prim ># k 9#) (b Int#) Int# (default k) (0# (case (prim +# k 1#) (m Int#) Int# (default (jump go m))))))) (jump go n)))))\n";
+    assert!(rt; holds(alloc, &mut ran, "./M.opt.fc", Some(core))?);
+    let interface: &[u8] =
+        b"(interface 1 M (imports) (exports f)\n (value f (fun Int# Int#) (sig) none))\n";
     assert!(rt; holds(alloc, &mut ran, "./M.fci", Some(interface))?);
     Ok(())
 }

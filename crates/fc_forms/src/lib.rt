@@ -3,40 +3,30 @@
 
 ghost use Rattle.std.specs.Prelude.{◌≡◌};
 ghost use Rattle.std.specs.List.{list_all};
-ghost use Rattle.fc_syntax.specs.View.{alt_of, alts_of, arg_of, args_of, binder_of, binders_of, binds_of, decl_of, decls_of, expr_of, module_of};
+ghost use Rattle.fc_syntax.specs.View.{alt_of, alts_of, arg_of, args_of, binder_of, binders_of, binds_of, decl_of, decls_of, expr_of, exprs_of, joins_of, module_of};
 ghost use Rattle.fc_model.specs.Supported as spec;
 
-use fc_syntax::{Alt, Arg, Bind, Binder, Decl, Expr, Head, Module};
+use fc_syntax::{Alt, Arg, Bind, Binder, Decl, Expr, JoinBind, Module};
 
-fn is_value_binder(b: &Binder) -> bool
-    ensures { result ≡ spec.is_value_binder (binder_of b.now) }
+fn is_binder_supported(b: &Binder) -> bool
+    ensures { result ≡ spec.is_binder_supported (binder_of b.now) }
 {
     match b {
         Binder::Value(_, _) => true,
-        Binder::OfType(_, _) => false,
+        Binder::OfType(_, _) => true,
         Binder::OfCo(_, _, _, _) => false,
     }
 }
 
-fn are_value_binders(binders: &[Binder]) -> bool
-    ensures { result ≡ list_all spec.is_value_binder (binders_of binders.now) }
+fn are_binders_supported(binders: &[Binder]) -> bool
+    ensures { result ≡ list_all spec.is_binder_supported (binders_of binders.now) }
 {
     for b in binders {
-        if !is_value_binder(b) {
+        if !is_binder_supported(b) {
             return false;
         }
     }
     true
-}
-
-fn is_head_supported(head: &Head, binders: &[Binder]) -> bool
-    ensures { result ≡ spec.is_head_supported head.now (binders_of binders.now) }
-{
-    match head {
-        Head::Default => binders.is_empty(),
-        Head::Lit(_) => binders.is_empty(),
-        Head::Con(_) => are_value_binders(binders),
-    }
 }
 
 #[cycle(exprs)]
@@ -48,16 +38,15 @@ fn is_expr_supported(e: &Expr) -> bool
         Expr::Var(_) => true,
         Expr::Lit(_) => true,
         Expr::App(f, a) => is_expr_supported(f) && is_arg_supported(a),
-        Expr::Lam(b, e) => is_value_binder(b) && is_expr_supported(e),
-        Expr::Let(true, _, _) => false,
-        Expr::Let(false, binds, e) => is_bind_supported(binds.as_slice()) && is_expr_supported(e),
+        Expr::Lam(b, e) => is_binder_supported(b) && is_expr_supported(e),
+        Expr::Let(_, binds, e) => are_binds_supported(binds.as_slice()) && is_expr_supported(e),
         Expr::Case(e, _, _, _, alts) => is_expr_supported(e) && are_alts_supported(alts.as_slice()),
-        Expr::Con(_, args) => are_args_supported(args.as_slice()),
         Expr::Cast(_, _) => false,
-        Expr::Prim(_, _) => false,
+        Expr::Con(_, args) => are_args_supported(args.as_slice()),
+        Expr::Prim(_, es) => are_exprs_supported(es.as_slice()),
         Expr::Fail(_) => true,
-        Expr::Join(_, _, _, _) => false,
-        Expr::Jump(_, _) => false,
+        Expr::Join(_, _, joins, e) => are_joins_supported(joins.as_slice()) && is_expr_supported(e),
+        Expr::Jump(_, args) => are_args_supported(args.as_slice()),
     }
 }
 
@@ -67,7 +56,7 @@ fn is_arg_supported(a: &Arg) -> bool
 {
     match a {
         Arg::Term(e) => is_expr_supported(e),
-        Arg::OfType(_) => false,
+        Arg::OfType(_) => true,
         Arg::OfCo(_) => false,
     }
 }
@@ -84,24 +73,47 @@ fn are_args_supported(args: &[Arg]) -> bool
     true
 }
 
-/// One bind.
 #[cycle(exprs)]
-#[tactic(auto, using(crate::proofs::Groups::no_group))]
-fn is_bind_supported(binds: &[Bind]) -> bool
-    ensures { result ≡ spec.is_bind_supported (binds_of binds.now) }
+fn are_exprs_supported(es: &[Expr]) -> bool
+    ensures { result ≡ spec.are_exprs_supported (exprs_of es.now) }
 {
-    match binds {
-        [] => false,
-        [bind] => is_expr_supported(&bind.rhs),
-        [_, _, ..] => false,
+    for e in es {
+        if !is_expr_supported(e) {
+            return false;
+        }
     }
+    true
+}
+
+#[cycle(exprs)]
+fn are_binds_supported(binds: &[Bind]) -> bool
+    ensures { result ≡ spec.are_binds_supported (binds_of binds.now) }
+{
+    for bind in binds {
+        if !is_expr_supported(&bind.rhs) {
+            return false;
+        }
+    }
+    true
+}
+
+#[cycle(exprs)]
+fn are_joins_supported(joins: &[JoinBind]) -> bool
+    ensures { result ≡ spec.are_joins_supported (joins_of joins.now) }
+{
+    for j in joins {
+        if !(are_binders_supported(j.params.as_slice()) && is_expr_supported(&j.rhs)) {
+            return false;
+        }
+    }
+    true
 }
 
 #[cycle(exprs)]
 fn is_alt_supported(a: &Alt) -> bool
     ensures { result ≡ spec.is_alt_supported (alt_of a.now) }
 {
-    is_head_supported(&a.head, a.binders.as_slice()) && is_expr_supported(&a.body)
+    are_binders_supported(a.binders.as_slice()) && is_expr_supported(&a.body)
 }
 
 #[cycle(exprs)]

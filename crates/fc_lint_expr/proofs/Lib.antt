@@ -1,10 +1,6 @@
-pub mod AlternativeBinders
-pub mod Closed
-pub mod Contexts
-pub mod Declared
-pub mod Fields
-pub mod Functions
-pub mod Givens
-pub mod LocalTypes
-pub mod Numbers
+pub mod Alternatives
+pub mod Bindings
+pub mod Judging
+pub mod Lengths
+pub mod Pieces
 pub mod Turns

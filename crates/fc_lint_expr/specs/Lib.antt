@@ -1,6 +1,2 @@
-pub mod AltViews
-pub mod ContextViews
-pub mod DeclaredViews
-pub mod GivenViews
-pub mod LocalViews
-pub mod Numbers
+pub mod Cases
+pub mod Lists

@@ -1,131 +1,143 @@
-//! Whether the terms that are given to a constructor fit its fields.
-ghost use Rattle.std.specs.Prelude.{◌≡◌, true, IfOk, OnOk, length};
-ghost use Rattle.fc_model.specs.NamelessView.{nexpr_of};
+//! What is given to applications, constructors, primitives and jumps.
+ghost use Rattle.std.specs.Prelude.{◌≡◌, IfOk, OnOk};
 ghost use Rattle.fc_model.specs.Says.{Says};
-ghost use Rattle.fc_model.specs.Typing as words;
-ghost use Rattle.fc_model.specs.Typing.{argument_types_match, constructed, constructor};
-ghost use Rattle.fc_types.specs.TableViews.{constructor_of};
-ghost use Rattle.fc_type_table.specs.TypeTables.{Grows};
-ghost use Rattle.fc_lint_expr.specs.ContextViews.{AreTypesIn, IsContext, IsTypeIn, modules_in, shown_all_in, shown_in};
-ghost use Rattle.fc_lint_expr.specs.GivenViews.{AreGiven, givens_in};
+ghost use Rattle.fc_lint_context.specs.ContextViews.{IsContext, context_in, modules_of_context};
+ghost use Rattle.fc_type_scope.specs.Scopes.{scope_in};
+ghost use Rattle.fc_model.specs.Faulting.{under};
+ghost use Rattle.fc_model.specs.NamelessView.{narg_of};
+ghost use Rattle.fc_model.specs.Typing.{argument_given};
+ghost use Rattle.fc_lint_calls.specs.GivenViews.{AreGiven, IsGiven, given_in, givens_in};
+ghost use Rattle.fc_lint_expr.specs.Lists.{args_from, operand_given, operands_from};
+ghost use Rattle.fc_type_table.specs.TypeTables.{Grows, modules_in};
 
-use crate::context::Context;
-use fc_model::{Flawed, flaw_here};
-use fc_syntax::{FaultKind, NExpr, Name, Ref};
-use fc_type_table::{TypeId, TypeTable};
-use fc_types::DeclaredCon;
+use crate::expressions::type_of;
+use fc_lint_calls::{Given, is_atom};
+use fc_lint_context::Context;
+use fc_model::{Flawed, deeper, flaw_here, next_part};
+use fc_syntax::{FaultKind, NArg, NExpr, Seq};
+use fc_type_table::TypeTable;
+use fc_types::kind;
 use std::alloc::Global;
 
-/// A term that is given to a constructor.
-#[derive(Clone, Copy)]
-pub struct TypedArg {
-    /// Its type.
-    pub ty: TypeId,
-    /// Whether it is a literal or a variable.
-    pub atom: bool,
-}
-
-/// Whether an expression is a literal or a variable.
-#[tactic(auto, using(fc_syntax::proofs::View::view_rules))]
-pub fn is_atom(e: &NExpr) -> bool
-    ensures { result ≡ words.is_atom (nexpr_of e.now) }
-{
-    match e {
-        NExpr::Var(Ref::Local(_)) => true,
-        NExpr::Var(Ref::Top(_)) => true,
-        NExpr::Lit(_) => true,
-        NExpr::App(_, _) => false,
-        NExpr::Lam(_, _) => false,
-        NExpr::Let(_, _, _) => false,
-        NExpr::Case(_, _, _, _, _) => false,
-        NExpr::Cast(_, _) => false,
-        NExpr::Con(_, _) => false,
-        NExpr::Prim(_, _) => false,
-        NExpr::Fail(_) => false,
-        NExpr::Join(_, _, _, _) => false,
-        NExpr::Jump(_, _) => false,
-    }
-}
-
-/// Whether each field has the type of the term that stands there.
-#[tactic(auto, using(crate::proofs::Fields::argument_rules))]
-fn all_types_fit<'a>(
-    fields: &[TypeId],
-    given: &[TypedArg],
-    types: &TypeTable<'a>,
-    context: &Context<'_, '_, 'a>,
-) -> bool
-    requires as_many { length fields.now ≡ length given.now }
-    requires fields_in { AreTypesIn types.now context.now fields.now }
-    requires given_in { AreGiven types.now context.now given.now }
-    ensures { result ≡ argument_types_match (shown_all_in types.now context.now fields.now) (givens_in types.now context.now given.now) }
-{
-    for (i, field) in fields.iter().enumerate() {
-        if !context.same(*field, given[i].ty, types) {
-            return false;
-        }
-    }
-    true
-}
-
-/// Whether an atom stands at each unlifted field.
-#[tactic(auto, using(crate::proofs::Fields::argument_rules))]
-fn all_atoms_fit<'a>(
-    fields: &[TypeId],
-    given: &[TypedArg],
-    types: &TypeTable<'a>,
-    context: &Context<'_, '_, 'a>,
-) -> bool
-    requires as_many { length fields.now ≡ length given.now }
-    requires fields_in { AreTypesIn types.now context.now fields.now }
-    ensures { result ≡ words.unlifted_arguments_are_atoms (shown_all_in types.now context.now fields.now) (givens_in types.now context.now given.now) }
-{
-    for (i, field) in fields.iter().enumerate() {
-        if !context.atom_fits(*field, given[i].atom, types) {
-            return false;
-        }
-    }
-    true
-}
-
-/// Whether a constructor's data type has no parameters and the constructor binds no type and no coercion.
-pub fn is_plain(con: &DeclaredCon) -> bool
-    ensures { result ≡ words.is_plain (constructor_of con.now) }
-{
-    con.params.as_slice().is_empty() && con.con.binders.as_slice().is_empty()
-}
-
-/// The type of a constructor that is given these terms: `Unbound`, `BadForm` where the constructor is not plain, and then `ConArity`,
-/// `ArgType` and `UnliftedNotAtom`.
-#[tactic(auto, using(crate::proofs::Fields::field_rules))]
-pub fn constructed_type<'x, 'd, 'a>(
+/// What is given as an argument.
+#[cycle(lint)]
+pub(crate) fn argument<'x, 'd, 'a>(
     alloc: Global,
-    name: &'a Name,
-    given: &[TypedArg],
+    arg: &'a NArg,
     types: &mut TypeTable<'a>,
     context: &'x Context<'x, 'd, 'a>,
-) -> Result<TypeId, Flawed>
-    requires in_scope { IsContext types.old context.now }
-    requires given_in { AreGiven types.old context.now given.now }
-    ensures valid { IfOk result (λ id. IsTypeIn types.new context.now id) }
-    ensures says { Says (λ id. shown_in types.new context.now id) result (constructed name.now (constructor (modules_in context.now) name.now) (givens_in types.old context.now given.now)) }
+) -> Result<Given, Flawed>
+    requires context { IsContext types.old context.now }
+    requires modules { modules_in types.old ≡ modules_of_context context.now }
+    ensures valid { IfOk result (λ g. IsGiven types.new (scope_in context.now.scope) g) }
+    ensures says { Says (λ g. given_in types.new (scope_in context.now.scope) g) result (argument_given (modules_of_context context.now) (context_in types.old context.now) (narg_of arg.now)) }
     ensures grows { OnOk result (Grows types.old types.new) }
-    ensures scope { OnOk result (IsContext types.new context.now) }
+    ensures context { OnOk result (IsContext types.new context.now) }
 {
-    let Some(found) = context.declared.constructor_named(name) else {
-        return Err(flaw_here(alloc, FaultKind::Unbound));
-    };
-    if !is_plain(&found.con) {
-        return Err(flaw_here(alloc, FaultKind::BadForm));
+    match arg {
+        NArg::Term(e) => {
+            let ty = type_of(alloc, e, types, &*context)?;
+            Ok(Given::Term(ty, is_atom(e)))
+        }
+        NArg::OfType(t) => {
+            let of = kind(alloc, t, context.declared.declared, context.scope.kinds)?;
+            let ty = context.scope.read(t, types)?;
+            Ok(Given::OfType(ty, of))
+        }
+        NArg::OfCo(_) => Err(flaw_here(alloc, FaultKind::BadForm)),
     }
-    if found.fields.len() != given.len() {
-        return Err(flaw_here(alloc, FaultKind::ConArity));
+}
+
+/// The same of the argument that is the part of this number.
+#[cycle(lint)]
+pub(crate) fn argument_of_part<'x, 'd, 'a>(
+    alloc: Global,
+    arg: &'a NArg,
+    types: &mut TypeTable<'a>,
+    context: &'x Context<'x, 'd, 'a>,
+    part: u32,
+) -> Result<Given, Flawed>
+    requires context { IsContext types.old context.now }
+    requires modules { modules_in types.old ≡ modules_of_context context.now }
+    ensures valid { IfOk result (λ g. IsGiven types.new (scope_in context.now.scope) g) }
+    ensures says { Says (λ g. given_in types.new (scope_in context.now.scope) g) result (under part (argument_given (modules_of_context context.now) (context_in types.old context.now) (narg_of arg.now))) }
+    ensures grows { OnOk result (Grows types.old types.new) }
+    ensures context { OnOk result (IsContext types.new context.now) }
+{
+    match argument(alloc, arg, types, &*context) {
+        Ok(given) => Ok(given),
+        Err(flawed) => Err(deeper(flawed, part)),
     }
-    if !all_types_fit(found.fields, given, types, context) {
-        return Err(flaw_here(alloc, FaultKind::ArgType));
+}
+
+/// What is given as arguments, in their order.
+#[cycle(lint)]
+pub(crate) fn arguments<'x, 'd, 'a>(
+    alloc: Global,
+    args: &'a [NArg],
+    types: &mut TypeTable<'a>,
+    context: &'x Context<'x, 'd, 'a>,
+) -> Result<Seq<Given>, Flawed>
+    requires context { IsContext types.old context.now }
+    requires modules { modules_in types.old ≡ modules_of_context context.now }
+    ensures valid { IfOk result (λ g. AreGiven types.new (scope_in context.now.scope) g) }
+    ensures says { Says (λ g. givens_in types.new (scope_in context.now.scope) g) result (args_from (modules_of_context context.now) (context_in types.old context.now) 0 args.now) }
+    ensures grows { OnOk result (Grows types.old types.new) }
+    ensures context { OnOk result (IsContext types.new context.now) }
+{
+    let mut given = Seq::new(alloc);
+    let mut part = 0u32;
+    for arg in args {
+        let next = argument_of_part(alloc, arg, types, &*context, part)?;
+        given.push(next)?;
+        part = next_part(part)?;
     }
-    if !all_atoms_fit(found.fields, given, types, context) {
-        return Err(flaw_here(alloc, FaultKind::UnliftedNotAtom));
+    Ok(given)
+}
+
+/// What is given as the operand that is the part of this number.
+#[cycle(lint)]
+pub(crate) fn operand_of_part<'x, 'd, 'a>(
+    alloc: Global,
+    e: &'a NExpr,
+    types: &mut TypeTable<'a>,
+    context: &'x Context<'x, 'd, 'a>,
+    part: u32,
+) -> Result<Given, Flawed>
+    requires context { IsContext types.old context.now }
+    requires modules { modules_in types.old ≡ modules_of_context context.now }
+    ensures valid { IfOk result (λ g. IsGiven types.new (scope_in context.now.scope) g) }
+    ensures says { Says (λ g. given_in types.new (scope_in context.now.scope) g) result (operand_given (modules_of_context context.now) (context_in types.old context.now) part e.now) }
+    ensures grows { OnOk result (Grows types.old types.new) }
+    ensures context { OnOk result (IsContext types.new context.now) }
+{
+    match type_of(alloc, e, types, &*context) {
+        Ok(ty) => Ok(Given::Term(ty, is_atom(e))),
+        Err(flawed) => Err(deeper(flawed, part)),
     }
-    Ok(context.data_type(name, found.con.data_word, types)?)
+}
+
+/// What is given to a primitive, in their order.
+#[cycle(lint)]
+pub(crate) fn operands<'x, 'd, 'a>(
+    alloc: Global,
+    operands: &'a [NExpr],
+    types: &mut TypeTable<'a>,
+    context: &'x Context<'x, 'd, 'a>,
+) -> Result<Seq<Given>, Flawed>
+    requires context { IsContext types.old context.now }
+    requires modules { modules_in types.old ≡ modules_of_context context.now }
+    ensures valid { IfOk result (λ g. AreGiven types.new (scope_in context.now.scope) g) }
+    ensures says { Says (λ g. givens_in types.new (scope_in context.now.scope) g) result (operands_from (modules_of_context context.now) (context_in types.old context.now) 0 operands.now) }
+    ensures grows { OnOk result (Grows types.old types.new) }
+    ensures context { OnOk result (IsContext types.new context.now) }
+{
+    let mut given = Seq::new(alloc);
+    let mut part = 0u32;
+    for operand in operands {
+        let next = operand_of_part(alloc, operand, types, &*context, part)?;
+        given.push(next)?;
+        part = next_part(part)?;
+    }
+    Ok(given)
 }

@@ -2,15 +2,11 @@
 //! that a type is neither copied nor compared piece by piece.
 #![tactic(auto)]
 
-mod alternatives;
 mod arguments;
-mod context;
-mod declared_types;
+mod binding;
+mod cases;
 mod expressions;
-mod locals;
-mod premises;
-mod scopes;
+mod joins;
+mod lets;
 
-pub use context::OUTER_VARIABLES;
-pub use declared_types::DeclaredTypes;
 pub use expressions::{has_type, lint};

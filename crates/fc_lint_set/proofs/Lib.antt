@@ -1,4 +1,3 @@
-pub mod ClosedTypes
 pub mod Judged
 pub mod Params
 pub mod RightSides

@@ -1,5 +1,5 @@
 //! The types and the right sides of definitions.
-ghost use Rattle.std.specs.Prelude.{[], OnOk};
+ghost use Rattle.std.specs.Prelude.{◌≡◌, [], OnOk};
 ghost use Rattle.fc_model.specs.Declaring.{ndecl_word};
 ghost use Rattle.fc_model.specs.Faulting.{and_then, under, within};
 ghost use Rattle.fc_model.specs.Kinding.{kind_or_fault};
@@ -9,10 +9,11 @@ ghost use Rattle.fc_model.specs.NamelessView.{ndecl_of, ndecls_of, nexpr_of, nty
 ghost use Rattle.fc_model.specs.Says.{Says};
 ghost use Rattle.fc_syntax.specs.View.{kind_of};
 ghost use Rattle.fc_types.specs.ModuleViews.{modules_of};
-ghost use Rattle.fc_type_table.specs.TypeTables.{nodes_of};
-ghost use Rattle.fc_lint_expr.specs.DeclaredViews.{AreConstructorsClosed, AreDefinitionsClosed, AreRead, modules_read};
+ghost use Rattle.fc_type_table.specs.TypeTables.{modules_in, nodes_of};
+ghost use Rattle.fc_lint_context.specs.DeclaredViews.{AreRead, modules_read};
 
-use fc_lint_expr::{DeclaredTypes, has_type};
+use fc_lint_context::DeclaredTypes;
+use fc_lint_expr::has_type;
 use fc_model::{Flawed, deeper, flaw_here, in_declaration, word_of};
 use fc_syntax::{FaultKind, Kind, NDecl, NExpr, NTy};
 use fc_type_table::TypeTable;
@@ -84,16 +85,18 @@ pub fn lint_definition_types(
 
 /// The right side of a definition of this type.
 #[tactic(auto, using(crate::proofs::RightSides::right_rules))]
-fn lint_right_side<'a>(
+fn lint_right_side<'d, 'a>(
     alloc: Global,
     t: &'a NTy,
     e: &'a NExpr,
     types: &mut TypeTable<'a>,
-    declared: &DeclaredTypes<'_, 'a>,
+    declared: &DeclaredTypes<'d, 'a>,
 ) -> Result<(), Flawed>
-    requires { AreRead (nodes_of types.old) declared.now }
+    requires read { AreRead (nodes_of types.old) declared.now }
+    requires modules { modules_in types.old ≡ modules_read declared.now }
     ensures says { Says (λ _. done) result (right_side_judged (modules_read declared.now) (nty_of t.now) (nexpr_of e.now)) }
     ensures read { OnOk result (AreRead (nodes_of types.new) declared.now) }
+    ensures modules { OnOk result (modules_in types.new ≡ modules_read declared.now) }
 {
     match has_type(alloc, e, t, types, declared) {
         Ok(true) => Ok(()),
@@ -103,15 +106,17 @@ fn lint_right_side<'a>(
 }
 
 /// The right side of a declaration that has one.
-fn lint_right<'a>(
+fn lint_right<'d, 'a>(
     alloc: Global,
     decl: &'a NDecl,
     types: &mut TypeTable<'a>,
-    declared: &DeclaredTypes<'_, 'a>,
+    declared: &DeclaredTypes<'d, 'a>,
 ) -> Result<(), Flawed>
-    requires { AreRead (nodes_of types.old) declared.now }
+    requires read { AreRead (nodes_of types.old) declared.now }
+    requires modules { modules_in types.old ≡ modules_read declared.now }
     ensures says { Says (λ _. done) result (right_judged (modules_read declared.now) (ndecl_of decl.now)) }
     ensures read { OnOk result (AreRead (nodes_of types.new) declared.now) }
+    ensures modules { OnOk result (modules_in types.new ≡ modules_read declared.now) }
 {
     match decl {
         NDecl::Def(_, t, e) => lint_right_side(alloc, t, e, types, declared),
@@ -125,15 +130,17 @@ fn lint_right<'a>(
 
 /// The same, with the word of the declaration in a flaw.
 #[tactic(auto, using(fc_model::proofs::Declares::bare_decl_word))]
-fn lint_right_within<'a>(
+fn lint_right_within<'d, 'a>(
     alloc: Global,
     decl: &'a NDecl,
     types: &mut TypeTable<'a>,
-    declared: &DeclaredTypes<'_, 'a>,
+    declared: &DeclaredTypes<'d, 'a>,
 ) -> Result<(), Flawed>
-    requires { AreRead (nodes_of types.old) declared.now }
+    requires read { AreRead (nodes_of types.old) declared.now }
+    requires modules { modules_in types.old ≡ modules_read declared.now }
     ensures says { Says (λ _. done) result (within (ndecl_word (ndecl_of decl.now)) (right_judged (modules_read declared.now) (ndecl_of decl.now))) }
     ensures read { OnOk result (AreRead (nodes_of types.new) declared.now) }
+    ensures modules { OnOk result (modules_in types.new ≡ modules_read declared.now) }
 {
     match lint_right(alloc, decl, types, declared) {
         Ok(()) => Ok(()),
@@ -142,13 +149,14 @@ fn lint_right_within<'a>(
 }
 
 /// The same of each declaration, in their order.
-fn lint_rights<'a>(
+fn lint_rights<'d, 'a>(
     alloc: Global,
     decls: &'a [NDecl],
     types: &mut TypeTable<'a>,
-    declared: &DeclaredTypes<'_, 'a>,
+    declared: &DeclaredTypes<'d, 'a>,
 ) -> Result<(), Flawed>
-    requires { AreRead (nodes_of types.old) declared.now }
+    requires read { AreRead (nodes_of types.old) declared.now }
+    requires modules { modules_in types.old ≡ modules_read declared.now }
     ensures { Says (λ _. done) result (rights_judged (modules_read declared.now) (ndecls_of decls.now)) }
 {
     for decl in decls {
@@ -157,18 +165,15 @@ fn lint_rights<'a>(
     Ok(())
 }
 
-/// The right sides of the definitions of a module, in their order: the faults of `lint` there, and `DefType`. The types of the
-/// definitions and the fields of the constructors were judged before, so that none has a variable of another.
+/// The right sides of the definitions of a module, in their order: the faults of `lint` there, and `DefType`.
 pub fn lint_right_sides<'a>(
     alloc: Global,
     decls: &'a [NDecl],
-    declared: &Declarations<'a>,
+    declared: &'a Declarations,
 ) -> Result<(), Flawed>
-    requires definitions { AreDefinitionsClosed (modules_of declared.now) }
-    requires constructors { AreConstructorsClosed (modules_of declared.now) }
     ensures { Says (λ _. done) result (rights_judged (modules_of declared.now) (ndecls_of decls.now)) }
 {
-    let mut types = TypeTable::new(alloc);
+    let mut types = TypeTable::new(alloc, declared);
     let read = DeclaredTypes::new(alloc, declared, &mut types)?;
     lint_rights(alloc, decls, &mut types, &read)
 }

@@ -3,7 +3,7 @@ ghost use Rattle.fc_model.specs.Linting.{done, lint_or_fault};
 ghost use Rattle.fc_model.specs.NamelessView.{ndecls_of, nmodule_of};
 ghost use Rattle.fc_model.specs.Says.{Says};
 ghost use Rattle.fc_types.specs.ModuleViews.{modules_of};
-ghost use Rattle.fc_lint_set.specs.Judging.{Declares, declarations_judged};
+ghost use Rattle.fc_lint_set.specs.Judging.{declarations_judged};
 
 use crate::definitions::{lint_definition_types, lint_right_sides};
 use crate::exports::lint_exports;
@@ -18,9 +18,8 @@ use std::alloc::Global;
 fn lint_declarations<'a>(
     alloc: Global,
     decls: &'a [NDecl],
-    declared: &Declarations<'a>,
+    declared: &'a Declarations,
 ) -> Result<(), Flawed>
-    requires { Declares (modules_of declared.now) (ndecls_of decls.now) }
     ensures { Says (λ _. done) result (declarations_judged (modules_of declared.now) (ndecls_of decls.now)) }
 {
     lint_types(alloc, decls, declared)?;

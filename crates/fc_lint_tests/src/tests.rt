@@ -3,7 +3,9 @@
 mod cases;
 mod declarations;
 mod expressions;
+mod joins;
 mod names;
+mod terms;
 
 use fc_lint_set::lint_module;
 use fc_model::{Flaw, Flawed};
@@ -64,10 +66,21 @@ fn is_as_told(alloc: Global, text: &[u8], row: &Row<'_>) -> Result<bool, Fail> {
 
 /// Judges modules of the common declarations and those of the rows.
 fn are_as_told(rt: &impl Abort, alloc: Global, rows: &[Row<'_>]) -> Result<(), Fail> {
+    are_told_behind(rt, alloc, b"", rows)
+}
+
+/// Judges modules of the common declarations, more of them, and those of the rows.
+fn are_told_behind(
+    rt: &impl Abort,
+    alloc: Global,
+    more: &[u8],
+    rows: &[Row<'_>],
+) -> Result<(), Fail> {
     for (at, row) in rows.iter().enumerate() {
         let mut text = Vec::new(alloc);
         text.extend_from_slice(b"(module M (imports) (exports) ")?;
         text.extend_from_slice(COMMON)?;
+        text.extend_from_slice(more)?;
         text.extend_from_slice(row.0)?;
         text.extend_from_slice(b")")?;
         assert!(rt; is_as_told(alloc, text.as_slice(), row)?, "row {at}");

@@ -1,8 +1,9 @@
 pub mod ArgSorts
-pub mod SupportedExpressions
+pub mod Asking
 pub mod Choosing
 pub mod Determined
 pub mod Examples
+pub mod HeldDeclarations
 pub mod Named
 pub mod Optional
 pub mod PrimitiveRange
@@ -10,7 +11,11 @@ pub mod RenamingExpressions
 pub mod RenamingModules
 pub mod RenamingScopes
 pub mod RenamingTypes
+pub mod ScopesFit
 pub mod SortedErasure
+pub mod SortedExpressions
 pub mod SortedSteps
 pub mod SortsKept
+pub mod SortsOfTypes
 pub mod Unnamed
+pub mod WrittenExpressions

@@ -3,7 +3,6 @@ use Rattle.std.specs.Prelude.{◌≡◌, ◌↔◌, ℕ, ℤ, Bool, true, List, 
 use Rattle.fc_syntax.specs.declared.ty.Name.{Name}
 use Rattle.fc_syntax.specs.Tree.{Module}
 use Rattle.fc_model.specs.Faulting.{at_distance}
-use Rattle.fc_model.specs.Supported.{IsSupported}
 use Rattle.fc_model.specs.Formed.{IsFormed}
 use Rattle.fc_model.specs.Erasure.{Scope, arg_sorts, sort_of, sort_of_type}
 use Rattle.fc_model.specs.Kinding.{decls_at}
@@ -14,7 +13,9 @@ use Rattle.fc_model.specs.Programs.{Mentions, program_of}
 use Rattle.fc_model.specs.ResolutionRules.{Resolves}
 use Rattle.fc_model.specs.Stepping.{Program, Bare, Missing, LitKey, ConKey, LamKey, IsHead, Reaches, choose, default_of, next, wrap}
 use Rattle.fc_model.specs.Terms.{Sort, Lifted, Term, Lit, Var, Lam, Rec, Case, Con, Terms, Alts, IsSorted, push, pushes, sub}
-use Rattle.fc_model.specs.Typing.{Constructor, Context, HasType, atom_fits, constructor, is_atom}
+use Rattle.fc_model.specs.Calling.{Constructor, atom_fits, constructor}
+use Rattle.fc_model.specs.Typing.{Context, is_atom}
+use Rattle.fc_model.specs.TypingRules.{HasType}
 
 -- EVALUATION
 
@@ -63,7 +64,7 @@ abbrev pub StepsKeepSorts : Type 0
 StepsKeepSorts = (P : Program) → SortedProgram P → (t u : Term) → IsSorted [] t → next P t ≡ Some u → IsSorted [] u
 
 abbrev pub LintedIsSorted : Type 0
-LintedIsSorted = (m : Module) (n : NModule) → IsSupported m → IsFormed m → Resolves m n → Lints m → SortedProgram (program_of (n ∷ []))
+LintedIsSorted = (m : Module) (n : NModule) → IsFormed m → Resolves m n → Lints m → SortedProgram (program_of (n ∷ []))
 
 -- the sort of each variable of the scope is that of its type in the context
 abbrev pub Agrees : Context → Scope → Type 0

@@ -89,11 +89,11 @@ shifting_keeps_kinds ms ks j args t k h = renaming_keeps_kinds ms ks (j ∷ ks) 
 -- TYPES IN PLACE OF VARIABLES
 
 -- each variable has a type of its kind
-abbrev HaveKinds : Modules → List Kind → List Kind → (ℕ → NTy) → Type 0
+abbrev pub HaveKinds : Modules → List Kind → List Kind → (ℕ → NTy) → Type 0
 HaveKinds ms ks ls s = (i : ℕ) (k : Kind) → at_distance ks i ≡ Ok k → HasKind ms ls (s i) k
 
 -- so it does below a binder
-have_kinds_below : (ms : Modules) (ks ls : List Kind) (j : Kind) (s : ℕ → NTy) → HaveKinds ms ks ls s → HaveKinds ms (j ∷ ks) (j ∷ ls) (types_below s)
+pub have_kinds_below : (ms : Modules) (ks ls : List Kind) (j : Kind) (s : ℕ → NTy) → HaveKinds ms ks ls s → HaveKinds ms (j ∷ ks) (j ∷ ls) (types_below s)
 have_kinds_below ms ks ls j s h zero k e = kind_variable e
 have_kinds_below ms ks ls j s h (suc i) k e = shifting_keeps_kinds ms ls j 0 (s i) k (h i k e)
 
@@ -112,7 +112,7 @@ substitution_keeps_kinds ms ks ls s h args t k (kind_coforall i j a b c p) =
     kind_coforall i j (substitution_keeps_kinds ms ks ls s h _ _ _ a) (substitution_keeps_kinds ms ks ls s h _ _ _ b) (substitution_keeps_kinds ms ks ls s h _ _ _ c) p
 
 -- a type for the innermost variable, and the other variables themselves
-innermost_has_kind : (ms : Modules) (ks : List Kind) (j : Kind) (u : NTy) → HasKind ms ks u j → HaveKinds ms (j ∷ ks) ks (type_for_innermost u)
+pub innermost_has_kind : (ms : Modules) (ks : List Kind) (j : Kind) (u : NTy) → HasKind ms ks u j → HaveKinds ms (j ∷ ks) ks (type_for_innermost u)
 innermost_has_kind ms ks j u h zero k e = subst (HasKind ms ks u) (ok_ok e) h
 innermost_has_kind ms ks j u h (suc i) k e = kind_variable e
 

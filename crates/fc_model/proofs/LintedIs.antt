@@ -17,7 +17,8 @@ use Rattle.fc_model.specs.LintingRules.{DefinitionHolds, def_holds, wrap_holds, 
 use Rattle.fc_model.specs.LintingRules.{DefinitionsHold, no_definitions, one_definition, ModuleHolds, module_holds}
 use Rattle.fc_model.specs.Nameless.{NTy, NBinder, NBValue, NBType, NBCo, NParam, NParamOf, NConDecl, NConOf, NDecl, NData, NNew, NFamily, NAxiom, NDef, NWrap, NExpr, NModule, NModuleOf}
 use Rattle.fc_model.specs.Resolution.{no_word, plus_all}
-use Rattle.fc_model.specs.Typing.{HasType, no_context, type_or_fault}
+use Rattle.fc_model.specs.Typing.{no_context, type_or_fault}
+use Rattle.fc_model.specs.TypingRules.{HasType}
 use Rattle.fc_model.proofs.KindedIs.{given_kind_is, is_star_inv, kind_is_given}
 use Rattle.fc_model.proofs.Parts.{and_then_inv, err_ok, need_inv, ok_ok, part, under_inv}
 use Rattle.fc_model.proofs.Resolved.{within_inv}

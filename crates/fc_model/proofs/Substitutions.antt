@@ -24,7 +24,7 @@ only_values_count n r s (NTCoForall o t u v) w h =
     rw (only_values_count n r s t w.0 h, only_values_count n r s u w.1 h, only_values_count n r s v w.2 h) refl
 
 -- equal types for each variable give equal results
-equal_types : {r s : ℕ → NTy} → ((i : ℕ) → r i ≡ s i) → (t : NTy) → substituted_type r t ≡ substituted_type s t
+pub equal_types : {r s : ℕ → NTy} → ((i : ℕ) → r i ≡ s i) → (t : NTy) → substituted_type r t ≡ substituted_type s t
 equal_types h t = ap (λ f. substituted_type f t) (fun_ext h)
 
 -- variables stand for themselves below a binder too
@@ -50,7 +50,7 @@ renaming_as_types_below r zero = refl
 renaming_as_types_below r (suc i) = refl
 
 -- a renamed type is the type with variables in place of its own
-renamed_is_substituted : (r : ℕ → ℕ) (t : NTy) → renamed_type r t ≡ substituted_type (λ i. NTVar (r i)) t
+pub renamed_is_substituted : (r : ℕ → ℕ) (t : NTy) → renamed_type r t ≡ substituted_type (λ i. NTVar (r i)) t
 renamed_is_substituted r (NTVar i) = refl
 renamed_is_substituted r (NTCon n) = refl
 renamed_is_substituted r NTInt = refl
@@ -67,7 +67,7 @@ types_below_renaming r s zero = refl
 types_below_renaming r s (suc i) = refl
 
 -- types in place of renamed variables
-types_for_renamed : (r : ℕ → ℕ) (s : ℕ → NTy) (t : NTy) → substituted_type s (renamed_type r t) ≡ substituted_type (λ i. s (r i)) t
+pub types_for_renamed : (r : ℕ → ℕ) (s : ℕ → NTy) (t : NTy) → substituted_type s (renamed_type r t) ≡ substituted_type (λ i. s (r i)) t
 types_for_renamed r s (NTVar i) = refl
 types_for_renamed r s (NTCon n) = refl
 types_for_renamed r s NTInt = refl
@@ -77,7 +77,7 @@ types_for_renamed r s (NTForall k t) = ap (NTForall k) (types_for_renamed (renam
 types_for_renamed r s (NTCoForall o t u v) = rw (types_for_renamed r s t, types_for_renamed r s u, types_for_renamed r s v) refl
 
 -- renamed, and then renamed again
-renamed_again : (q r : ℕ → ℕ) (t : NTy) → renamed_type q (renamed_type r t) ≡ renamed_type (λ i. q (r i)) t
+pub renamed_again : (q r : ℕ → ℕ) (t : NTy) → renamed_type q (renamed_type r t) ≡ renamed_type (λ i. q (r i)) t
 renamed_again q r t =
     renamed_is_substituted q (renamed_type r t) ∙ types_for_renamed r (λ i. NTVar (q i)) t ∙ sym (renamed_is_substituted (λ i. q (r i)) t)
 

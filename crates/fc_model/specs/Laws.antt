@@ -9,7 +9,8 @@ use Rattle.fc_model.specs.Nameless.{NConDecl, NExpr, NModule, NTy}
 use Rattle.fc_model.specs.Needs.{IsNeed, OccursAt, OccursInCons, need_in, need_in_cons}
 use Rattle.fc_model.specs.Resolution.{resolved_or_fault}
 use Rattle.fc_model.specs.ResolutionRules.{Resolves}
-use Rattle.fc_model.specs.Typing.{Context, HasType, type_or_fault, type_read_off}
+use Rattle.fc_model.specs.Typing.{Context, type_or_fault, type_read_off}
+use Rattle.fc_model.specs.TypingRules.{HasType}
 
 -- the function gives a nameless form exactly where the rules do
 abbrev pub NamelessFormsAreByCases : Type 0

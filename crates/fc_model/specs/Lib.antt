@@ -1,4 +1,5 @@
 pub mod Acceptance
+pub mod Calling
 pub mod Supported
 pub mod Canonical
 pub mod DeclaredWords
@@ -20,6 +21,7 @@ pub mod Pieces
 pub mod Programs
 pub mod ReadFaults
 pub mod Reading
+pub mod Replacing
 pub mod Resolution
 pub mod ResolutionRules
 pub mod Says
@@ -30,6 +32,8 @@ pub mod SubstitutionLaws
 pub mod Terms
 pub mod Texts
 pub mod Typing
+pub mod TypingLaws
+pub mod TypingRules
 pub mod WordSets
 pub mod Worded
 pub mod Words

@@ -11,7 +11,8 @@ use Rattle.fc_model.specs.Linting.{is_family_applied}
 use Rattle.fc_model.specs.Nameless.{NTy, NBinder, NBType, NBCo, NParam, NParamOf, NConDecl, NConOf, NDecl, NData, NNew, NFamily, NAxiom, NDef, NWrap, NExpr, NModule, NModuleOf}
 use Rattle.fc_model.specs.Needs.{need_in, need_in_cons}
 use Rattle.fc_model.specs.Resolution.{no_word, plus_all}
-use Rattle.fc_model.specs.Typing.{HasType, no_context}
+use Rattle.fc_model.specs.Typing.{no_context}
+use Rattle.fc_model.specs.TypingRules.{HasType}
 
 -- TYPE DECLARATIONS
 

@@ -1,6 +1,6 @@
 -- Types in place of the variables of a type. A type that is put in below binders keeps its own variables: they are shifted past the
 -- binders, so that none is captured.
-use Rattle.std.specs.Prelude.{ℕ, zero, suc, ◌<◌}
+use Rattle.std.specs.Prelude.{ℕ, zero, suc, ◌+◌, ◌<◌, Bool, false, ◌&&◌, ◌||◌, nat_le, nat_lt}
 use Rattle.fc_model.specs.Nameless.{NTy, NTVar, NTCon, NTInt, NTApp, NTFun, NTForall, NTCoForall}
 
 -- VARIABLES IN PLACE OF VARIABLES
@@ -22,6 +22,10 @@ renamed_type r (NTCoForall o t u v) = NTCoForall o (renamed_type r t) (renamed_t
 -- a type past one binder more of a type variable
 abbrev pub shifted_type : NTy → NTy
 shifted_type t = renamed_type suc t
+
+-- a type past so many binders more of type variables
+abbrev pub raised_type : ℕ → NTy → NTy
+raised_type m t = renamed_type (λ i. i + m) t
 
 -- TYPES IN PLACE OF VARIABLES
 
@@ -50,6 +54,16 @@ abbrev pub instantiated : NTy → NTy → NTy
 instantiated u t = substituted_type (type_for_innermost u) t
 
 -- WHERE VARIABLES STAND
+
+-- whether a type has one of the m innermost variables, below b binders of its own
+abbrev pub has_innermost : ℕ → ℕ → NTy → Bool
+has_innermost m b (NTVar i) = nat_le b i && nat_lt i (b + m)
+has_innermost m b (NTCon c) = false
+has_innermost m b NTInt = false
+has_innermost m b (NTApp t u) = has_innermost m b t || has_innermost m b u
+has_innermost m b (NTFun t u) = has_innermost m b t || has_innermost m b u
+has_innermost m b (NTForall k t) = has_innermost m (suc b) t
+has_innermost m b (NTCoForall o t u v) = (has_innermost m b t || has_innermost m b u) || has_innermost m b v
 
 -- each variable has a binder in the type, or is one of this many outside
 abbrev pub IsScopedType : ℕ → NTy → Type 0

@@ -25,6 +25,23 @@ ghost use Rattle.fc_model.specs.SubstitutionLaws.{
   SubstitutionsCompose,
   VariablesForThemselves,
 };
+ghost use Rattle.fc_model.specs.TypingLaws.{
+  ArgumentsFit,
+  KindedAreClosed,
+  LintedAreKinded,
+  RenamingKeepsTypes,
+  ReplacementKeepsTypes,
+  ResolvedHaveDistinctTypes,
+  TypesAmongJoins,
+  TypesAtAType,
+  TypesAtAValue,
+  TypesAtArguments,
+  TypesHaveKinds,
+  TypesPastAJoin,
+  TypesPastAType,
+  TypesPastAValue,
+  VariablesOfExpressionsForThemselves,
+};
 
 /// Resolution, kinds, types and Lint as functions, which give the first fault, and as relations by cases are the same; each module has
 /// at most one nameless form, each type at most one kind and each expression at most one type, which is the one that is read off
@@ -57,4 +74,24 @@ pub fn substitution_agrees()
     ensures kinds { SubstitutionKeepsKinds }
     ensures shifted_kinds { ShiftingKeepsKinds }
     ensures instantiated_kinds { InstantiatingKeepsKinds }
+{}
+
+/// Expressions in place of variables and types in place of type variables: what stands in place of a variable and is of its type keeps
+/// the type of the whole, and what has a type has one of the kind of values.
+pub fn typing_agrees()
+    ensures renaming { RenamingKeepsTypes }
+    ensures replacement { ReplacementKeepsTypes }
+    ensures themselves { VariablesOfExpressionsForThemselves }
+    ensures past_type { TypesPastAType }
+    ensures past_value { TypesPastAValue }
+    ensures past_join { TypesPastAJoin }
+    ensures among_joins { TypesAmongJoins }
+    ensures at_type { TypesAtAType }
+    ensures at_value { TypesAtAValue }
+    ensures arguments { ArgumentsFit }
+    ensures at_arguments { TypesAtArguments }
+    ensures declared_closed { KindedAreClosed }
+    ensures kinds { TypesHaveKinds }
+    ensures distinct_types { ResolvedHaveDistinctTypes }
+    ensures declared_kinded { LintedAreKinded }
 {}

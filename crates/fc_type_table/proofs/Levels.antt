@@ -1,112 +1,117 @@
 -- Levels and indices: to put a type in for a bound variable, with no shift, is the textbook substitution.
-use Rattle.std.proofs.Common.{◌≡◌, ◌≢◌, ℕ, zero, suc, ◌+◌, ◌-◌, ◌<◌, ◌≤◌, nat_lt, nat_eq, if◌then◌else◌, refl, sym, ap, subst, ◌∙◌, arith, Bool, true, false, eq-eqb, true≢false}
+use Rattle.std.proofs.Common.{◌≡◌, ◌≢◌, ℕ, zero, suc, ◌+◌, ◌-◌, ◌<◌, ◌≤◌, nat_lt, nat_eq, if◌then◌else◌, List, [], ◌∷◌, ◌++◌, length, length-append, refl, sym, ap, subst, ◌∙◌, arith, Bool, true, false, eq-eqb, true≢false}
 use borrow.Author.Tests.{ltb-true, ltb-false, eqb-true}
-use Rattle.std.proofs.lemmas.Bool.Decides.{nat_tests}
-use Rattle.fc_syntax.specs.Tree.{Kind, KStar, KHash, KArrow}
+use Rattle.fc_syntax.specs.Tree.{Kind}
 use Rattle.fc_model.specs.Nameless.{NTy, NTVar, NTCon, NTInt, NTApp, NTFun, NTForall, NTCoForall}
 use Rattle.fc_model.specs.Substituting.{IsScopedType, instantiated, renamed_type, renaming_below, shifted_type, substituted_type, type_for_innermost, types_below}
-use Rattle.fc_type_table.specs.Trees.{Tree, LStar, LHash, LArrow, LBound, LFree, LCon, LInt, LApp, LFun, LForall, LCoForall, opened, closed_over, loose_end, level_end}
-use Rattle.fc_type_table.specs.Scopes.{kind_tree, kind_in, IsKind, leveled, indexed, Scoped}
-
--- ---- kinds
-
-pub kind_in-tree : (k : Kind) → kind_in (kind_tree k) ≡ k
-kind_in-tree KStar = refl
-kind_in-tree KHash = refl
-kind_in-tree (KArrow a b) = cc (kind_in-tree a, kind_in-tree b)
-
-pub IsKind-tree : (k : Kind) → IsKind (kind_tree k)
-IsKind-tree KStar = tt
-IsKind-tree KHash = tt
-IsKind-tree (KArrow a b) = (IsKind-tree a, IsKind-tree b)
-
-pub kind_tree-in : (t : Tree) → IsKind t → kind_tree (kind_in t) ≡ t
-kind_tree-in LStar h = refl
-kind_tree-in LHash h = refl
-kind_tree-in (LArrow a b) h = cc (kind_tree-in a h.0, kind_tree-in b h.1)
-kind_tree-in t h = absurd h
+use Rattle.fc_type_table.specs.Trees.{Tree, LBound, LFree, LCon, LInt, LApp, LFun, LForall, LCoForall, opened, closed_over}
+use Rattle.fc_type_table.specs.TreeKinds.{kind_in}
+use Rattle.fc_type_table.specs.Scopes.{Scoped, indexed, label, leveled}
+use Rattle.fc_type_table.proofs.KindTrees.{kind_in-tree, kind_tree-in}
+use Rattle.fc_type_table.proofs.Labels.{label-inner, label-outer}
 
 -- ---- there and back
 
 -- a type that is put into the table and read back is the same
-pub indexed-leveled : (n k : ℕ) (t : NTy) → IsScopedType (n + k) t → indexed n k (leveled n k t) ≡ t
+pub indexed-leveled : (n : ℕ) (ls : List Kind) (k : ℕ) (t : NTy) → IsScopedType (n + k) t → indexed n k (leveled n ls k t) ≡ t
 unfolding indexed leveled
-indexed-leveled n k (NTVar i) h = grind (arith, nat_tests)
-indexed-leveled n k (NTCon c) h = refl
-indexed-leveled n k NTInt h = refl
-indexed-leveled n k (NTApp t u) h = cc (indexed-leveled n k t h.0, indexed-leveled n k u h.1)
-indexed-leveled n k (NTFun t u) h = cc (indexed-leveled n k t h.0, indexed-leveled n k u h.1)
-indexed-leveled n k (NTForall j t) h =
+indexed-leveled n ls k (NTVar i) h = by (nat_lt i k) refl
+  where
+    by : (b : Bool) → nat_lt i k ≡ b → indexed n k (if b then LBound i (label ls i) else LFree ((n - 1) - (i - k)) (label ls i)) ≡ NTVar i
+    by true e = refl
+    by false e = ap NTVar (omega (arith, ltb-false i k e))
+indexed-leveled n ls k (NTCon c) h = refl
+indexed-leveled n ls k NTInt h = refl
+indexed-leveled n ls k (NTApp t u) h = cc (indexed-leveled n ls k t h.0, indexed-leveled n ls k u h.1)
+indexed-leveled n ls k (NTFun t u) h = cc (indexed-leveled n ls k t h.0, indexed-leveled n ls k u h.1)
+indexed-leveled n ls k (NTForall j t) h =
     let e : suc (n + k) ≡ n + (k + 1) = omega arith in
-    cc (kind_in-tree j, indexed-leveled n (k + 1) t (subst (λ m. IsScopedType m t) e h))
-indexed-leveled n k (NTCoForall r a b t) h = cc (indexed-leveled n k a h.0, indexed-leveled n k b h.1, indexed-leveled n k t h.2)
+    cc (kind_in-tree j, indexed-leveled n (j ∷ ls) (k + 1) t (subst (λ m. IsScopedType m t) e h))
+indexed-leveled n ls k (NTCoForall r a b t) h = cc (indexed-leveled n ls k a h.0, indexed-leveled n ls k b h.1, indexed-leveled n ls k t h.2)
 
-leveled-indexed : (n k : ℕ) (t : Tree) → Scoped n k t → leveled n k (indexed n k t) ≡ t
+leveled-indexed : (ks js : List Kind) (d : ℕ) → d ≡ length js → (t : Tree) → Scoped ks js t → leveled (length ks) (js ++ ks) d (indexed (length ks) d t) ≡ t
 unfolding indexed leveled
-leveled-indexed n k (LBound i) h = grind (arith, nat_tests)
-leveled-indexed n k (LFree l) h = grind (arith, nat_tests)
-leveled-indexed n k (LCon i) h = refl
-leveled-indexed n k LInt h = refl
-leveled-indexed n k (LApp t u) h = cc (leveled-indexed n k t h.0, leveled-indexed n k u h.1)
-leveled-indexed n k (LFun t u) h = cc (leveled-indexed n k t h.0, leveled-indexed n k u h.1)
-leveled-indexed n k (LForall j t) h = cc (kind_tree-in j h.0, leveled-indexed n (k + 1) t h.1)
-leveled-indexed n k (LCoForall r a b t) h = cc (leveled-indexed n k a h.0, leveled-indexed n k b h.1, leveled-indexed n k t h.2)
-leveled-indexed n k t h = absurd h
+leveled-indexed ks js d e (LBound i k) h = by (nat_lt i d) refl
+  where
+    by : (b : Bool) → nat_lt i d ≡ b → (if b then LBound i (label (js ++ ks) i) else LFree ((length ks - 1) - (i - d)) (label (js ++ ks) i)) ≡ LBound i k
+    by true p = ap (LBound i) (label-inner js ks i h.0 ∙ sym h.1)
+    by false p = absurd (omega (arith, ltb-false i d p, h.0))
+leveled-indexed ks js d e (LFree l k) h = by (nat_lt (d + ((length ks - 1) - l)) d) refl
+  where
+    by : (b : Bool) → nat_lt (d + ((length ks - 1) - l)) d ≡ b
+        → (if b then LBound (d + ((length ks - 1) - l)) (label (js ++ ks) (d + ((length ks - 1) - l))) else LFree ((length ks - 1) - ((d + ((length ks - 1) - l)) - d)) (label (js ++ ks) (d + ((length ks - 1) - l)))) ≡ LFree l k
+    by true p = absurd (omega (arith, ltb-true (d + ((length ks - 1) - l)) d p))
+    by false p =
+        let level : (length ks - 1) - ((d + ((length ks - 1) - l)) - d) ≡ l = omega (arith, h.0) in
+        let carries : label (js ++ ks) (d + ((length ks - 1) - l)) ≡ k = label-outer js ks (d + ((length ks - 1) - l)) ((length ks - 1) - l) (omega arith) ∙ sym h.1 in
+        cc
+leveled-indexed ks js d e (LCon i) h = refl
+leveled-indexed ks js d e LInt h = refl
+leveled-indexed ks js d e (LApp t u) h = cc (leveled-indexed ks js d e t h.0, leveled-indexed ks js d e u h.1)
+leveled-indexed ks js d e (LFun t u) h = cc (leveled-indexed ks js d e t h.0, leveled-indexed ks js d e u h.1)
+leveled-indexed ks js d e (LForall j t) h = cc (kind_tree-in j h.0, leveled-indexed ks (kind_in j ∷ js) (d + 1) (omega arith) t h.1)
+leveled-indexed ks js d e (LCoForall r a b t) h = cc (leveled-indexed ks js d e a h.0, leveled-indexed ks js d e b h.1, leveled-indexed ks js d e t h.2)
+leveled-indexed ks js d e t h = absurd h
 
--- trees of one type are the same
-pub indexed-apart : (n : ℕ) (t u : Tree) → Scoped n 0 t → Scoped n 0 u → indexed n 0 t ≡ indexed n 0 u → t ≡ u
-indexed-apart n t u h g e = sym (leveled-indexed n 0 t h) ∙ ap (leveled n 0) e ∙ leveled-indexed n 0 u g
+-- trees of one type in one context are the same
+pub indexed-apart : (ks : List Kind) (t u : Tree) → Scoped ks [] t → Scoped ks [] u → indexed (length ks) 0 t ≡ indexed (length ks) 0 u → t ≡ u
+indexed-apart ks t u h g e = sym (leveled-indexed ks [] 0 refl t h) ∙ ap (leveled (length ks) ks 0) e ∙ leveled-indexed ks [] 0 refl u g
 
 -- ---- shifts
 
 -- past c binders
-abbrev renaming_under : ℕ → (ℕ → ℕ) → ℕ → ℕ
+abbrev pub renaming_under : ℕ → (ℕ → ℕ) → ℕ → ℕ
 renaming_under zero r = r
 renaming_under (suc c) r = renaming_below (renaming_under c r)
 
-renaming_under-low : (c i : ℕ) → i < c → renaming_under c suc i ≡ i
-renaming_under-low zero i h = absurd (omega arith)
-renaming_under-low (suc c) zero h = refl
-renaming_under-low (suc c) (suc i) h = ap suc (renaming_under-low c i (omega arith))
+pub renaming_under-low : (r : ℕ → ℕ) (c i : ℕ) → i < c → renaming_under c r i ≡ i
+renaming_under-low r zero i h = absurd (omega arith)
+renaming_under-low r (suc c) zero h = refl
+renaming_under-low r (suc c) (suc i) h = ap suc (renaming_under-low r c i (omega arith))
 
-renaming_under-high : (c i : ℕ) → c ≤ i → renaming_under c suc i ≡ suc i
-renaming_under-high zero i h = refl
-renaming_under-high (suc c) zero h = absurd (omega arith)
-renaming_under-high (suc c) (suc i) h = ap suc (renaming_under-high c i (omega arith))
+pub renaming_under-high : (s : ℕ) (r : ℕ → ℕ) → ((i : ℕ) → r i ≡ i + s) → (c i : ℕ) → c ≤ i → renaming_under c r i ≡ i + s
+renaming_under-high s r moves zero i h = moves i
+renaming_under-high s r moves (suc c) zero h = absurd (omega arith)
+renaming_under-high s r moves (suc c) (suc i) h = omega (arith, renaming_under-high s r moves c i (omega arith))
 
--- a shift moves what levels show
-renamed-indexed : (n c m : ℕ) (t : Tree) → Scoped n c t → c ≤ m → renamed_type (renaming_under c suc) (indexed n m t) ≡ indexed n (m + 1) t
+-- a shift by s moves what levels show
+renamed-indexed : (s : ℕ) (r : ℕ → ℕ) → ((i : ℕ) → r i ≡ i + s) → (ks js : List Kind) (c m : ℕ) → c ≡ length js → (t : Tree) → Scoped ks js t → c ≤ m
+    → renamed_type (renaming_under c r) (indexed (length ks) m t) ≡ indexed (length ks) (m + s) t
 unfolding indexed
-renamed-indexed n c m (LBound i) h g = ap NTVar (renaming_under-low c i h)
-renamed-indexed n c m (LFree l) h g =
-    let e : suc (m + ((n - 1) - l)) ≡ (m + 1) + ((n - 1) - l) = omega arith in
-    ap NTVar (renaming_under-high c (m + ((n - 1) - l)) (omega arith) ∙ e)
-renamed-indexed n c m (LCon i) h g = refl
-renamed-indexed n c m LInt h g = refl
-renamed-indexed n c m (LApp t u) h g = cc (renamed-indexed n c m t h.0 g, renamed-indexed n c m u h.1 g)
-renamed-indexed n c m (LFun t u) h g = cc (renamed-indexed n c m t h.0 g, renamed-indexed n c m u h.1 g)
-renamed-indexed n c m (LForall j t) h g =
-    let e : c + 1 ≡ suc c = omega arith in
-    ap (NTForall (kind_in j)) (renamed-indexed n (suc c) (m + 1) t (subst (λ x. Scoped n x t) e h.1) (omega arith))
-renamed-indexed n c m (LCoForall r a b t) h g = cc (renamed-indexed n c m a h.0 g, renamed-indexed n c m b h.1 g, renamed-indexed n c m t h.2 g)
-renamed-indexed n c m t h g = absurd h
+renamed-indexed s r moves ks js c m e (LBound i k) h g = ap NTVar (renaming_under-low r c i (omega (arith, h.0)))
+renamed-indexed s r moves ks js c m e (LFree l k) h g =
+    let p : (m + ((length ks - 1) - l)) + s ≡ (m + s) + ((length ks - 1) - l) = omega arith in
+    ap NTVar (renaming_under-high s r moves c (m + ((length ks - 1) - l)) (omega arith) ∙ p)
+renamed-indexed s r moves ks js c m e (LCon i) h g = refl
+renamed-indexed s r moves ks js c m e LInt h g = refl
+renamed-indexed s r moves ks js c m e (LApp t u) h g = cc (renamed-indexed s r moves ks js c m e t h.0 g, renamed-indexed s r moves ks js c m e u h.1 g)
+renamed-indexed s r moves ks js c m e (LFun t u) h g = cc (renamed-indexed s r moves ks js c m e t h.0 g, renamed-indexed s r moves ks js c m e u h.1 g)
+renamed-indexed s r moves ks js c m e (LForall j t) h g =
+    let p : (m + 1) + s ≡ (m + s) + 1 = omega arith in
+    ap (NTForall (kind_in j)) (renamed-indexed s r moves ks (kind_in j ∷ js) (suc c) (m + 1) (omega arith) t h.1 (omega arith) ∙ ap (λ x. indexed (length ks) x t) p)
+renamed-indexed s r moves ks js c m e (LCoForall o a b t) h g =
+    cc (renamed-indexed s r moves ks js c m e a h.0 g, renamed-indexed s r moves ks js c m e b h.1 g, renamed-indexed s r moves ks js c m e t h.2 g)
+renamed-indexed s r moves ks js c m e t h g = absurd h
 
--- one variable more in the context counts as one binder more
-indexed-weaker : (n k : ℕ) (t : Tree) → Scoped n k t → indexed (n + 1) k t ≡ indexed n (k + 1) t
+-- variables more in the context count as binders more
+indexed-weaker : (s n : ℕ) (ks js : List Kind) → n ≡ length ks + s → (k : ℕ) (t : Tree) → Scoped ks js t → indexed n k t ≡ indexed (length ks) (k + s) t
 unfolding indexed
-indexed-weaker n k (LBound i) h = refl
-indexed-weaker n k (LFree l) h = ap NTVar (omega arith)
-indexed-weaker n k (LCon i) h = refl
-indexed-weaker n k LInt h = refl
-indexed-weaker n k (LApp t u) h = cc (indexed-weaker n k t h.0, indexed-weaker n k u h.1)
-indexed-weaker n k (LFun t u) h = cc (indexed-weaker n k t h.0, indexed-weaker n k u h.1)
-indexed-weaker n k (LForall j t) h = ap (NTForall (kind_in j)) (indexed-weaker n (k + 1) t h.1)
-indexed-weaker n k (LCoForall r a b t) h = cc (indexed-weaker n k a h.0, indexed-weaker n k b h.1, indexed-weaker n k t h.2)
-indexed-weaker n k t h = absurd h
+indexed-weaker s n ks js e k (LBound i j) h = refl
+indexed-weaker s n ks js e k (LFree l j) h = ap NTVar (omega (arith, h.0))
+indexed-weaker s n ks js e k (LCon i) h = refl
+indexed-weaker s n ks js e k LInt h = refl
+indexed-weaker s n ks js e k (LApp t u) h = cc (indexed-weaker s n ks js e k t h.0, indexed-weaker s n ks js e k u h.1)
+indexed-weaker s n ks js e k (LFun t u) h = cc (indexed-weaker s n ks js e k t h.0, indexed-weaker s n ks js e k u h.1)
+indexed-weaker s n ks js e k (LForall j t) h =
+    let p : (k + 1) + s ≡ (k + s) + 1 = omega arith in
+    ap (NTForall (kind_in j)) (indexed-weaker s n ks (kind_in j ∷ js) e (k + 1) t h.1 ∙ ap (λ x. indexed (length ks) x t) p)
+indexed-weaker s n ks js e k (LCoForall r a b t) h = cc (indexed-weaker s n ks js e k a h.0, indexed-weaker s n ks js e k b h.1, indexed-weaker s n ks js e k t h.2)
+indexed-weaker s n ks js e k t h = absurd h
 
--- a look-up past one variable more of the context: the number stays, and what it shows is shifted
-pub indexed-more : (n : ℕ) (t : Tree) → Scoped n 0 t → indexed (n + 1) 0 t ≡ shifted_type (indexed n 0 t)
-indexed-more n t h = indexed-weaker n 0 t h ∙ sym (renamed-indexed n 0 0 t h (omega arith))
+-- a look-up past more variables of the context: the number stays, and what it shows is renamed
+pub indexed-more : (r : ℕ → ℕ) (bs ks : List Kind) → ((i : ℕ) → r i ≡ i + length bs) → (t : Tree) → Scoped ks [] t → indexed (length (bs ++ ks)) 0 t ≡ renamed_type r (indexed (length ks) 0 t)
+indexed-more r bs ks moves t h =
+    indexed-weaker (length bs) (length (bs ++ ks)) ks [] (omega (arith, length-append bs ks)) 0 t h ∙ sym (renamed-indexed (length bs) r moves ks [] 0 0 refl t h (omega arith))
 
 -- ---- substitution
 
@@ -126,146 +131,57 @@ under_high zero i u h = refl
 under_high (suc k) zero u h = absurd (omega arith)
 under_high (suc k) (suc i) u h = ap shifted_type (under_high k i u (omega arith))
 
-under_here : (n k : ℕ) (u : Tree) → Scoped n 0 u → types_under k (type_for_innermost (indexed n 0 u)) k ≡ indexed n k u
-under_here n zero u h = refl
-under_here n (suc k) u h =
+under_here : (ks : List Kind) (k : ℕ) (u : Tree) → Scoped ks [] u → types_under k (type_for_innermost (indexed (length ks) 0 u)) k ≡ indexed (length ks) k u
+under_here ks zero u h = refl
+under_here ks (suc k) u h =
     let e : k + 1 ≡ suc k = omega arith in
-    ap shifted_type (under_here n k u h) ∙ renamed-indexed n 0 k u h (omega arith) ∙ ap (λ m. indexed n m u) e
+    ap shifted_type (under_here ks k u h) ∙ renamed-indexed 1 suc (λ i. omega arith) ks [] 0 k refl u h (omega arith) ∙ ap (λ m. indexed (length ks) m u) e
 
 -- opening is substitution
-indexed-opened : (n k : ℕ) (u t : Tree) → Scoped n 0 u → Scoped n (k + 1) t → indexed n k (opened k u t) ≡ substituted_type (types_under k (type_for_innermost (indexed n 0 u))) (indexed n (k + 1) t)
+indexed-opened : (ks js : List Kind) (j : Kind) (k : ℕ) → k ≡ length js → (u t : Tree) → Scoped ks [] u → Scoped ks (js ++ j ∷ []) t
+    → indexed (length ks) k (opened k u t) ≡ substituted_type (types_under k (type_for_innermost (indexed (length ks) 0 u))) (indexed (length ks) (k + 1) t)
 unfolding indexed opened
-indexed-opened n k u (LBound i) c h = by (nat_eq i k) refl
+indexed-opened ks js j k e u (LBound i o) c h = by (nat_eq i k) refl
   where
-    by : (b : Bool) → nat_eq i k ≡ b → indexed n k (if b then u else LBound i) ≡ types_under k (type_for_innermost (indexed n 0 u)) i
-    by true e = sym (subst (λ j. types_under k (type_for_innermost (indexed n 0 u)) j ≡ indexed n k u) (sym (eqb-true i k e)) (under_here n k u c))
-    by false e = let g : i ≢ k = λ p. true≢false (sym (eq-eqb i k p) ∙ e) in sym (under_low k i (indexed n 0 u) (omega arith))
-indexed-opened n k u (LFree l) c h =
-    let e : (k + 1) + ((n - 1) - l) ≡ suc (k + ((n - 1) - l)) = omega arith in
-    sym (ap (types_under k (type_for_innermost (indexed n 0 u))) e ∙ under_high k (k + ((n - 1) - l)) (indexed n 0 u) (omega arith))
-indexed-opened n k u (LCon i) c h = refl
-indexed-opened n k u LInt c h = refl
-indexed-opened n k u (LApp s t) c h = cc (indexed-opened n k u s c h.0, indexed-opened n k u t c h.1)
-indexed-opened n k u (LFun s t) c h = cc (indexed-opened n k u s c h.0, indexed-opened n k u t c h.1)
-indexed-opened n k u (LForall j t) c h =
-    let e : suc k ≡ k + 1 = omega arith in
-    ap (NTForall (kind_in j)) (indexed-opened n (k + 1) u t c h.1 ∙ sym (ap (λ m. substituted_type (types_under m (type_for_innermost (indexed n 0 u))) (indexed n ((k + 1) + 1) t)) e))
-indexed-opened n k u (LCoForall r a b t) c h = cc (indexed-opened n k u a c h.0, indexed-opened n k u b c h.1, indexed-opened n k u t c h.2)
-indexed-opened n k u t c h = absurd h
+    by : (b : Bool) → nat_eq i k ≡ b → indexed (length ks) k (if b then u else LBound i o) ≡ types_under k (type_for_innermost (indexed (length ks) 0 u)) i
+    by true p = sym (subst (λ m. types_under k (type_for_innermost (indexed (length ks) 0 u)) m ≡ indexed (length ks) k u) (sym (eqb-true i k p)) (under_here ks k u c))
+    by false p =
+        let g : i ≢ k = λ q. true≢false (sym (eq-eqb i k q) ∙ p) in
+        sym (under_low k i (indexed (length ks) 0 u) (omega (arith, h.0, length-append js (j ∷ []))))
+indexed-opened ks js j k e u (LFree l o) c h =
+    let p : (k + 1) + ((length ks - 1) - l) ≡ suc (k + ((length ks - 1) - l)) = omega arith in
+    sym (ap (types_under k (type_for_innermost (indexed (length ks) 0 u))) p ∙ under_high k (k + ((length ks - 1) - l)) (indexed (length ks) 0 u) (omega arith))
+indexed-opened ks js j k e u (LCon i) c h = refl
+indexed-opened ks js j k e u LInt c h = refl
+indexed-opened ks js j k e u (LApp s t) c h = cc (indexed-opened ks js j k e u s c h.0, indexed-opened ks js j k e u t c h.1)
+indexed-opened ks js j k e u (LFun s t) c h = cc (indexed-opened ks js j k e u s c h.0, indexed-opened ks js j k e u t c h.1)
+indexed-opened ks js j k e u (LForall o t) c h =
+    let p : suc k ≡ k + 1 = omega arith in
+    ap (NTForall (kind_in o)) (indexed-opened ks (kind_in o ∷ js) j (k + 1) (omega arith) u t c h.1
+    ∙ sym (ap (λ m. substituted_type (types_under m (type_for_innermost (indexed (length ks) 0 u))) (indexed (length ks) ((k + 1) + 1) t)) p))
+indexed-opened ks js j k e u (LCoForall r a b t) c h = cc (indexed-opened ks js j k e u a c h.0, indexed-opened ks js j k e u b c h.1, indexed-opened ks js j k e u t c h.2)
+indexed-opened ks js j k e u t c h = absurd h
 
-pub indexed-instantiated : (n : ℕ) (u t : Tree) → Scoped n 0 u → Scoped n 1 t → indexed n 0 (opened 0 u t) ≡ instantiated (indexed n 0 u) (indexed n 1 t)
-indexed-instantiated n u t c h = indexed-opened n 0 u t c h
+pub indexed-instantiated : (ks : List Kind) (j : Kind) (u t : Tree) → Scoped ks [] u → Scoped ks (j ∷ []) t → indexed (length ks) 0 (opened 0 u t) ≡ instantiated (indexed (length ks) 0 u) (indexed (length ks) 1 t)
+indexed-instantiated ks j u t c h = indexed-opened ks [] j 0 refl u t c h
 
 -- to bind the last variable of the context changes no index
-indexed-closed_over : (n k : ℕ) (t : Tree) → Scoped (n + 1) k t → indexed n (k + 1) (closed_over n k t) ≡ indexed (n + 1) k t
+indexed-closed_over : (ks js : List Kind) (j : Kind) (n k : ℕ) → n ≡ length ks → (t : Tree) → Scoped (j ∷ ks) js t → indexed n (k + 1) (closed_over n k t) ≡ indexed (length (j ∷ ks)) k t
 unfolding indexed closed_over
-indexed-closed_over n k (LBound i) h = refl
-indexed-closed_over n k (LFree l) h = by (nat_eq l n) refl
+indexed-closed_over ks js j n k e (LBound i o) h = refl
+indexed-closed_over ks js j n k e (LFree l o) h = by (nat_eq l n) refl
   where
-    by : (b : Bool) → nat_eq l n ≡ b → indexed n (k + 1) (if b then LBound k else LFree l) ≡ NTVar (k + (((n + 1) - 1) - l))
-    by true e = ap NTVar (omega (arith, eqb-true l n e))
-    by false e = let g : l ≢ n = λ p. true≢false (sym (eq-eqb l n p) ∙ e) in ap NTVar (omega arith)
-indexed-closed_over n k (LCon i) h = refl
-indexed-closed_over n k LInt h = refl
-indexed-closed_over n k (LApp t u) h = cc (indexed-closed_over n k t h.0, indexed-closed_over n k u h.1)
-indexed-closed_over n k (LFun t u) h = cc (indexed-closed_over n k t h.0, indexed-closed_over n k u h.1)
-indexed-closed_over n k (LForall j t) h = ap (NTForall (kind_in j)) (indexed-closed_over n (k + 1) t h.1)
-indexed-closed_over n k (LCoForall r a b t) h = cc (indexed-closed_over n k a h.0, indexed-closed_over n k b h.1, indexed-closed_over n k t h.2)
-indexed-closed_over n k t h = absurd h
+    by : (b : Bool) → nat_eq l n ≡ b → indexed n (k + 1) (if b then LBound k o else LFree l o) ≡ NTVar (k + ((length (j ∷ ks) - 1) - l))
+    by true p = ap NTVar (omega (arith, eqb-true l n p))
+    by false p = let g : l ≢ n = λ q. true≢false (sym (eq-eqb l n q) ∙ p) in ap NTVar (omega (arith, h.0))
+indexed-closed_over ks js j n k e (LCon i) h = refl
+indexed-closed_over ks js j n k e LInt h = refl
+indexed-closed_over ks js j n k e (LApp t u) h = cc (indexed-closed_over ks js j n k e t h.0, indexed-closed_over ks js j n k e u h.1)
+indexed-closed_over ks js j n k e (LFun t u) h = cc (indexed-closed_over ks js j n k e t h.0, indexed-closed_over ks js j n k e u h.1)
+indexed-closed_over ks js j n k e (LForall o t) h = ap (NTForall (kind_in o)) (indexed-closed_over ks (kind_in o ∷ js) j n (k + 1) e t h.1)
+indexed-closed_over ks js j n k e (LCoForall r a b t) h =
+    cc (indexed-closed_over ks js j n k e a h.0, indexed-closed_over ks js j n k e b h.1, indexed-closed_over ks js j n k e t h.2)
+indexed-closed_over ks js j n k e t h = absurd h
 
-pub indexed-generalized : (n : ℕ) (t : Tree) → Scoped (n + 1) 0 t → indexed n 1 (closed_over n 0 t) ≡ indexed (n + 1) 0 t
-indexed-generalized n t h = indexed-closed_over n 0 t h
-
--- ---- scopes
-
-pub Scoped-weaker : (n k : ℕ) (t : Tree) → Scoped n k t → Scoped (n + 1) k t
-Scoped-weaker n k (LBound i) h = h
-Scoped-weaker n k (LFree l) h = omega arith
-Scoped-weaker n k (LCon i) h = tt
-Scoped-weaker n k LInt h = tt
-Scoped-weaker n k (LApp t u) h = (Scoped-weaker n k t h.0, Scoped-weaker n k u h.1)
-Scoped-weaker n k (LFun t u) h = (Scoped-weaker n k t h.0, Scoped-weaker n k u h.1)
-Scoped-weaker n k (LForall j t) h = (h.0, Scoped-weaker n (k + 1) t h.1)
-Scoped-weaker n k (LCoForall r a b t) h = (Scoped-weaker n k a h.0, Scoped-weaker n k b h.1, Scoped-weaker n k t h.2)
-Scoped-weaker n k t h = absurd h
-
--- under more binders
-Scoped-more : (n k m : ℕ) (t : Tree) → k ≤ m → Scoped n k t → Scoped n m t
-Scoped-more n k m (LBound i) g h = omega arith
-Scoped-more n k m (LFree l) g h = h
-Scoped-more n k m (LCon i) g h = tt
-Scoped-more n k m LInt g h = tt
-Scoped-more n k m (LApp t u) g h = (Scoped-more n k m t g h.0, Scoped-more n k m u g h.1)
-Scoped-more n k m (LFun t u) g h = (Scoped-more n k m t g h.0, Scoped-more n k m u g h.1)
-Scoped-more n k m (LForall j t) g h = (h.0, Scoped-more n (k + 1) (m + 1) t (omega arith) h.1)
-Scoped-more n k m (LCoForall r a b t) g h = (Scoped-more n k m a g h.0, Scoped-more n k m b g h.1, Scoped-more n k m t g h.2)
-Scoped-more n k m t g h = absurd h
-
-pub Scoped-opened : (n k : ℕ) (u t : Tree) → Scoped n 0 u → Scoped n (k + 1) t → Scoped n k (opened k u t)
-unfolding opened
-Scoped-opened n k u (LBound i) c h = by (nat_eq i k) refl
-  where
-    by : (b : Bool) → nat_eq i k ≡ b → Scoped n k (if b then u else LBound i)
-    by true e = Scoped-more n 0 k u (omega arith) c
-    by false e = let g : i ≢ k = λ p. true≢false (sym (eq-eqb i k p) ∙ e) in omega arith
-Scoped-opened n k u (LFree l) c h = h
-Scoped-opened n k u (LCon i) c h = tt
-Scoped-opened n k u LInt c h = tt
-Scoped-opened n k u (LApp s t) c h = (Scoped-opened n k u s c h.0, Scoped-opened n k u t c h.1)
-Scoped-opened n k u (LFun s t) c h = (Scoped-opened n k u s c h.0, Scoped-opened n k u t c h.1)
-Scoped-opened n k u (LForall j t) c h = (h.0, Scoped-opened n (k + 1) u t c h.1)
-Scoped-opened n k u (LCoForall r a b t) c h = (Scoped-opened n k u a c h.0, Scoped-opened n k u b c h.1, Scoped-opened n k u t c h.2)
-Scoped-opened n k u t c h = absurd h
-
-pub Scoped-closed_over : (n k : ℕ) (t : Tree) → Scoped (n + 1) k t → Scoped n (k + 1) (closed_over n k t)
-unfolding closed_over
-Scoped-closed_over n k (LBound i) h = omega arith
-Scoped-closed_over n k (LFree l) h = by (nat_eq l n) refl
-  where
-    by : (b : Bool) → nat_eq l n ≡ b → Scoped n (k + 1) (if b then LBound k else LFree l)
-    by true e = omega arith
-    by false e = let g : l ≢ n = λ p. true≢false (sym (eq-eqb l n p) ∙ e) in omega arith
-Scoped-closed_over n k (LCon i) h = tt
-Scoped-closed_over n k LInt h = tt
-Scoped-closed_over n k (LApp t u) h = (Scoped-closed_over n k t h.0, Scoped-closed_over n k u h.1)
-Scoped-closed_over n k (LFun t u) h = (Scoped-closed_over n k t h.0, Scoped-closed_over n k u h.1)
-Scoped-closed_over n k (LForall j t) h = (h.0, Scoped-closed_over n (k + 1) t h.1)
-Scoped-closed_over n k (LCoForall r a b t) h = (Scoped-closed_over n k a h.0, Scoped-closed_over n k b h.1, Scoped-closed_over n k t h.2)
-Scoped-closed_over n k t h = absurd h
-
--- a type that is put into the table stands in its context
-pub Scoped-leveled : (n k : ℕ) (t : NTy) → IsScopedType (n + k) t → Scoped n k (leveled n k t)
-unfolding leveled
-Scoped-leveled n k (NTVar i) h = by (nat_lt i k) refl
-  where
-    by : (b : Bool) → nat_lt i k ≡ b → Scoped n k (if b then LBound i else LFree ((n - 1) - (i - k)))
-    by true e = ltb-true i k e
-    by false e = omega (arith, ltb-false i k e)
-Scoped-leveled n k (NTCon c) h = tt
-Scoped-leveled n k NTInt h = tt
-Scoped-leveled n k (NTApp t u) h = (Scoped-leveled n k t h.0, Scoped-leveled n k u h.1)
-Scoped-leveled n k (NTFun t u) h = (Scoped-leveled n k t h.0, Scoped-leveled n k u h.1)
-Scoped-leveled n k (NTForall j t) h =
-    let e : suc (n + k) ≡ n + (k + 1) = omega arith in
-    (IsKind-tree j, Scoped-leveled n (k + 1) t (subst (λ m. IsScopedType m t) e h))
-Scoped-leveled n k (NTCoForall r a b t) h = (Scoped-leveled n k a h.0, Scoped-leveled n k b h.1, Scoped-leveled n k t h.2)
-
--- ---- where there is nothing to replace
-
-pub opened-itself : (k : ℕ) (u t : Tree) → loose_end t ≤ k → opened k u t ≡ t
-unfolding opened
-opened-itself k u (LBound i) h = grind (arith, nat_tests)
-opened-itself k u (LApp s t) h = cc (opened-itself k u s (omega arith), opened-itself k u t (omega arith))
-opened-itself k u (LFun s t) h = cc (opened-itself k u s (omega arith), opened-itself k u t (omega arith))
-opened-itself k u (LForall j t) h = ap (LForall j) (opened-itself (k + 1) u t (omega arith))
-opened-itself k u (LCoForall r a b t) h = cc (opened-itself k u a (omega arith), opened-itself k u b (omega arith), opened-itself k u t (omega arith))
-opened-itself k u t h = refl
-
-pub closed_over-itself : (l k : ℕ) (t : Tree) → level_end t ≤ l → closed_over l k t ≡ t
-unfolding closed_over
-closed_over-itself l k (LFree m) h = grind (arith, nat_tests)
-closed_over-itself l k (LApp s t) h = cc (closed_over-itself l k s (omega arith), closed_over-itself l k t (omega arith))
-closed_over-itself l k (LFun s t) h = cc (closed_over-itself l k s (omega arith), closed_over-itself l k t (omega arith))
-closed_over-itself l k (LForall j t) h = ap (LForall j) (closed_over-itself l (k + 1) t (omega arith))
-closed_over-itself l k (LCoForall r a b t) h = cc (closed_over-itself l k a (omega arith), closed_over-itself l k b (omega arith), closed_over-itself l k t (omega arith))
-closed_over-itself l k t h = refl
+pub indexed-generalized : (ks : List Kind) (j : Kind) (n : ℕ) → n ≡ length ks → (t : Tree) → Scoped (j ∷ ks) [] t → indexed (length ks) 1 (closed_over n 0 t) ≡ indexed (length (j ∷ ks)) 0 t
+indexed-generalized ks j n e t h = ap (λ m. indexed m 1 (closed_over n 0 t)) (sym e) ∙ indexed-closed_over ks [] j n 0 e t h

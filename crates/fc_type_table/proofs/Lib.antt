@@ -1,7 +1,15 @@
 pub mod NameKeys
+pub mod KindTrees
 pub mod Tables
 pub mod SameNodes
+pub mod KindNumbers
+pub mod Labels
+pub mod KindsShown
 pub mod Levels
-pub mod Numbers
+pub mod ScopedTrees
 pub mod Walked
+pub mod Parameters
+pub mod Interned
+pub mod Numbers
 pub mod Shown
+pub mod Noted

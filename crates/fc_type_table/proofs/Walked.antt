@@ -9,7 +9,7 @@ use Rattle.fc_type_table.specs.declared.node.Node.{Node}
 use Rattle.fc_type_table.specs.declared.node.Measure.{Measure}
 use Rattle.fc_type_table.specs.declared.node.TypeId.{TypeId}
 use Rattle.fc_type_table.specs.declared.spot.Spot.{Spot}
-use Rattle.fc_type_table.proofs.Levels.{closed_over-itself, opened-itself}
+use Rattle.fc_type_table.proofs.ScopedTrees.{closed_over-itself, opened-itself}
 
 Opened-extends : {S : Type 0} (old new : List Node) (by : ℕ) (done : IndexMap Spot TypeId S) → Extends old new → by < length old → Opened old by done → Opened new by done
 Opened-extends old new by done more by_in seen =
@@ -44,6 +44,9 @@ pub closed_over-measured : (l k : ℕ) (t : Tree) (m : Measure) → Measures t m
 closed_over-measured l k t m right h = sym (closed_over-itself l k t (omega arith))
 
 -- ---- three parts, one after the other
+
+pub Extends-thrice : (k0 k1 k2 k3 : List Node) → Extends k0 k1 → Extends k1 k2 → Extends k2 k3 → Extends k0 k3
+Extends-thrice k0 k1 k2 k3 p q s = record { longer = omega arith; stays = λ i h. s.stays i (omega arith) ∙ q.stays i (omega arith) ∙ p.stays i h }
 
 pub Extends-after : {T E : Type 0} (r : Result T E) (k0 k1 k2 k3 k4 : List Node) → Extends k0 k1 → Extends k1 k2 → Extends k2 k3 → OnOk r (Extends k3 k4) → OnOk r (Extends k0 k4)
 Extends-after (Ok x) k0 k1 k2 k3 k4 p q s l = record {

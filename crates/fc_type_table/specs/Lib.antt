@@ -1,6 +1,10 @@
 pub mod Names
 pub mod Trees
+pub mod TreeKinds
 pub mod Nodes
+pub mod Instances
+pub mod Facts
+pub mod Told
 pub mod Scopes
 pub mod TypeTables
 pub mod Walks

@@ -1,10 +1,11 @@
 -- What the contracts of a table of types speak of.
-use Rattle.std.specs.Prelude.{ℕ, ◌<◌, Bool, false, List, length, Option, Some, None}
+use Rattle.std.specs.Prelude.{◌≡◌, ℕ, ◌+◌, ◌<◌, List, length}
 use Rattle.fc_syntax.specs.Tree.{Kind}
-use Rattle.fc_model.specs.Kinding.{same_kind}
-use Rattle.fc_model.specs.Nameless.{NTy, NTVar, NTCon, NTInt, NTApp, NTFun, NTForall, NTCoForall}
-use Rattle.fc_model.specs.Substituting.{instantiated}
-use Rattle.fc_type_table.specs.Nodes.{Extends}
+use Rattle.fc_model.specs.Kinding.{Modules}
+use Rattle.fc_model.specs.Nameless.{NTy}
+use Rattle.fc_model.specs.Substituting.{renamed_type}
+use Rattle.fc_types.specs.ModuleViews.{modules_of}
+use Rattle.fc_type_table.specs.Nodes.{Extends, IsKindAt, kind_at}
 use Rattle.fc_type_table.specs.Scopes.{IsTypeAt, shown_at}
 use Rattle.fc_type_table.specs.declared.node.Node.{Node}
 use Rattle.fc_type_table.specs.declared.node.TypeId.{TypeId}
@@ -14,48 +15,35 @@ use Rattle.fc_type_table.specs.declared.table.TypeTable.{TypeTable}
 abbrev pub nodes_of : TypeTable → List Node
 nodes_of table = table.nodes.keys
 
+-- what is declared where the types of a table stand
+abbrev pub modules_in : TypeTable → Modules
+modules_in table = modules_of table.declared.now
+
 -- a number of the table
 abbrev pub IsNumber : TypeTable → TypeId → Type 0
 IsNumber table id = id.0 < length (nodes_of table)
 
--- a number of the table, of a type whose variables stand in a context of n type variables
-abbrev pub IsType : TypeTable → ℕ → TypeId → Type 0
-IsType table n id = IsTypeAt (nodes_of table) n id.0
+-- a number of the table, of a type whose variables stand in a context of type variables of these kinds, the innermost first
+abbrev pub IsType : TypeTable → List Kind → TypeId → Type 0
+IsType table ks id = IsTypeAt (nodes_of table) ks id.0
 
--- the type of a number in a context of n type variables
-abbrev pub shown : TypeTable → ℕ → TypeId → NTy
-shown table n id = shown_at (nodes_of table) n id.0
+-- the type of a number in a context of type variables of these kinds
+abbrev pub shown : TypeTable → List Kind → TypeId → NTy
+shown table ks id = shown_at (nodes_of table) ks id.0
 
--- the numbers of old are numbers of new and show the same
-abbrev pub Grows : TypeTable → TypeTable → Type 0
-Grows old new = Extends (nodes_of old) (nodes_of new)
+-- a number of the table, of a kind
+abbrev pub IsKindId : TypeTable → TypeId → Type 0
+IsKindId table id = IsKindAt (nodes_of table) id.0
 
--- where a function goes from and to
-abbrev pub function_ends : NTy → Option (NTy × NTy)
-function_ends (NTVar i) = None
-function_ends (NTCon n) = None
-function_ends NTInt = None
-function_ends (NTApp t u) = None
-function_ends (NTFun t u) = Some (t, u)
-function_ends (NTForall k t) = None
-function_ends (NTCoForall r left right t) = None
+-- the kind of a number
+abbrev pub kind_shown : TypeTable → TypeId → Kind
+kind_shown table id = kind_at (nodes_of table) id.0
 
--- a type, where it is a `forall`, at the type u
-abbrev pub at_type : NTy → NTy → Option NTy
-at_type (NTVar i) u = None
-at_type (NTCon n) u = None
-at_type NTInt u = None
-at_type (NTApp s t) u = None
-at_type (NTFun s t) u = None
-at_type (NTForall k t) u = Some (instantiated u t)
-at_type (NTCoForall r left right t) u = None
+-- the numbers of old are numbers of new and show the same, and both stand in the same modules
+pub record Grows (old new : TypeTable) : Type 0 where
+  pub nodes : Extends (nodes_of old) (nodes_of new)
+  pub modules : modules_in new ≡ modules_in old
 
--- a `forall` over a variable of the kind k
-abbrev pub is_forall_over : NTy → Kind → Bool
-is_forall_over (NTVar i) k = false
-is_forall_over (NTCon n) k = false
-is_forall_over NTInt k = false
-is_forall_over (NTApp t u) k = false
-is_forall_over (NTFun t u) k = false
-is_forall_over (NTForall j t) k = same_kind j k
-is_forall_over (NTCoForall r left right t) k = false
+-- a type past more type variables of the context, all of them further in
+abbrev pub past : ℕ → NTy → NTy
+past more t = renamed_type (λ i. i + more) t

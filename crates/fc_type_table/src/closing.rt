@@ -1,10 +1,11 @@
 //! A variable of the context bound by a `forall`.
-ghost use Rattle.std.specs.Prelude.{◌≡◌, ◌<◌, ◌+◌, ◌^◌, length, IfOk, OnOk};
+ghost use Rattle.std.specs.Prelude.{◌≡◌, ◌<◌, ◌+◌, ◌^◌, List, ◌∷◌, length, IfOk, OnOk};
+ghost use Rattle.fc_syntax.specs.Tree as trees;
 ghost use Rattle.fc_syntax.specs.View.{kind_of};
 ghost use Rattle.fc_model.specs.Nameless.{NTForall};
 ghost use Rattle.fc_type_table.specs.Nodes.{Extends, tree_at};
 ghost use Rattle.fc_type_table.specs.Trees.{closed_over};
-ghost use Rattle.fc_type_table.specs.TypeTables.{Grows, IsType, nodes_of, shown};
+ghost use Rattle.fc_type_table.specs.TypeTables.{Grows, IsNumber, IsType, modules_in, nodes_of, shown};
 ghost use Rattle.fc_type_table.specs.Walks.{Closed};
 
 use crate::node::{Piece, TypeId};
@@ -32,6 +33,7 @@ impl<'a> TypeTable<'a> {
         ensures within { IfOk result (λ id. id.0 < length (nodes_of self.new)) }
         ensures shown { IfOk result (λ id. tree_at (nodes_of self.new) id.0 ≡ closed_over level depth (tree_at (nodes_of self.old) part.0)) }
         ensures extends { OnOk result (Extends (nodes_of self.old) (nodes_of self.new)) }
+        ensures modules { OnOk result (modules_in self.new ≡ modules_in self.old) }
         ensures seen { OnOk result (Closed (nodes_of self.new) level done.new) }
     {
         let measure = self.measure(part);
@@ -63,16 +65,17 @@ impl<'a> TypeTable<'a> {
         ensures within { IfOk result (λ id. id.0 < length (nodes_of self.new)) }
         ensures shown { IfOk result (λ id. tree_at (nodes_of self.new) id.0 ≡ closed_over level depth (tree_at (nodes_of self.old) part.0)) }
         ensures extends { OnOk result (Extends (nodes_of self.old) (nodes_of self.new)) }
+        ensures modules { OnOk result (modules_in self.new ≡ modules_in self.old) }
         ensures seen { OnOk result (Closed (nodes_of self.new) level done.new) }
     {
         match self.piece(part) {
             Piece::Star => Ok(part),
             Piece::Hash => Ok(part),
             Piece::Arrow(_, _) => Ok(part),
-            Piece::Bound(_) => Ok(part),
-            Piece::Free(of) => {
+            Piece::Bound(_, _) => Ok(part),
+            Piece::Free(of, kind) => {
                 if of == level {
-                    self.intern(Piece::Bound(depth))
+                    self.intern(Piece::Bound(depth, kind))
                 } else {
                     Ok(part)
                 }
@@ -102,23 +105,24 @@ impl<'a> TypeTable<'a> {
         }
     }
 
-    /// The `forall` over the innermost of `context + 1` type variables, with a body that stands among them. Each part of the body is
-    /// visited once.
+    /// The `forall` over the innermost of `variables + 1` type variables, which is of this kind, with a body that stands among them. Each
+    /// part of the body is visited once.
     pub fn generalize(
         &mut self,
         alloc: Global,
         kind: &Kind,
         body: TypeId,
-        context: u32,
+        variables: u32,
     ) -> Result<TypeId, Memory>
-        requires { IsType self.old (context + 1) body }
-        ensures valid { IfOk result (λ id. IsType self.new context id) }
-        ensures view { IfOk result (λ id. shown self.new context id ≡ NTForall (kind_of kind.now) (shown self.old (context + 1) body)) }
+        requires { IsNumber self.old body }
+        ensures number { IfOk result (λ id. IsNumber self.new id) }
+        ensures valid { IfOk result (λ id. (ks : List trees.Kind) → length ks ≡ variables → IsType self.old (kind_of kind.now ∷ ks) body → IsType self.new ks id) }
+        ensures view { IfOk result (λ id. (ks : List trees.Kind) → length ks ≡ variables → IsType self.old (kind_of kind.now ∷ ks) body → shown self.new ks id ≡ NTForall (kind_of kind.now) (shown self.old (kind_of kind.now ∷ ks) body)) }
         ensures grows { OnOk result (Grows self.old self.new) }
     {
-        let kind = self.read_kind(kind, 0)?;
+        let kind = self.put_kind(kind, 0)?;
         let mut done = IndexMap::new(alloc);
-        let body = self.close_seen(&mut done, 0, body, context)?;
+        let body = self.close_seen(&mut done, 0, body, variables)?;
         self.intern(Piece::Forall(kind, body))
     }
 }

@@ -1,5 +1,5 @@
 //! The nodes of a table.
-ghost use Rattle.std.specs.Prelude.{◌≡◌, ◌+◌, ◌-◌, max, IfOk};
+ghost use Rattle.std.specs.Prelude.{◌≡◌, ◌+◌, ◌-◌, max, false, None, IfOk};
 ghost use Rattle.std.specs.Option.{option_map};
 ghost use Rattle.fc_type_table.specs.Names.{name_from, name_of};
 
@@ -43,10 +43,10 @@ pub enum Piece<'a> {
     Hash,
     /// The kind of what goes from the first kind to the second.
     Arrow(TypeId, TypeId),
-    /// A variable that a `forall` of the type binds, by its distance to its binder.
-    Bound(u32),
-    /// A variable of the context, by its place there, counted from the outermost.
-    Free(u32),
+    /// A variable that a `forall` of the type binds, by its distance to its binder, with its kind.
+    Bound(u32, TypeId),
+    /// A variable of the context, by its place there, counted from the outermost, with its kind.
+    Free(u32, TypeId),
     /// A data type, newtype or family.
     Con(NameKey<'a>),
     /// `Int#`.
@@ -149,6 +149,41 @@ impl Measure {
     }
 }
 
+/// What is told of the kind of each type when it is made, so that it is never worked out again.
+#[derive(Clone, Copy, PartialEq, Eq, Hash)]
+pub struct Judged {
+    /// Whether this is a kind, without `#`.
+    pub lifted: bool,
+    /// The least number of arguments that the type is the head of, where it has a kind.
+    pub needed: u32,
+    /// The kind of the type as the head of so many arguments, where it has one.
+    pub kind: Option<TypeId>,
+}
+
+impl Judged {
+    /// Of a type that needs no argument.
+    pub fn whole(kind: Option<TypeId>) -> Judged
+        ensures { result ≡ record { lifted = false; needed = 0; kind = kind } }
+    {
+        Judged {
+            lifted: false,
+            needed: 0,
+            kind,
+        }
+    }
+
+    /// Of a kind.
+    pub fn of_kind(lifted: bool) -> Judged
+        ensures { result ≡ record { lifted = lifted; needed = 0; kind = None } }
+    {
+        Judged {
+            lifted,
+            needed: 0,
+            kind: None,
+        }
+    }
+}
+
 /// A piece, and what is kept of the type that it is the outermost piece of.
 #[derive(Clone, Copy, PartialEq, Eq, Hash)]
 pub struct Node<'a> {
@@ -156,4 +191,6 @@ pub struct Node<'a> {
     pub piece: Piece<'a>,
     /// What is kept of the type.
     pub measure: Measure,
+    /// What is told of its kind.
+    pub judged: Judged,
 }

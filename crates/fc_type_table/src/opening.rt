@@ -1,13 +1,16 @@
 //! A type put in for the variable of a `forall`.
-ghost use Rattle.std.specs.Prelude.{◌≡◌, ◌<◌, ◌+◌, ◌^◌, ◌⊎◌, ℕ, length, Some, IfOk, IfSome, OnOk};
+ghost use Rattle.std.specs.Prelude.{◌≡◌, ◌<◌, ◌+◌, ◌^◌, ◌⊎◌, List, length, Some, IfOk, IfSome, OnOk};
 ghost use Rattle.std.specs.Option.{option_map};
+ghost use Rattle.fc_syntax.specs.Tree as trees;
 ghost use Rattle.fc_type_table.specs.Nodes.{Extends, tree_at};
 ghost use Rattle.fc_type_table.specs.Trees.{opened};
-ghost use Rattle.fc_type_table.specs.TypeTables.{Grows, IsNumber, IsType, at_type, nodes_of, shown};
+ghost use Rattle.fc_model.specs.Calling.{at_type};
+ghost use Rattle.fc_type_table.specs.TypeTables.{Grows, IsNumber, IsType, modules_in, nodes_of, shown};
 ghost use Rattle.fc_type_table.specs.Walks.{Opened, noted};
 ghost use Rattle.fc_type_table.specs.declared.node.TypeId as the_id;
 ghost use Rattle.fc_type_table.specs.declared.spot.Spot as the_spot;
 
+use crate::instance::Instance;
 use crate::node::{Piece, TypeId};
 use crate::spot::Spot;
 use crate::table::TypeTable;
@@ -45,6 +48,7 @@ impl<'a> TypeTable<'a> {
         ensures within { IfOk result (λ id. id.0 < length (nodes_of self.new)) }
         ensures shown { IfOk result (λ id. tree_at (nodes_of self.new) id.0 ≡ opened depth (tree_at (nodes_of self.old) by.0) (tree_at (nodes_of self.old) part.0)) }
         ensures extends { OnOk result (Extends (nodes_of self.old) (nodes_of self.new)) }
+        ensures modules { OnOk result (modules_in self.new ≡ modules_in self.old) }
         ensures seen { OnOk result (Opened (nodes_of self.new) by.0 done.new) }
     {
         let measure = self.measure(part);
@@ -77,14 +81,15 @@ impl<'a> TypeTable<'a> {
         ensures within { IfOk result (λ id. id.0 < length (nodes_of self.new)) }
         ensures shown { IfOk result (λ id. tree_at (nodes_of self.new) id.0 ≡ opened depth (tree_at (nodes_of self.old) by.0) (tree_at (nodes_of self.old) part.0)) }
         ensures extends { OnOk result (Extends (nodes_of self.old) (nodes_of self.new)) }
+        ensures modules { OnOk result (modules_in self.new ≡ modules_in self.old) }
         ensures seen { OnOk result (Opened (nodes_of self.new) by.0 done.new) }
     {
         match self.piece(part) {
             Piece::Star => Ok(part),
             Piece::Hash => Ok(part),
             Piece::Arrow(_, _) => Ok(part),
-            Piece::Bound(index) => { if index == depth { Ok(by) } else { Ok(part) } }
-            Piece::Free(_) => Ok(part),
+            Piece::Bound(index, _) => { if index == depth { Ok(by) } else { Ok(part) } }
+            Piece::Free(_, _) => Ok(part),
             Piece::Con(_) => Ok(part),
             Piece::IntHash => Ok(part),
             Piece::App(head, argument) => {
@@ -110,7 +115,26 @@ impl<'a> TypeTable<'a> {
         }
     }
 
-    /// The body of a `forall` at a type, if the first type is a `forall`. Each part of the body is visited once.
+    /// The body of a `forall` with a type put in for its variable. What was asked before is not done again.
+    fn instance(&mut self, alloc: Global, instance: Instance) -> Result<TypeId, Memory>
+        requires body_in { instance.body.0 < length (nodes_of self.old) }
+        requires by_in { instance.by.0 < length (nodes_of self.old) }
+        ensures within { IfOk result (λ id. id.0 < length (nodes_of self.new)) }
+        ensures shown { IfOk result (λ id. tree_at (nodes_of self.new) id.0 ≡ opened 0 (tree_at (nodes_of self.old) instance.by.0) (tree_at (nodes_of self.old) instance.body.0)) }
+        ensures extends { OnOk result (Extends (nodes_of self.old) (nodes_of self.new)) }
+        ensures modules { OnOk result (modules_in self.new ≡ modules_in self.old) }
+    {
+        if let Some(answer) = self.noted_instance(instance) {
+            return Ok(answer);
+        }
+        let mut done = IndexMap::new(alloc);
+        let answer = self.open_seen(&mut done, 0, instance.body, instance.by)?;
+        self.keep_instance(instance, answer)?;
+        Ok(answer)
+    }
+
+    /// The body of a `forall` at a type, if the first type is a `forall`. Each part of the body is visited once, and none at a type that was
+    /// put in before.
     #[tactic(auto, unfolding(crate::specs::Scopes::shown_at, crate::specs::Scopes::indexed))]
     pub fn instantiate(
         &mut self,
@@ -121,23 +145,23 @@ impl<'a> TypeTable<'a> {
         requires forall_in { IsNumber self.old forall }
         requires by_in { IsNumber self.old by }
         ensures number { IfOk result (λ r. IfSome r (λ id. IsNumber self.new id)) }
-        ensures valid { IfOk result (λ r. IfSome r (λ id. (n : ℕ) → IsType self.old n forall → IsType self.old n by → IsType self.new n id)) }
-        ensures view { IfOk result (λ r. (n : ℕ) → IsType self.old n forall → IsType self.old n by → option_map (λ id. shown self.new n id) r ≡ at_type (shown self.old n forall) (shown self.old n by)) }
+        ensures valid { IfOk result (λ r. IfSome r (λ id. (ks : List trees.Kind) → IsType self.old ks forall → IsType self.old ks by → IsType self.new ks id)) }
+        ensures view { IfOk result (λ r. (ks : List trees.Kind) → IsType self.old ks forall → IsType self.old ks by → option_map (λ id. shown self.new ks id) r ≡ at_type (shown self.old ks forall) (shown self.old ks by)) }
         ensures grows { OnOk result (Grows self.old self.new) }
     {
         match self.piece(forall) {
             Piece::Star => Ok(None),
             Piece::Hash => Ok(None),
             Piece::Arrow(_, _) => Ok(None),
-            Piece::Bound(_) => Ok(None),
-            Piece::Free(_) => Ok(None),
+            Piece::Bound(_, _) => Ok(None),
+            Piece::Free(_, _) => Ok(None),
             Piece::Con(_) => Ok(None),
             Piece::IntHash => Ok(None),
             Piece::App(_, _) => Ok(None),
             Piece::Fun(_, _) => Ok(None),
             Piece::Forall(_, body) => {
-                let mut done = IndexMap::new(alloc);
-                Ok(Some(self.open_seen(&mut done, 0, body, by)?))
+                let answer = self.instance(alloc, Instance { body, by })?;
+                Ok(Some(answer))
             }
             Piece::CoForall(_, _, _, _) => Ok(None),
         }

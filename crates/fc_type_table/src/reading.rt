@@ -1,109 +1,167 @@
 //! Types put into the table.
 ghost use Rattle.std.specs.Prelude.{◌≡◌, ◌<◌, ◌≤◌, length, IfOk, OnOk};
+ghost use Rattle.std.specs.Option.{option_map};
 ghost use Rattle.fc_syntax.specs.View.{kind_of};
+ghost use Rattle.fc_model.specs.Faulting.{at_distance};
 ghost use Rattle.fc_model.specs.Nameless.{NTVar};
 ghost use Rattle.fc_model.specs.NamelessView.{nty_of};
 ghost use Rattle.fc_model.specs.Substituting.{IsScopedType};
+ghost use Rattle.fc_model.specs.Typing.{answered};
+ghost use Rattle.fc_types.specs.KindViews.{kinds_of};
 ghost use Rattle.fc_type_table.specs.Nodes.{Extends, tree_at};
-ghost use Rattle.fc_type_table.specs.Scopes.{kind_tree, leveled};
-ghost use Rattle.fc_type_table.specs.TypeTables.{Grows, IsType, nodes_of, shown};
+ghost use Rattle.fc_type_table.specs.Scopes.{label, leveled};
+ghost use Rattle.fc_type_table.specs.TypeTables.{Grows, IsType, modules_in, nodes_of, shown};
 
 use crate::node::{DEEPEST, NameKey, Piece, TypeId};
 use crate::table::TypeTable;
 use fc_syntax::{Kind, Memory, NTy};
+use fc_types::Kinds;
 
-impl<'a> TypeTable<'a> {
-    /// The number of a kind, which stands so deep in what is read.
-    #[tactic(auto, using(fc_syntax::proofs::View::view_rules))]
-    pub(crate) fn read_kind(&mut self, kind: &Kind, nested: u32) -> Result<TypeId, Memory>
-        ensures within { IfOk result (λ id. id.0 < length (nodes_of self.new)) }
-        ensures shown { IfOk result (λ id. tree_at (nodes_of self.new) id.0 ≡ kind_tree (kind_of kind.now)) }
-        ensures extends { OnOk result (Extends (nodes_of self.old) (nodes_of self.new)) }
-    {
-        if nested >= DEEPEST {
-            return Err(Memory);
+/// The kind of the type variable at a distance, if there is one.
+#[tactic(auto, using(fc_types::proofs::LocalKinds::kind_rules))]
+fn kind_at_distance<'x>(kinds: &'x Kinds<'x>, distance: u32) -> Option<&'x Kind>
+    ensures { option_map (λ k. kind_of k.now) result ≡ answered (at_distance (kinds_of kinds.now) distance) }
+{
+    match kinds {
+        Kinds::End => None,
+        Kinds::Kind(kind, rest) => {
+            if distance == 0 {
+                Some(*kind)
+            } else {
+                kind_at_distance(*rest, distance - 1)
+            }
         }
-        match kind {
-            Kind::Star => self.intern(Piece::Star),
-            Kind::Hash => self.intern(Piece::Hash),
-            Kind::Arrow(from, to) => {
-                let from = self.read_kind(from, nested + 1)?;
-                let to = self.read_kind(to, nested + 1)?;
-                self.intern(Piece::Arrow(from, to))
+        Kinds::Group(own, rest) => {
+            let count = own.len();
+            let place = distance as usize;
+            if place < count {
+                Some(own[count - 1 - place].kind)
+            } else {
+                kind_at_distance(*rest, (place - count) as u32)
             }
         }
     }
+}
 
-    /// The number of a variable by its index, under so many binders of the type, in a context of so many type variables.
-    #[tactic(auto, unfolding(crate::specs::Scopes::leveled))]
-    fn read_variable(&mut self, index: u32, context: u32, binders: u32) -> Result<TypeId, Memory>
+impl<'a> TypeTable<'a> {
+    /// The number of what a variable carries: its kind.
+    fn read_label(&mut self, kinds: &Kinds, index: u32) -> Result<TypeId, Memory>
         ensures within { IfOk result (λ id. id.0 < length (nodes_of self.new)) }
-        ensures shown { IfOk result (λ id. tree_at (nodes_of self.new) id.0 ≡ leveled context binders (NTVar index)) }
+        ensures shown { IfOk result (λ id. tree_at (nodes_of self.new) id.0 ≡ label (kinds_of kinds.now) index) }
         ensures extends { OnOk result (Extends (nodes_of self.old) (nodes_of self.new)) }
+        ensures modules { OnOk result (modules_in self.new ≡ modules_in self.old) }
     {
-        if index < binders {
-            return self.intern(Piece::Bound(index));
+        match kind_at_distance(kinds, index) {
+            Some(kind) => self.put_kind(kind, 0),
+            None => self.star(),
         }
-        let innermost = context.saturating_sub(1);
-        self.intern(Piece::Free(innermost.saturating_sub(index - binders)))
     }
 
-    /// The number of a part of a type, under so many binders of the type, so deep in it. The type's variables stand in a context of
-    /// so many type variables.
+    /// The number of a variable by its index among variables of these kinds, under so many binders of the type, in a context of so many
+    /// type variables.
+    #[tactic(auto, unfolding(crate::specs::Scopes::leveled))]
+    fn read_variable(
+        &mut self,
+        index: u32,
+        kinds: &Kinds,
+        context: u32,
+        binders: u32,
+    ) -> Result<TypeId, Memory>
+        ensures within { IfOk result (λ id. id.0 < length (nodes_of self.new)) }
+        ensures shown { IfOk result (λ id. tree_at (nodes_of self.new) id.0 ≡ leveled context (kinds_of kinds.now) binders (NTVar index)) }
+        ensures extends { OnOk result (Extends (nodes_of self.old) (nodes_of self.new)) }
+        ensures modules { OnOk result (modules_in self.new ≡ modules_in self.old) }
+    {
+        let kind = self.read_label(kinds, index)?;
+        if index < binders {
+            return self.intern(Piece::Bound(index, kind));
+        }
+        let innermost = context.saturating_sub(1);
+        let level = innermost.saturating_sub(index - binders);
+        self.intern(Piece::Free(level, kind))
+    }
+
+    /// The number of a part of a type, under so many binders of the type, so deep in it. The kinds are those of the type's own
+    /// variables and of the so many of the context.
     #[tactic(auto, using(fc_syntax::proofs::View::view_rules), unfolding(crate::specs::Scopes::leveled))]
-    fn read_part(
+    fn read_part<'x>(
         &mut self,
         t: &'a NTy,
+        kinds: &'x Kinds<'x>,
         context: u32,
         binders: u32,
         nested: u32,
     ) -> Result<TypeId, Memory>
         requires { binders ≤ nested }
         ensures within { IfOk result (λ id. id.0 < length (nodes_of self.new)) }
-        ensures shown { IfOk result (λ id. tree_at (nodes_of self.new) id.0 ≡ leveled context binders (nty_of t.now)) }
+        ensures shown { IfOk result (λ id. tree_at (nodes_of self.new) id.0 ≡ leveled context (kinds_of kinds.now) binders (nty_of t.now)) }
         ensures extends { OnOk result (Extends (nodes_of self.old) (nodes_of self.new)) }
+        ensures modules { OnOk result (modules_in self.new ≡ modules_in self.old) }
     {
         if nested >= DEEPEST {
             return Err(Memory);
         }
         match t {
-            NTy::Var(index) => self.read_variable(*index, context, binders),
+            NTy::Var(index) => self.read_variable(*index, &*kinds, context, binders),
             NTy::Con(name) => {
                 let key = NameKey::new(name.module.as_ref(), &name.text);
-                self.intern(Piece::Con(key))
+                self.name(key)
             }
             NTy::IntHash => self.intern(Piece::IntHash),
             NTy::App(head, argument) => {
-                let head = self.read_part(head, context, binders, nested + 1)?;
-                let argument = self.read_part(argument, context, binders, nested + 1)?;
+                let head = self.read_part(head, &*kinds, context, binders, nested + 1)?;
+                let argument = self.read_part(argument, &*kinds, context, binders, nested + 1)?;
                 self.intern(Piece::App(head, argument))
             }
             NTy::Fun(from, to) => {
-                let from = self.read_part(from, context, binders, nested + 1)?;
-                let to = self.read_part(to, context, binders, nested + 1)?;
+                let from = self.read_part(from, &*kinds, context, binders, nested + 1)?;
+                let to = self.read_part(to, &*kinds, context, binders, nested + 1)?;
                 self.intern(Piece::Fun(from, to))
             }
-            NTy::Forall(_, kind, body) => {
-                let kind = self.read_kind(kind, nested + 1)?;
-                let body = self.read_part(body, context, binders + 1, nested + 1)?;
+            NTy::Forall(_, variable, body) => {
+                let inner = Kinds::Kind(&*variable, &*kinds);
+                let kind = self.put_kind(variable, nested + 1)?;
+                let body = self.read_part(body, &inner, context, binders + 1, nested + 1)?;
                 self.intern(Piece::Forall(kind, body))
             }
             NTy::CoForall(role, left, right, body) => {
-                let left = self.read_part(left, context, binders, nested + 1)?;
-                let right = self.read_part(right, context, binders, nested + 1)?;
-                let body = self.read_part(body, context, binders, nested + 1)?;
+                let left = self.read_part(left, &*kinds, context, binders, nested + 1)?;
+                let right = self.read_part(right, &*kinds, context, binders, nested + 1)?;
+                let body = self.read_part(body, &*kinds, context, binders, nested + 1)?;
                 self.intern(Piece::CoForall(*role, left, right, body))
             }
         }
     }
 
-    /// The number of a type whose variables stand in a context of so many type variables.
-    pub fn read(&mut self, t: &'a NTy, context: u32) -> Result<TypeId, Memory>
-        requires { IsScopedType context (nty_of t.now) }
-        ensures valid { IfOk result (λ id. IsType self.new context id) }
-        ensures view { IfOk result (λ id. shown self.new context id ≡ nty_of t.now) }
+    /// The number of a type whose variables stand in a context of so many type variables, of these kinds.
+    pub fn read<'x>(
+        &mut self,
+        t: &'a NTy,
+        kinds: &'x Kinds<'x>,
+        variables: u32,
+    ) -> Result<TypeId, Memory>
+        requires count { variables ≡ length (kinds_of kinds.now) }
+        requires scoped { IsScopedType variables (nty_of t.now) }
+        ensures valid { IfOk result (λ id. IsType self.new (kinds_of kinds.now) id) }
+        ensures view { IfOk result (λ id. shown self.new (kinds_of kinds.now) id ≡ nty_of t.now) }
         ensures grows { OnOk result (Grows self.old self.new) }
     {
-        self.read_part(t, context, 0, 0)
+        self.read_part(t, &*kinds, variables, 0, 0)
+    }
+
+    /// The number of the type variable at a distance in a context of so many type variables, of these kinds.
+    pub fn variable<'x>(
+        &mut self,
+        distance: u32,
+        kinds: &'x Kinds<'x>,
+        variables: u32,
+    ) -> Result<TypeId, Memory>
+        requires count { variables ≡ length (kinds_of kinds.now) }
+        requires scoped { distance < variables }
+        ensures valid { IfOk result (λ id. IsType self.new (kinds_of kinds.now) id) }
+        ensures view { IfOk result (λ id. shown self.new (kinds_of kinds.now) id ≡ NTVar distance) }
+        ensures grows { OnOk result (Grows self.old self.new) }
+    {
+        self.read_variable(distance, &*kinds, variables, 0)
     }
 }

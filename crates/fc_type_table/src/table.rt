@@ -1,29 +1,83 @@
 //! The table.
-ghost use Rattle.std.specs.Prelude.{◌≡◌, ◌<◌, ◌≤◌, [], length, IfOk, OnOk};
-ghost use Rattle.fc_type_table.specs.Nodes.{Extends, IsTable, Measures, parts_end, piece_over, tree_at};
+ghost use Rattle.std.specs.Prelude.{◌≡◌, ◌<◌, ◌≤◌, ◌⊎◌, [], length, Some, IfOk, IfSome, OnErr, OnOk};
+ghost use Rattle.fc_type_table.specs.declared.instance.Instance as the_instance;
+ghost use Rattle.fc_type_table.specs.Names.{name_of};
+ghost use Rattle.fc_type_table.specs.declared.node.NameKey as the_key;
+ghost use Rattle.fc_type_table.specs.declared.node.TypeId as the_id;
+ghost use Rattle.fc_types.specs.ModuleViews.{modules_of};
+ghost use Rattle.fc_type_table.specs.Facts.{Instances_prop, IsTable_prop, NamesNoted_prop};
+ghost use Rattle.fc_type_table.specs.Instances.{Instances, NamesNoted, instance_noted, name_noted};
+ghost use Rattle.fc_type_table.specs.Trees.{LCon, opened};
+ghost use Rattle.fc_type_table.specs.Nodes.{Extends, HasKinds, IsTable, Judges, Measures, parts_end, piece_over, tree_at};
 
-use crate::node::{Measure, Node, Piece, TypeId};
+use crate::instance::Instance;
+use crate::node::{Judged, Measure, NameKey, Node, Piece, TypeId};
 use fc_syntax::Memory;
-use indexmap::IndexSet;
+use fc_types::Declarations;
+use indexmap::{IndexMap, IndexSet};
 use std::alloc::Global;
 
-/// A table of types. Equal types have equal numbers, and a number stays right when the table or the context grows. Every call on a
-/// table fails only where memory runs out, where a type would be deeper than 10,000, or where a count would pass 2^32; what
-/// the table then has is left open.
+/// Notes an instance.
+fn note_instance(
+    instances: &mut IndexMap<Instance, TypeId>,
+    instance: Instance,
+    answer: TypeId,
+) -> Result<(), Memory>
+    ensures noted { OnOk result ((i : the_instance.Instance) (r : the_id.TypeId) → instance_noted instances.new i ≡ Some r → ((i ≡ instance) × (r ≡ answer)) ⊎ (instance_noted instances.old i ≡ Some r)) }
+    ensures kept { OnErr result ((i : the_instance.Instance) (r : the_id.TypeId) → instance_noted instances.new i ≡ Some r → instance_noted instances.old i ≡ Some r) }
+{
+    instances.insert(instance, answer)?;
+    Ok(())
+}
+
+/// Notes the type of a name.
+fn note_name<'a>(
+    names: &mut IndexMap<NameKey<'a>, TypeId>,
+    name: NameKey<'a>,
+    answer: TypeId,
+) -> Result<(), Memory>
+    ensures noted { OnOk result ((k : the_key.NameKey) (r : the_id.TypeId) → name_noted names.new k ≡ Some r → ((name_of name.entry ≡ name_of k) × (r ≡ answer)) ⊎ (name_noted names.old k ≡ Some r)) }
+    ensures kept { OnErr result ((k : the_key.NameKey) (r : the_id.TypeId) → name_noted names.new k ≡ Some r → name_noted names.old k ≡ Some r) }
+{
+    names.insert(name, answer)?;
+    Ok(())
+}
+
+/// A table of types. Equal types have equal numbers, and a number stays right when the table or the context grows. Each variable carries
+/// its kind, and the kind of a type is told once, when the type is made. Every call on a table fails only where memory runs out,
+/// where a type would be deeper than 10,000, or where a count would pass 2^32; what the table then has is left open.
 #[derive(Drop)]
 pub struct TypeTable<'a> {
+    declared: &'a Declarations<'a>,
     nodes: IndexSet<Node<'a>>,
-    ghost table: { IsTable nodes.keys },
+    names: IndexMap<NameKey<'a>, TypeId>,
+    instances: IndexMap<Instance, TypeId>,
+    ghost table: { IsTable (modules_of declared.now) nodes.keys } by { IsTable_prop (modules_of declared.now) nodes.keys },
+    ghost names_are: { NamesNoted nodes.keys names } by { NamesNoted_prop nodes.keys names },
+    ghost instances_are: { Instances nodes.keys instances } by { Instances_prop nodes.keys instances },
 }
 
 impl<'a> TypeTable<'a> {
-    /// An empty table. Takes no memory.
-    pub fn new(alloc: Global) -> TypeTable<'a>
-        ensures { result.nodes.keys ≡ [] }
+    ghost use Rattle.fc_type_table.specs.TypeTables.{modules_in, nodes_of};
+
+    /// An empty table of types among these declarations. Takes no memory.
+    pub fn new(alloc: Global, declared: &'a Declarations<'a>) -> TypeTable<'a>
+        ensures nodes { nodes_of result ≡ [] }
+        ensures modules { modules_in result ≡ modules_of declared.now }
     {
         TypeTable {
+            declared,
             nodes: IndexSet::new(alloc),
+            names: IndexMap::new(alloc),
+            instances: IndexMap::new(alloc),
         }
+    }
+
+    /// The declarations.
+    pub(crate) fn declarations(&self) -> &'a Declarations<'a>
+        ensures { result.now ≡ self.now.declared.now }
+    {
+        self.declared
     }
 
     /// The outermost piece of a type.
@@ -31,6 +85,7 @@ impl<'a> TypeTable<'a> {
         requires { id.0 < length self.now.nodes.keys }
         ensures shown { tree_at self.now.nodes.keys id.0 ≡ piece_over (tree_at self.now.nodes.keys) result }
         ensures parts { parts_end result ≤ id.0 }
+        ensures kinds { HasKinds (piece_over (tree_at self.now.nodes.keys) result) }
     {
         let node = self.nodes[id.0 as usize];
         node.piece
@@ -45,6 +100,15 @@ impl<'a> TypeTable<'a> {
         node.measure
     }
 
+    /// What is told of the kind of a type.
+    pub(crate) fn judged(&self, id: TypeId) -> Judged
+        requires { id.0 < length self.now.nodes.keys }
+        ensures { Judges (modules_of self.now.declared.now) self.now.nodes.keys (tree_at self.now.nodes.keys id.0) result }
+    {
+        let node = self.nodes[id.0 as usize];
+        node.judged
+    }
+
     /// What is to be kept of the type of a piece.
     fn measure_over(&self, piece: Piece<'a>) -> Result<Measure, Memory>
         requires { parts_end piece ≤ length self.now.nodes.keys }
@@ -54,8 +118,8 @@ impl<'a> TypeTable<'a> {
             Piece::Star => Ok(Measure::leaf()),
             Piece::Hash => Ok(Measure::leaf()),
             Piece::Arrow(from, to) => self.measure(from).beside(self.measure(to)).around(),
-            Piece::Bound(index) => Measure::bound(index),
-            Piece::Free(level) => Measure::free(level),
+            Piece::Bound(index, _) => Measure::bound(index),
+            Piece::Free(level, _) => Measure::free(level),
             Piece::Con(_) => Ok(Measure::leaf()),
             Piece::IntHash => Ok(Measure::leaf()),
             Piece::App(head, argument) => {
@@ -70,18 +134,69 @@ impl<'a> TypeTable<'a> {
         }
     }
 
-    /// The number of the type of a piece. The types before keep their numbers.
-    pub(crate) fn intern(&mut self, piece: Piece<'a>) -> Result<TypeId, Memory>
-        requires { parts_end piece ≤ length self.old.nodes.keys }
+    /// The number of the type of a piece, of whose kind this is told. The types before keep their numbers.
+    pub(crate) fn put(&mut self, piece: Piece<'a>, judged: Judged) -> Result<TypeId, Memory>
+        requires parts { parts_end piece ≤ length self.old.nodes.keys }
+        requires kinds { HasKinds (piece_over (tree_at self.old.nodes.keys) piece) }
+        requires judged { Judges (modules_of self.old.declared.now) self.old.nodes.keys (piece_over (tree_at self.old.nodes.keys) piece) judged }
         ensures within { IfOk result (λ id. id.0 < length self.new.nodes.keys) }
         ensures shown { IfOk result (λ id. tree_at self.new.nodes.keys id.0 ≡ piece_over (tree_at self.old.nodes.keys) piece.entry) }
         ensures extends { OnOk result (Extends self.old.nodes.keys self.new.nodes.keys) }
+        ensures modules { OnOk result (modules_of self.new.declared.now ≡ modules_of self.old.declared.now) }
     {
         let measure = self.measure_over(piece)?;
-        let (index, _) = self.nodes.insert_full(Node { piece, measure })?;
+        let (index, _) = self.nodes.insert_full(Node {
+            piece,
+            measure,
+            judged,
+        })?;
         if index > u32::MAX as usize {
             return Err(Memory);
         }
         Ok(TypeId(index as u32))
+    }
+
+    /// The type that was noted for a name.
+    pub(crate) fn noted_name(&self, name: NameKey<'a>) -> Option<TypeId>
+        ensures within { IfSome result (λ id. id.0 < length self.now.nodes.keys) }
+        ensures shown { IfSome result (λ id. tree_at self.now.nodes.keys id.0 ≡ LCon (name_of name.entry)) }
+    {
+        match self.names.get(&name) {
+            Some(answer) => Some(*answer),
+            None => None,
+        }
+    }
+
+    /// Notes the type of a name.
+    pub(crate) fn keep_name(&mut self, name: NameKey<'a>, answer: TypeId) -> Result<(), Memory>
+        requires within { answer.0 < length self.old.nodes.keys }
+        requires shown { tree_at self.old.nodes.keys answer.0 ≡ LCon (name_of name) }
+        ensures nodes { self.new.nodes.keys ≡ self.old.nodes.keys }
+        ensures modules { modules_of self.new.declared.now ≡ modules_of self.old.declared.now }
+    {
+        note_name(&mut self.names, name, answer)
+    }
+
+    /// The type that was noted for an instance.
+    pub(crate) fn noted_instance(&self, instance: Instance) -> Option<TypeId>
+        ensures within { IfSome result (λ id. id.0 < length self.now.nodes.keys) }
+        ensures shown { IfSome result (λ id. tree_at self.now.nodes.keys id.0 ≡ opened 0 (tree_at self.now.nodes.keys instance.by.0) (tree_at self.now.nodes.keys instance.body.0)) }
+    {
+        match self.instances.get(&instance) {
+            Some(answer) => Some(*answer),
+            None => None,
+        }
+    }
+
+    /// Notes the type of an instance.
+    pub(crate) fn keep_instance(&mut self, instance: Instance, answer: TypeId) -> Result<(), Memory>
+        requires body_in { instance.body.0 < length self.old.nodes.keys }
+        requires by_in { instance.by.0 < length self.old.nodes.keys }
+        requires within { answer.0 < length self.old.nodes.keys }
+        requires shown { tree_at self.old.nodes.keys answer.0 ≡ opened 0 (tree_at self.old.nodes.keys instance.by.0) (tree_at self.old.nodes.keys instance.body.0) }
+        ensures nodes { self.new.nodes.keys ≡ self.old.nodes.keys }
+        ensures modules { modules_of self.new.declared.now ≡ modules_of self.old.declared.now }
+    {
+        note_instance(&mut self.instances, instance, answer)
     }
 }

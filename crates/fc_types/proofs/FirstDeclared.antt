@@ -12,7 +12,8 @@ use Rattle.fc_syntax.specs.declared.ty.Ty.{Ty}
 use Rattle.fc_model.specs.Kinding.{type_decl}
 use Rattle.fc_model.specs.Nameless as pure
 use Rattle.fc_model.specs.NamelessView.{ncons_of, ndecl_of, ndecls_of, nparams_of, nty_of}
-use Rattle.fc_model.specs.Typing.{con_among, con_decl, def_type, first_of}
+use Rattle.fc_model.specs.Calling.{con_among, con_decl, first_of}
+use Rattle.fc_model.specs.Typing.{def_type}
 use Rattle.fc_types.specs.FirstDeclared.{first_constructor, first_definition, first_type_decl, numbered_among}
 use Rattle.fc_types.specs.Tables.{at, found}
 use Rattle.fc_types.specs.TableViews.{HasConstructors, HasDefinitions, HasTypes, constructor_at, constructor_of, numbered}

@@ -1,3 +1,4 @@
+pub mod Arities
 pub mod ByNumber
 pub mod FirstDeclared
 pub mod FirstPuts

@@ -8,7 +8,7 @@ use Rattle.fc_syntax.specs.declared.module.Decl.TheVariants as D
 use Rattle.fc_syntax.specs.declared.module.Param.{Param}
 use Rattle.fc_syntax.specs.declared.ty.Ref.{Ref}
 use Rattle.fc_syntax.specs.declared.ty.Ty.{Ty}
-use Rattle.fc_model.specs.Typing.{first_of}
+use Rattle.fc_model.specs.Calling.{first_of}
 
 -- whether a declaration is the type of a word
 abbrev pub is_type_of : Decl ℕ Ref → Word → Bool

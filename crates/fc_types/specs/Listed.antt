@@ -3,7 +3,8 @@ use Rattle.std.specs.Prelude.{◌≡◌, List, map, Some, Ok}
 use Rattle.fc_model.specs.Kinding.{Modules}
 use Rattle.fc_model.specs.Nameless.{NTy}
 use Rattle.fc_model.specs.NamelessView.{nty_of}
-use Rattle.fc_model.specs.Typing.{Constructor, constructor, value_type}
+use Rattle.fc_model.specs.Calling.{Constructor, constructor}
+use Rattle.fc_model.specs.Typing.{value_type}
 use Rattle.fc_syntax.specs.declared.ty.Name.{Name}
 use Rattle.fc_types.specs.TableViews.{constructor_of}
 use Rattle.fc_types.specs.declared.declarations.Declarations.{Declarations}

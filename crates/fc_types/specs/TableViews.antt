@@ -7,7 +7,7 @@ use Rattle.fc_syntax.specs.declared.module.Decl.{Decl}
 use Rattle.fc_syntax.specs.declared.ty.Ref.{Ref}
 use Rattle.fc_syntax.specs.declared.ty.Ty.{Ty}
 use Rattle.fc_model.specs.NamelessView.{nbinders_of, nparams_of, ntys_of}
-use Rattle.fc_model.specs.Typing.{Constructor}
+use Rattle.fc_model.specs.Calling.{Constructor}
 use Rattle.fc_types.specs.FirstDeclared.{Numbered, first_constructor, first_definition, first_type_decl}
 use Rattle.fc_types.specs.Tables.{at}
 use Rattle.fc_types.specs.declared.tables.DeclaredCon.{DeclaredCon}

@@ -3,13 +3,14 @@ ghost use Rattle.std.specs.Prelude.{◌≡◌, [], ◌∷◌, length, slice_get,
 ghost use Rattle.std.specs.Option.{option_and_then, option_map};
 ghost use Rattle.fc_model.specs.Kinding.{decls_at, type_decl};
 ghost use Rattle.fc_model.specs.NamelessView.{ndecl_of, ndecls_of, nmodule_of, nty_of};
-ghost use Rattle.fc_model.specs.Typing.{constructor, value_type};
+ghost use Rattle.fc_model.specs.Calling.{constructor};
+ghost use Rattle.fc_model.specs.Typing.{value_type};
 ghost use Rattle.fc_types.specs.Codes.{has_constructors_prop};
 ghost use Rattle.fc_types.specs.Tables.{found};
 ghost use Rattle.fc_types.specs.TableViews.{HasConstructors, HasDefinitions, HasTypes, constructor_of};
 
 use crate::tables::{DeclaredCon, constructors_by_word, definitions_by_word, types_by_word};
-use fc_syntax::{Memory, NDecl, NModule, NTy, Name};
+use fc_syntax::{Memory, NDecl, NModule, NTy, Name, Text};
 use indexmap::IndexMap;
 use std::alloc::Global;
 
@@ -27,7 +28,7 @@ pub struct Declarations<'a> {
 
 impl<'a> Declarations<'a> {
     ghost use Rattle.fc_types.specs.Listed.{IsConstructor, IsDefinitionType, constructors_in, definition_types};
-    ghost use Rattle.fc_types.specs.ModuleViews.{modules_of};
+    ghost use Rattle.fc_types.specs.ModuleViews.{module_word_of, modules_of};
 
     /// The declarations of a module. Fails only where memory runs out.
     #[tactic(auto, unfolding(crate::specs::ModuleViews::modules_of))]
@@ -44,6 +45,13 @@ impl<'a> Declarations<'a> {
             definitions,
             constructors,
         })
+    }
+
+    /// The word of the module. Takes no memory.
+    pub fn module_word(&self) -> &'a Text
+        ensures { result.now ≡ module_word_of self.now }
+    {
+        &self.module.name
     }
 
     /// Whether a name is one of this module's.
@@ -65,6 +73,30 @@ impl<'a> Declarations<'a> {
             return None;
         }
         match self.types.get(name.text.as_str()) {
+            None => None,
+            Some(decl) => Some(*decl),
+        }
+    }
+
+    /// Whether a word is this module's.
+    #[tactic(auto, unfolding(crate::specs::ModuleViews::modules_of))]
+    fn has_module(&self, word: Option<&str>) -> bool
+        ensures { modules_of self.now (option_map (λ w. w.now) word.entry) ≡ (if result then ndecls_of self.now.module.now.decls else []) }
+    {
+        match word {
+            None => false,
+            Some(word) => self.module.name.as_str() == word,
+        }
+    }
+
+    /// The type of a word of a module, as `type_named` finds it. Takes no memory.
+    pub fn type_at(&self, qualifier: Option<&str>, word: &str) -> Option<&NDecl>
+        ensures { option_map (λ d. ndecl_of d.now) result ≡ type_decl (modules_of self.now (option_map (λ w. w.now) qualifier.entry)) word.now }
+    {
+        if !self.has_module(qualifier) {
+            return None;
+        }
+        match self.types.get(word) {
             None => None,
             Some(decl) => Some(*decl),
         }

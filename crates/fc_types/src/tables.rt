@@ -1,10 +1,10 @@
 //! Tables from words to the first of what they declare.
-ghost use Rattle.std.specs.Prelude.{◌≡◌, ℕ, List, ◌∷◌, Option, Some, None, OnOk, IfOk, if◌then◌else◌};
+ghost use Rattle.std.specs.Prelude.{◌≡◌, ℕ, List, ◌∷◌, Option, Some, None, OnOk, IfOk, if◌then◌else◌, length};
 ghost use Rattle.std.specs.Str.{bytes_eq};
 ghost use Rattle.fc_syntax.specs.Tree.{Word};
 ghost use Rattle.fc_syntax.specs.declared.module.Decl.{Decl};
 ghost use Rattle.fc_syntax.specs.declared.ty.Ref.{Ref};
-ghost use Rattle.fc_model.specs.Typing.{first_of};
+ghost use Rattle.fc_model.specs.Calling.{constructor_binders, first_of};
 ghost use Rattle.fc_types.specs.FirstDeclared.{Numbered, first_constructor, first_definition, first_type_decl, numbered_among};
 ghost use Rattle.fc_types.specs.Tables.{at};
 ghost use Rattle.fc_types.specs.TableViews.{HasConstructors, HasDefinitions, HasTypes, definition_at, numbered_at, type_decl_at};
@@ -24,6 +24,25 @@ pub struct DeclaredCon<'a> {
     pub number: usize,
     /// What it declares.
     pub con: &'a NConDecl,
+}
+
+impl<'a> DeclaredCon<'a> {
+    ghost use Rattle.fc_types.specs.TableViews.{constructor_of};
+
+    /// How many binders it has: its data type's parameters, its own types and coercions, and its fields.
+    pub fn arity(&self) -> Result<usize, Memory>
+        ensures { IfOk result (λ n. n ≡ length (constructor_binders (constructor_of self.now))) }
+    {
+        let own = self.con.binders.len();
+        let types = match self.params.len().checked_add(own) {
+            Some(types) => types,
+            None => return Err(Memory),
+        };
+        match types.checked_add(self.con.fields.len()) {
+            Some(all) => Ok(all),
+            None => Err(Memory),
+        }
+    }
 }
 
 /// Puts a value at a word that has none yet.

@@ -398,18 +398,18 @@ fn definitions_at_types_of_every_form(rt: HostRuntime) -> Result<(), Fail> {
             &[1],
         ),
         (b"(def f T (fail P))", 63, "f", &[]),
-        // constructors and alternatives that are not judged yet
+        // a constructor and cases of a data type with a parameter
         (
             b"(data L ((a * R)) (Nil ()) (Cons () a (L a))) (def f (L T) (con Nil))",
-            3,
+            58,
             "f",
             &[1],
         ),
         (
             b"(data L ((a * R)) (Nil ()) (Cons () a (L a))) (def f (fun (L T) T) (lam ((x (L T))) (case x (y (L T)) T (Nil () k))))",
-            3,
-            "f",
-            &[3, 1, 1],
+            0,
+            "-",
+            &[],
         ),
         (
             b"(data L ((a * R)) (Nil ()) (Cons () a (L a))) (def f (fun (L T) T) (lam ((x (L T))) (case x (y (L T)) T (default k))))",

@@ -1,6 +1,6 @@
 use Rattle.std.proofs.Common.{◌≡◌, drop}
 use Rattle.fc_syntax.specs.Tree.{Word}
-use Rattle.fc_model.specs.Typing.{first_of}
+use Rattle.fc_model.specs.Calling.{first_of}
 use Rattle.fc_types.specs.FirstDeclared.{first_constructor}
 use Rattle.fc_types.specs.TableViews.{numbered_at}
 use Rattle.fc_types.proofs.tables.constructors_by_word.Given as goal

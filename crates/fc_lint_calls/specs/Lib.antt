@@ -1,0 +1,3 @@
+pub mod AltViews
+pub mod GivenViews
+pub mod Meetings

@@ -1,0 +1,173 @@
+//! The premises of binds, cases, errors, joins and binders, behind those of their parts.
+ghost use Rattle.std.specs.Prelude.{◌≡◌, ◌++◌, List, length, Ok, IfOk, OnOk};
+ghost use Rattle.fc_model.specs.Calling.{atom_fits};
+ghost use Rattle.fc_model.specs.Faulting.{need};
+ghost use Rattle.fc_model.specs.Kinding as kinds;
+ghost use Rattle.fc_model.specs.Kinding.{same_type};
+ghost use Rattle.fc_model.specs.NamelessView.{nbinder_of, nty_of};
+ghost use Rattle.fc_model.specs.Says.{Says};
+ghost use Rattle.fc_model.specs.Typing as words;
+ghost use Rattle.fc_model.specs.Typing.{kinds_behind, paid};
+ghost use Rattle.fc_syntax.specs.Tree as trees;
+ghost use Rattle.fc_syntax.specs.View.{kind_of};
+ghost use Rattle.fc_syntax.specs.declared.fault.FaultKind.TheVariants.{LetType, NotAType, ScrutineeType, UnliftedNotAtom};
+ghost use Rattle.fc_type_scope.specs.Scopes.{scope_in};
+ghost use Rattle.fc_type_table.specs.TypeTables.{Grows, IsNumber, IsType, modules_in, shown};
+
+use fc_model::{Flawed, flaw_here};
+use fc_syntax::{FaultKind, Kind, NBinder, NTy};
+use fc_type_scope::TypeScope;
+use fc_type_table::{TypeId, TypeTable};
+use fc_types::is_value_kind;
+use std::alloc::Global;
+
+/// What was asked of binders, behind what stands below them: the fault, if there is one.
+pub fn pays(alloc: Global, owed: Option<FaultKind>) -> Result<(), Flawed>
+    ensures { Says (λ _. tt {0}) result (paid owed (Ok (tt {0}))) }
+{
+    match owed {
+        None => Ok(()),
+        Some(kind) => Err(flaw_here(alloc, kind)),
+    }
+}
+
+/// Whether what is of the type `inner` behind type variables is of the type `outer` before them, in the scope: `EscapingType` where `inner`
+/// mentions one of them, and then `differs`.
+pub fn leaves_as<'a>(
+    alloc: Global,
+    inner: TypeId,
+    outer: TypeId,
+    differs: FaultKind,
+    types: &TypeTable<'a>,
+    scope: &TypeScope<'_>,
+) -> Result<(), Flawed>
+    requires inner_in { IsNumber types.now inner }
+    requires outer_in { IsType types.now (scope_in scope.now) outer }
+    ensures { (bs : List trees.Kind) → IsType types.now (bs ++ scope_in scope.now) inner → Says (λ _. tt {0}) result (words.leaves_as (length bs) (shown types.now (bs ++ scope_in scope.now) inner) (shown types.now (scope_in scope.now) outer) differs (Ok (tt {0}))) }
+{
+    if scope.escapes(inner, types)? {
+        return Err(flaw_here(alloc, FaultKind::EscapingType));
+    }
+    if !types.same(inner, outer) {
+        return Err(flaw_here(alloc, differs));
+    }
+    Ok(())
+}
+
+/// Whether a bind of this type and kind takes a right side of the other type, an atom or not: `NotAType`, `LetType` and
+/// `UnliftedNotAtom`, in this order.
+pub fn bind_takes<'a>(
+    alloc: Global,
+    kind: &Kind,
+    ty: TypeId,
+    right: TypeId,
+    atom: bool,
+    types: &TypeTable<'a>,
+    scope: &TypeScope<'_>,
+) -> Result<(), Flawed>
+    requires type_in { IsType types.now (scope_in scope.now) ty }
+    requires right_in { IsType types.now (scope_in scope.now) right }
+    ensures { Says (λ _. shown types.now (scope_in scope.now) ty) result (need (kinds.is_value_kind (kind_of kind.now)) NotAType (need (same_type (shown types.now (scope_in scope.now) ty) (shown types.now (scope_in scope.now) right)) LetType (need (atom_fits (shown types.now (scope_in scope.now) ty) atom) UnliftedNotAtom (Ok (shown types.now (scope_in scope.now) ty))))) }
+{
+    if !is_value_kind(kind) {
+        return Err(flaw_here(alloc, FaultKind::NotAType));
+    }
+    if !scope.same(ty, right, types) {
+        return Err(flaw_here(alloc, FaultKind::LetType));
+    }
+    if !scope.atom_fits(ty, atom, types) {
+        return Err(flaw_here(alloc, FaultKind::UnliftedNotAtom));
+    }
+    Ok(())
+}
+
+/// The type of a case whose binder is of the type `of` and whose result is of the type `answer`, which is of this kind: `ScrutineeType`
+/// where the binder is not of the type of the scrutinee, and then `NotAType`.
+pub fn case_type<'a>(
+    alloc: Global,
+    of: TypeId,
+    scrutinee: TypeId,
+    kind: &Kind,
+    answer: TypeId,
+    types: &TypeTable<'a>,
+    scope: &TypeScope<'_>,
+) -> Result<TypeId, Flawed>
+    requires of_in { IsType types.now (scope_in scope.now) of }
+    requires scrutinee_in { IsType types.now (scope_in scope.now) scrutinee }
+    requires answer_in { IsType types.now (scope_in scope.now) answer }
+    ensures valid { IfOk result (λ id. IsType types.now (scope_in scope.now) id) }
+    ensures says { Says (λ id. shown types.now (scope_in scope.now) id) result (need (same_type (shown types.now (scope_in scope.now) of) (shown types.now (scope_in scope.now) scrutinee)) ScrutineeType (need (kinds.is_value_kind (kind_of kind.now)) NotAType (Ok (shown types.now (scope_in scope.now) answer)))) }
+{
+    if !scope.same(of, scrutinee, types) {
+        return Err(flaw_here(alloc, FaultKind::ScrutineeType));
+    }
+    if !is_value_kind(kind) {
+        return Err(flaw_here(alloc, FaultKind::NotAType));
+    }
+    Ok(answer)
+}
+
+/// The type of an error at this type, which is of this kind: `NotAType` where that is none of the types of values.
+pub fn fail_type<'a>(
+    alloc: Global,
+    kind: &Kind,
+    t: &'a NTy,
+    types: &mut TypeTable<'a>,
+    scope: &TypeScope<'_>,
+) -> Result<TypeId, Flawed>
+    ensures valid { IfOk result (λ id. IsType types.new (scope_in scope.now) id) }
+    ensures says { Says (λ id. shown types.new (scope_in scope.now) id) result (need (kinds.is_value_kind (kind_of kind.now)) NotAType (Ok (nty_of t.now))) }
+    ensures grows { OnOk result (Grows types.old types.new) }
+{
+    if !is_value_kind(kind) {
+        return Err(flaw_here(alloc, FaultKind::NotAType));
+    }
+    Ok(scope.read(t, types)?)
+}
+
+/// The type of a join of this type and kind, whose body is of the other type: `LetType`, and then `NotAType`.
+pub fn join_type<'a>(
+    alloc: Global,
+    body: TypeId,
+    kind: &Kind,
+    ty: TypeId,
+    types: &TypeTable<'a>,
+    scope: &TypeScope<'_>,
+) -> Result<TypeId, Flawed>
+    requires body_in { IsType types.now (scope_in scope.now) body }
+    requires type_in { IsType types.now (scope_in scope.now) ty }
+    ensures valid { IfOk result (λ id. IsType types.now (scope_in scope.now) id) }
+    ensures says { Says (λ id. shown types.now (scope_in scope.now) id) result (need (same_type (shown types.now (scope_in scope.now) body) (shown types.now (scope_in scope.now) ty)) LetType (need (kinds.is_value_kind (kind_of kind.now)) NotAType (Ok (shown types.now (scope_in scope.now) ty)))) }
+{
+    if !scope.same(body, ty, types) {
+        return Err(flaw_here(alloc, FaultKind::LetType));
+    }
+    if !is_value_kind(kind) {
+        return Err(flaw_here(alloc, FaultKind::NotAType));
+    }
+    Ok(ty)
+}
+
+/// Whether a lambda over this binder takes a body of this type, in the scope behind the binder: `NotAType` where it binds a type variable
+/// and the body's type is not of kind `*`.
+pub fn body_fits<'a>(
+    alloc: Global,
+    binder: &NBinder,
+    body: TypeId,
+    types: &TypeTable<'a>,
+    inner: &TypeScope<'_>,
+) -> Result<(), Flawed>
+    requires { IsType types.now (scope_in inner.now) body }
+    ensures { (ks : List trees.Kind) → scope_in inner.now ≡ kinds_behind (nbinder_of binder.now) ks → Says (λ _. tt {0}) result (need (words.body_fits (modules_in types.now) ks (nbinder_of binder.now) (shown types.now (scope_in inner.now) body)) NotAType (Ok (tt {0}))) }
+{
+    match binder {
+        NBinder::Value(_, _) => Ok(()),
+        NBinder::OfType(_, _) => {
+            if !inner.has_kind_star(body, types) {
+                return Err(flaw_here(alloc, FaultKind::NotAType));
+            }
+            Ok(())
+        }
+        NBinder::OfCo(_, _, _, _) => Ok(()),
+    }
+}

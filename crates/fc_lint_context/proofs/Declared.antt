@@ -1,0 +1,141 @@
+-- The types of what is declared: put into a table in turn, found there, and kept while it grows.
+use Rattle.std.proofs.Common.{◌≡◌, ℕ, zero, suc, ◌+◌, ◌≤◌, Bool, true, false, List, [], ◌∷◌, ◌++◌, length, map, slice_get, take, Option, Some, None, IfSome, Result, Ok, Err, OnOk, if◌then◌else◌, refl, sym, ap, subst, ◌∙◌, arith}
+use Rattle.std.proofs.lemmas.List.{length-map, take_more}
+use Rattle.std.proofs.lemmas.Option.{get_or_from_slice_get, slice_get-map, slice_get_within}
+use Rattle.std.specs.Option.{option_map}
+use Rattle.std.specs.Str.{bytes_eq}
+use Rattle.fc_syntax.specs.Tree.{Kind, Word}
+use Rattle.fc_syntax.specs.declared.ty.Name.{Name}
+use Rattle.fc_syntax.specs.declared.fault.FaultKind.TheVariants.{Unbound}
+use Rattle.fc_model.proofs.Sameness.{bytes_eq_eq}
+use Rattle.fc_model.specs.Calling.{Constructor, con_decl, constructor, constructor_type}
+use Rattle.fc_model.specs.Faulting.{F}
+use Rattle.fc_model.specs.Nameless.{NTy, NDecl}
+use Rattle.fc_model.specs.NamelessView.{ndecls_of}
+use Rattle.fc_model.specs.Says.{IsFlaw, Refuses}
+use Rattle.fc_model.specs.declared.flaw.Flawed.{Flawed}
+use Rattle.fc_model.specs.declared.flaw.Flawed.TheVariants.{Memory, Flaw as OfFlaw}
+use Rattle.fc_types.specs.Listed.{constructors_in}
+use Rattle.fc_types.specs.ModuleViews.{modules_of, module_word_of}
+use Rattle.fc_types.specs.Tables.{found}
+use Rattle.fc_types.specs.declared.declarations.Declarations.{Declarations}
+use Rattle.fc_type_scope.proofs.Numbers.{AreTypesAt-at, AreTypesAt-grows, shown_all-get, shown_all-grows, shown_all-push}
+use Rattle.fc_type_scope.specs.Scopes.{AreTypesAt, shown_all_at}
+use Rattle.fc_type_table.specs.Nodes.{Extends}
+use Rattle.fc_type_table.specs.Scopes.{IsTypeAt, shown_at}
+use Rattle.fc_type_table.specs.declared.node.Node.{Node}
+use Rattle.fc_type_table.specs.declared.node.TypeId.{TypeId}
+use Rattle.fc_lint_context.proofs.Closed.{IsTypeAt-closed, shown_at-closed}
+use Rattle.fc_lint_context.specs.DeclaredViews.{AreRead, constructor_types, name_in, own_constructor_type}
+use Rattle.fc_lint_context.specs.declared.declared_types.DeclaredTypes.{DeclaredTypes}
+
+pub AreRead-grows : (old new : List Node) (d : DeclaredTypes) → Extends old new → AreRead old d → AreRead new d
+AreRead-grows old new d more r = record {
+  definitions_in = AreTypesAt-grows old new [] d.definition_types more r.definitions_in;
+  definitions = shown_all-grows old new [] d.definition_types more r.definitions_in ∙ r.definitions;
+  constructors_in = AreTypesAt-grows old new [] d.constructor_types more r.constructors_in;
+  constructors = shown_all-grows old new [] d.constructor_types more r.constructors_in ∙ r.constructors;
+}
+
+-- ---- a closed type, found at a number
+
+valid_at : (ns : List Node) (ids : List TypeId) (i : ℕ) (id : TypeId) → slice_get ids i ≡ Some id → AreTypesAt ns [] ids → IsTypeAt ns [] id.0
+valid_at ns ids i id e ts =
+    subst (λ (x : TypeId). IsTypeAt ns [] x.0) (get_or_from_slice_get ids i id id e) (AreTypesAt-at ns [] ids i id (slice_get_within ids i id e) ts)
+
+pub type_found : (ns : List Node) (ks : List Kind) (ids : List TypeId) (i : ℕ) (o : Option TypeId) → o ≡ slice_get ids i → AreTypesAt ns [] ids → IfSome o (λ id. IsTypeAt ns ks id.0)
+type_found ns ks ids i (Some id) e ts = IsTypeAt-closed ns ks id.0 (valid_at ns ids i id (sym e) ts)
+type_found ns ks ids i None e ts = tt
+
+pub type_shown : (ns : List Node) (ks : List Kind) (ids : List TypeId) (us : List NTy) (i : ℕ) (o : Option TypeId) → o ≡ slice_get ids i → AreTypesAt ns [] ids → shown_all_at ns [] ids ≡ us
+    → option_map (λ (id : TypeId). shown_at ns ks id.0) o ≡ slice_get us i
+type_shown ns ks ids us i (Some id) e ts all =
+    ap Some (shown_at-closed ns ks id.0 (valid_at ns ids i id (sym e) ts)) ∙ ap (option_map (λ (x : TypeId). shown_at ns [] x.0)) e ∙ sym (shown_all-get ns [] ids i) ∙ ap (λ ts. slice_get ts i) all
+type_shown ns ks ids us i None e ts all =
+    ap (option_map (λ (x : TypeId). shown_at ns [] x.0)) e ∙ sym (shown_all-get ns [] ids i) ∙ ap (λ ts. slice_get ts i) all
+
+pub no_definition : (e : Flawed) (r : Result NTy F) → IsFlaw Unbound e → found None ≡ r → Refuses e r
+no_definition Memory r h g = tt
+no_definition (OfFlaw f) r h g = sym g ∙ ap Err (sym h)
+
+-- what is said to stand at an index stands behind those before it
+pub take_said : {X : Type 0} (xs : List X) (i : ℕ) (x : X) → Some x ≡ slice_get xs i → take (i + 1) xs ≡ take i xs ++ x ∷ []
+take_said xs i x e = take_more xs i x (slice_get_within xs i x (sym e)) ∙ ap (λ y. take i xs ++ y ∷ []) (get_or_from_slice_get xs i x x (sym e))
+
+-- one type more, where there was memory for it
+pub types-pushed : {T E X : Type 0} (r : Result T E) (xs before after : List X) (i : ℕ) (x : X) → before ≡ take i xs → Some x ≡ slice_get xs i → OnOk r (after ≡ before ++ x ∷ []) → OnOk r (after ≡ take (i + 1) xs)
+types-pushed (Ok y) xs before after i x so_far at e = e ∙ ap (λ ys. ys ++ x ∷ []) so_far ∙ sym (take_said xs i x at)
+types-pushed (Err y) xs before after i x so_far at e = tt
+
+-- ---- constructors
+
+no_type : {X Y : Type 0} (f : X → Y) (xs : List X) (i : ℕ) → None ≡ slice_get (map f xs) i → slice_get xs i ≡ None
+no_type f xs i e = by (slice_get xs i) (e ∙ slice_get-map f xs i)
+  where
+    by : (o : Option _) → None ≡ option_map f o → o ≡ None
+    by None e = refl
+    by (Some x) e = cc
+
+pub constructor_none : (ns : List Node) (d : DeclaredTypes) (i : ℕ) → AreRead ns d → None ≡ slice_get d.constructor_types i → slice_get (constructors_in d.declared.now) i ≡ None
+unfolding constructor_types
+constructor_none ns d i r e =
+    no_type (own_constructor_type (module_word_of d.declared.now)) (constructors_in d.declared.now) i
+    (ap (option_map (λ (id : TypeId). shown_at ns [] id.0)) e ∙ sym (shown_all-get ns [] d.constructor_types i) ∙ ap (λ ts. slice_get ts i) r.constructors)
+
+pub constructor_valid : (ns : List Node) (ks : List Kind) (d : DeclaredTypes) (i : ℕ) (id : TypeId) → AreRead ns d → slice_get d.constructor_types i ≡ Some id → IsTypeAt ns ks id.0
+constructor_valid ns ks d i id r e = IsTypeAt-closed ns ks id.0 (valid_at ns d.constructor_types i id e r.constructors_in)
+
+-- a constructor is one of the module itself
+found_in : (m : Word) (ds : List NDecl) (v w : Word) (k : Constructor) → con_decl (if bytes_eq m v then ds else []) w ≡ Some k → m ≡ v
+found_in m ds v w k e = by (bytes_eq m v) refl e
+  where
+    by : (b : Bool) → bytes_eq m v ≡ b → con_decl (if b then ds else []) w ≡ Some k → m ≡ v
+    by true same e = bytes_eq_eq m v same
+    by false same e = cc
+
+own_module : (d : Declarations) (n : Name) (k : Constructor) → constructor (modules_of d) n ≡ Some k → n.module ≡ Some (module_word_of d)
+unfolding modules_of
+own_module d n k e = by n.module e
+  where
+    by : (o : Option Word) → constructor (modules_of d) (record { «module» = o; text = n.text }) ≡ Some k → o ≡ Some (module_word_of d)
+    by None e = cc
+    by (Some v) e = ap Some (sym (found_in d.module.now.name (ndecls_of d.module.now.decls) v n.text k e))
+
+-- of its name, only the module counts
+alike : (m n : Name) (k : Constructor) → m.module ≡ n.module → constructor_type m k ≡ constructor_type n k
+alike m n k e = let f : Option Word → NTy = λ o. constructor_type (record { «module» = o; text = n.text }) k in ap f e
+
+pub constructor_shown : (ns : List Node) (ks : List Kind) (d : DeclaredTypes) (i : ℕ) (id : TypeId) (n : Name) (k : Constructor) → AreRead ns d → slice_get d.constructor_types i ≡ Some id → slice_get (constructors_in d.declared.now) i ≡ Some k
+    → slice_get (constructors_in d.declared.now) i ≡ constructor (modules_of d.declared.now) n → shown_at ns ks id.0 ≡ constructor_type n k
+unfolding constructor_types
+constructor_shown ns ks d i id n k r at here named =
+    let m = module_word_of d.declared.now in
+    let own = own_constructor_type m in
+    let shown : Some (shown_at ns ks id.0) ≡ Some (own k) =
+    type_shown ns ks d.constructor_types (constructor_types d.declared.now) i (Some id) (sym at) r.constructors_in r.constructors ∙ slice_get-map own (constructors_in d.declared.now) i ∙ ap (option_map own) here in
+    let there : n.module ≡ Some m = own_module d.declared.now n k (sym named ∙ here) in
+    let same : own k ≡ constructor_type n k = alike (name_in m k.data_word) n k (sym there) in
+    let apart : shown_at ns ks id.0 ≡ own k = cc in
+    apart ∙ same
+
+-- one type more, where there was memory for it
+pub constructor_pushed : {T E : Type 0} (r : Result T E) (old new : List Node) (d : Declarations) (i : ℕ) (ids pushed : List TypeId) (id : TypeId) (k : Constructor) (word : Word) → word ≡ module_word_of d → Extends old new → AreTypesAt old [] ids
+    → shown_all_at old [] ids ≡ take i (constructor_types d) → Some k ≡ slice_get (constructors_in d) i → shown_at new [] id.0 ≡ own_constructor_type word k → OnOk r (pushed ≡ ids ++ id ∷ []) → OnOk r (shown_all_at new [] pushed ≡ take (i + 1) (constructor_types d))
+unfolding constructor_types
+constructor_pushed (Err x) old new d i ids pushed id k word same more ts so_far at shown e = tt
+constructor_pushed (Ok x) old new d i ids pushed id k word same more ts so_far at shown e =
+    let own = own_constructor_type (module_word_of d) in
+    let there : Some (own k) ≡ slice_get (map own (constructors_in d)) i = ap (option_map own) at ∙ sym (slice_get-map own (constructors_in d) i) in
+    shown_all-push old new [] ids pushed id (own k) more ts (shown ∙ ap (λ w. own_constructor_type w k) same) e ∙ ap (λ us. us ++ own k ∷ []) so_far ∙ sym (take_said (map own (constructors_in d)) i (own k) there)
+
+take_far : {X : Type 0} (xs : List X) (n : ℕ) → length xs ≤ n → take n xs ≡ xs
+take_far [] zero far = refl
+take_far [] (suc n) far = refl
+take_far (x ∷ xs) zero far = absurd (omega arith)
+take_far (x ∷ xs) (suc n) far = ap (λ ys. x ∷ ys) (take_far xs n (omega arith))
+
+pub constructors_all : (d : Declarations) (n : ℕ) (ts : List NTy) → ts ≡ take n (constructor_types d) → length (constructors_in d) ≤ n → ts ≡ constructor_types d
+unfolding constructor_types
+constructors_all d n ts e far =
+    let own = own_constructor_type (module_word_of d) in
+    e ∙ take_far (map own (constructors_in d)) n (omega (arith, length-map (constructors_in d) own))

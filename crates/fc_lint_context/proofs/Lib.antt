@@ -1,0 +1,9 @@
+pub mod Behind
+pub mod Closed
+pub mod Contexts
+pub mod Declared
+pub mod Foralls
+pub mod JoinPoints
+pub mod Joined
+pub mod LocalTypes
+pub mod Reached

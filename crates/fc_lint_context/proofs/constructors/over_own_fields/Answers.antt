@@ -1,0 +1,19 @@
+use Rattle.std.proofs.Common.{IfOk, subst}
+use Rattle.fc_model.specs.NamelessView.{nbinders_of}
+use Rattle.fc_type_table.specs.TypeTables.{IsType, nodes_of}
+use Rattle.fc_lint_context.proofs.Contexts.{entered_kinds}
+use Rattle.fc_lint_context.proofs.Foralls.{made_behind, made_over}
+use Rattle.fc_lint_context.proofs.constructors.over_own_fields.Goals as goal
+
+pub returns-clause-valid : goal.returns-clause-valid
+returns-clause-valid c =
+    subst (λ ks. IfOk c.over_fields.result (λ id. IsType c.over_fields.new.types ks id)) (entered_kinds c.args.scope.now _ (nbinders_of c.args.con.now.con.now.binders) _ c.kinds_behind-kinds.ensures c.requires)
+    c.over_fields.ensures.valid
+
+pub returns-clause-view : goal.returns-clause-view
+returns-clause-view c =
+    let k = c.args.con.now in
+    let bs = nbinders_of k.con.now.binders in
+    let made =
+    made_behind c.args.entered.now.kinds bs k.params.now c.args.word.now k.data_word.now _ _ _ _ c.requires c.len.ensures c.len-2.ensures c.in_ok-head.ensures.view c.in_ok-answer.ensures.view in
+    made_over c.over_fields.result (nodes_of c.over_fields.new.types) _ _ k.con.now.fields _ _ _ (entered_kinds c.args.scope.now _ bs _ c.kinds_behind-kinds.ensures c.requires) c.as_slice.ensures made c.over_fields.ensures.view

@@ -1,0 +1,4 @@
+pub mod ContextViews
+pub mod DeclaredViews
+pub mod JoinViews
+pub mod LocalViews

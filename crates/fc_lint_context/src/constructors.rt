@@ -1,0 +1,215 @@
+//! The constructors of a module as functions of their binders, in a table.
+ghost use Rattle.std.specs.Prelude.{◌≡◌, ◌+◌, [], ◌∷◌, map, IfOk, OnOk};
+ghost use Rattle.fc_syntax.specs.View.{kind_of};
+ghost use Rattle.fc_model.specs.Calling.{applied_to_variables, constructed_type, over_binders};
+ghost use Rattle.fc_model.specs.Kinding as words;
+ghost use Rattle.fc_model.specs.Nameless.{NBType, NBValue, NTApp, NTForall, NTFun, NTVar};
+ghost use Rattle.fc_model.specs.NamelessView.{nparams_of, nty_of, ntys_of};
+ghost use Rattle.fc_type_scope.specs.Behind.{binder_kinds, kinds_past};
+ghost use Rattle.fc_type_scope.specs.Scopes.{scope_in};
+ghost use Rattle.fc_type_table.specs.TypeTables.{Grows, IsType, shown};
+ghost use Rattle.fc_types.specs.KindViews.{behind_group, own_kinds};
+ghost use Rattle.fc_types.specs.TableViews.{constructor_of};
+ghost use Rattle.fc_lint_context.specs.DeclaredViews.{name_in, own_constructor_type};
+
+use fc_syntax::{Kind, Memory, NTy, Param, Seq, Text};
+use fc_type_scope::{Entered, TypeScope};
+use fc_type_table::{TypeId, TypeTable};
+use fc_types::{DeclaredCon, Kinds, LocalKind};
+use std::alloc::Global;
+
+/// The kinds of parameters, in their order.
+#[tactic(auto, using(crate::proofs::Foralls::param_rules))]
+fn param_kinds<'a>(alloc: Global, params: &'a [Param]) -> Result<Seq<LocalKind<'a>>, Memory>
+    ensures { IfOk result (λ kinds. own_kinds kinds ≡ words.param_kinds (nparams_of params.now)) }
+{
+    let mut kinds = Seq::new(alloc);
+    for param in params {
+        kinds.push(LocalKind { kind: &param.kind })?;
+    }
+    Ok(kinds)
+}
+
+/// A type applied to the variable that stands so many binders further out than another.
+#[tactic(auto, using(crate::proofs::Contexts::context_rules))]
+fn applied_to_variable<'a>(
+    scope: &TypeScope,
+    head: TypeId,
+    place: usize,
+    outer: usize,
+    types: &mut TypeTable<'a>,
+) -> Result<TypeId, Memory>
+    requires { IsType types.old (scope_in scope.now) head }
+    ensures valid { IfOk result (λ id. IsType types.new (scope_in scope.now) id) }
+    ensures view { IfOk result (λ id. shown types.new (scope_in scope.now) id ≡ NTApp (shown types.old (scope_in scope.now) head) (NTVar (place + outer))) }
+    ensures grows { OnOk result (Grows types.old types.new) }
+{
+    let distance = match place.checked_add(outer) {
+        Some(distance) => distance,
+        None => return Err(Memory),
+    };
+    if distance > u32::MAX as usize {
+        return Err(Memory);
+    }
+    let variable = scope.variable(distance as u32, types)?;
+    scope.application(head, variable, types)
+}
+
+/// A type applied to this many variables, the innermost of which stands so far out.
+fn applied_to_params<'a>(
+    scope: &TypeScope,
+    head: TypeId,
+    count: usize,
+    outer: usize,
+    types: &mut TypeTable<'a>,
+) -> Result<TypeId, Memory>
+    requires { IsType types.old (scope_in scope.now) head }
+    ensures valid { IfOk result (λ id. IsType types.new (scope_in scope.now) id) }
+    ensures view { IfOk result (λ id. shown types.new (scope_in scope.now) id ≡ applied_to_variables (shown types.old (scope_in scope.now) head) count outer) }
+    ensures grows { OnOk result (Grows types.old types.new) }
+{
+    let mut id = head;
+    let mut left = count;
+    while left > 0 {
+        left -= 1;
+        id = applied_to_variable(scope, id, left, outer, types)?;
+    }
+    Ok(id)
+}
+
+/// The type of functions from a written type to another.
+#[tactic(auto, using(crate::proofs::Contexts::context_rules))]
+fn over_field<'a>(
+    scope: &TypeScope,
+    field: &'a NTy,
+    answer: TypeId,
+    types: &mut TypeTable<'a>,
+) -> Result<TypeId, Memory>
+    requires { IsType types.old (scope_in scope.now) answer }
+    ensures valid { IfOk result (λ id. IsType types.new (scope_in scope.now) id) }
+    ensures view { IfOk result (λ id. shown types.new (scope_in scope.now) id ≡ NTFun (nty_of field.now) (shown types.old (scope_in scope.now) answer)) }
+    ensures grows { OnOk result (Grows types.old types.new) }
+{
+    let from = scope.read(field, types)?;
+    scope.function(from, answer, types)
+}
+
+/// The type of functions of fields.
+fn over_fields<'a>(
+    scope: &TypeScope,
+    fields: &'a [NTy],
+    answer: TypeId,
+    types: &mut TypeTable<'a>,
+) -> Result<TypeId, Memory>
+    requires { IsType types.old (scope_in scope.now) answer }
+    ensures valid { IfOk result (λ id. IsType types.new (scope_in scope.now) id) }
+    ensures view { IfOk result (λ id. shown types.new (scope_in scope.now) id ≡ over_binders (map NBValue (ntys_of fields.now)) (shown types.old (scope_in scope.now) answer)) }
+    ensures grows { OnOk result (Grows types.old types.new) }
+{
+    let mut id = answer;
+    let mut left = fields.len();
+    while left > 0 {
+        left -= 1;
+        id = over_field(scope, &fields[left], id, types)?;
+    }
+    Ok(id)
+}
+
+/// What a constructor of a module makes, as a function of its fields, behind its parameters and its own binders.
+fn over_own_fields<'x, 'a>(
+    con: &DeclaredCon<'a>,
+    word: &'a Text,
+    entered: &'x Entered<'a>,
+    scope: &'x TypeScope<'x>,
+    types: &mut TypeTable<'a>,
+) -> Result<TypeId, Memory>
+    requires { own_kinds entered.now.kinds ≡ binder_kinds (constructor_of con.now).binders }
+    ensures valid { IfOk result (λ id. IsType types.new (kinds_past (constructor_of con.now).binders (scope_in scope.now)) id) }
+    ensures view { IfOk result (λ id. shown types.new (kinds_past (constructor_of con.now).binders (scope_in scope.now)) id ≡ over_binders (map NBValue (constructor_of con.now).fields) (constructed_type (name_in word.now con.now.data_word.now) (constructor_of con.now))) }
+    ensures grows { OnOk result (Grows types.old types.new) }
+{
+    let kinds = entered.kinds_behind(scope.kinds);
+    let inner = TypeScope { kinds: &kinds };
+    let head = inner.constructor(Some(word), con.data_word, types)?;
+    let answer = applied_to_params(&inner, head, con.params.len(), entered.kinds.len(), types)?;
+    over_fields(&inner, con.con.fields.as_slice(), answer, types)
+}
+
+/// The same as a function of its own binders and its fields, behind its parameters.
+#[tactic(auto, using(crate::proofs::Contexts::context_rules))]
+fn over_own_binders<'x, 'a>(
+    alloc: Global,
+    con: &DeclaredCon<'a>,
+    word: &'a Text,
+    scope: &'x TypeScope<'x>,
+    types: &mut TypeTable<'a>,
+) -> Result<TypeId, Memory>
+    ensures valid { IfOk result (λ id. IsType types.new (scope_in scope.now) id) }
+    ensures view { IfOk result (λ id. shown types.new (scope_in scope.now) id ≡ over_binders (constructor_of con.now).binders (over_binders (map NBValue (constructor_of con.now).fields) (constructed_type (name_in word.now con.now.data_word.now) (constructor_of con.now)))) }
+    ensures grows { OnOk result (Grows types.old types.new) }
+{
+    let binders = con.con.binders.as_slice();
+    let entered = scope.enter(alloc, binders, types)?;
+    let here = *scope;
+    let body = over_own_fields(con, word, &entered, &here, types)?;
+    scope.function_over(alloc, binders, &entered, body, types)
+}
+
+/// The `forall` over a variable of a kind, behind variables of other kinds.
+#[tactic(auto, unfolding(fc_type_scope::specs::Scopes::scope_in))]
+fn forall_behind<'a>(
+    alloc: Global,
+    outer: &[LocalKind],
+    kind: &Kind,
+    body: TypeId,
+    types: &mut TypeTable<'a>,
+) -> Result<TypeId, Memory>
+    requires { IsType types.old (kind_of kind.now ∷ behind_group (own_kinds outer.now) []) body }
+    ensures valid { IfOk result (λ id. IsType types.new (behind_group (own_kinds outer.now) []) id) }
+    ensures view { IfOk result (λ id. shown types.new (behind_group (own_kinds outer.now) []) id ≡ NTForall (kind_of kind.now) (shown types.old (kind_of kind.now ∷ behind_group (own_kinds outer.now) []) body)) }
+    ensures grows { OnOk result (Grows types.old types.new) }
+{
+    let kinds = Kinds::Group(outer, &Kinds::End);
+    let scope = TypeScope { kinds: &kinds };
+    scope.forall(alloc, kind, body, types)
+}
+
+/// The `forall`s over variables of these kinds, the last one the innermost.
+fn over_params<'a>(
+    alloc: Global,
+    kinds: &[LocalKind],
+    body: TypeId,
+    types: &mut TypeTable<'a>,
+) -> Result<TypeId, Memory>
+    requires { IsType types.old (behind_group (own_kinds kinds.now) []) body }
+    ensures valid { IfOk result (λ id. IsType types.new [] id) }
+    ensures view { IfOk result (λ id. shown types.new [] id ≡ over_binders (map NBType (own_kinds kinds.now)) (shown types.old (behind_group (own_kinds kinds.now) []) body)) }
+    ensures grows { OnOk result (Grows types.old types.new) }
+{
+    let mut id = body;
+    let mut left = kinds.len();
+    while left > 0 {
+        left -= 1;
+        id = forall_behind(alloc, &kinds[..left], kinds[left].kind, id, types)?;
+    }
+    Ok(id)
+}
+
+/// The type of a constructor of a module as a function of its binders: the parameters of its data type, its own types and coercions,
+/// and its fields.
+pub(crate) fn constructor_type<'a>(
+    alloc: Global,
+    con: &DeclaredCon<'a>,
+    word: &'a Text,
+    types: &mut TypeTable<'a>,
+) -> Result<TypeId, Memory>
+    ensures valid { IfOk result (λ id. IsType types.new [] id) }
+    ensures view { IfOk result (λ id. shown types.new [] id ≡ own_constructor_type word.now (constructor_of con.now)) }
+    ensures grows { OnOk result (Grows types.old types.new) }
+{
+    let kinds = param_kinds(alloc, con.params.as_slice())?;
+    let group = Kinds::Group(kinds.as_slice(), &Kinds::End);
+    let scope = TypeScope { kinds: &group };
+    let body = over_own_binders(alloc, con, word, &scope, types)?;
+    over_params(alloc, kinds.as_slice(), body, types)
+}

@@ -1,0 +1,187 @@
+//! The types of what a module declares, in a table.
+ghost use Rattle.std.specs.Prelude.{◌≡◌, ◌+◌, ◌<◌, [], ◌∷◌, ◌++◌, List, length, take, IfOk, IfSome, OnOk};
+ghost use Rattle.std.specs.Option.{option_map};
+ghost use Rattle.fc_syntax.specs.Tree as trees;
+ghost use Rattle.fc_model.specs.Calling as words;
+ghost use Rattle.fc_model.specs.Calling.{constructor};
+ghost use Rattle.fc_model.specs.NamelessView.{nty_of};
+ghost use Rattle.fc_model.specs.Typing.{value_type};
+ghost use Rattle.fc_type_scope.specs.Scopes.{AreTypesAt, shown_all_at};
+ghost use Rattle.fc_type_table.specs.Scopes.{IsTypeAt, shown_at};
+ghost use Rattle.fc_type_table.specs.TypeTables.{Grows, nodes_of};
+ghost use Rattle.fc_type_table.specs.declared.node.Node as nodes;
+ghost use Rattle.fc_types.specs.Listed as listed;
+ghost use Rattle.fc_types.specs.ModuleViews.{modules_of};
+ghost use Rattle.fc_types.specs.TableViews.{constructor_of};
+ghost use Rattle.fc_types.specs.Tables.{found};
+ghost use Rattle.fc_lint_context.specs.DeclaredViews as views;
+ghost use Rattle.fc_lint_context.specs.DeclaredViews.{AreRead, modules_read};
+
+use crate::constructors::constructor_type;
+use fc_syntax::{Memory, NTy, Name, Seq};
+use fc_type_scope::TypeScope;
+use fc_type_table::{TypeId, TypeTable};
+use fc_types::{Declarations, DeclaredCon, Kinds};
+use std::alloc::Global;
+
+/// What a module declares, with the types of its definitions and of its constructors in a table. Each is put there once, however often
+/// it is used.
+#[derive(Drop)]
+pub struct DeclaredTypes<'d, 'a> {
+    /// What the module declares.
+    pub declared: &'d Declarations<'a>,
+    /// The types of the definitions.
+    definition_types: Seq<TypeId>,
+    /// The types of the constructors as functions of their binders.
+    constructor_types: Seq<TypeId>,
+}
+
+/// A constructor with its type.
+#[derive(Clone, Copy)]
+pub struct TypedCon<'a> {
+    /// What is declared of it.
+    pub con: DeclaredCon<'a>,
+    /// Its type as a function of its binders.
+    pub ty: TypeId,
+}
+
+/// Puts a written type without type variables of others behind others.
+#[tactic(auto, unfolding(fc_type_scope::specs::Scopes::scope_in))]
+fn add_closed<'a>(
+    ids: &mut Seq<TypeId>,
+    t: &'a NTy,
+    types: &mut TypeTable<'a>,
+) -> Result<(), Memory>
+    requires { AreTypesAt (nodes_of types.old) [] ids.old }
+    ensures types_in { OnOk result (AreTypesAt (nodes_of types.new) [] ids.new) }
+    ensures added { OnOk result (shown_all_at (nodes_of types.new) [] ids.new ≡ shown_all_at (nodes_of types.old) [] ids.old ++ nty_of t.now ∷ []) }
+    ensures grows { OnOk result (Grows types.old types.new) }
+{
+    let scope = TypeScope { kinds: &Kinds::End };
+    scope.add(ids, t, types)
+}
+
+/// Puts the type of the definition of a number behind those of the definitions before it.
+fn add_definition<'a>(
+    ids: &mut Seq<TypeId>,
+    number: usize,
+    declared: &Declarations<'a>,
+    types: &mut TypeTable<'a>,
+) -> Result<(), Memory>
+    requires within { number < length (listed.definition_types declared.now) }
+    requires types_in { AreTypesAt (nodes_of types.old) [] ids.old }
+    requires so_far { shown_all_at (nodes_of types.old) [] ids.old ≡ take number (listed.definition_types declared.now) }
+    ensures types_in { OnOk result (AreTypesAt (nodes_of types.new) [] ids.new) }
+    ensures so_far { OnOk result (shown_all_at (nodes_of types.new) [] ids.new ≡ take (number + 1) (listed.definition_types declared.now)) }
+    ensures grows { OnOk result (Grows types.old types.new) }
+{
+    match declared.definition_at(number) {
+        None => Ok(()),
+        Some(t) => add_closed(ids, t, types),
+    }
+}
+
+/// The types of the definitions.
+#[tactic(auto, using(crate::proofs::Contexts::context_rules))]
+fn definition_types<'a>(
+    alloc: Global,
+    declared: &Declarations<'a>,
+    types: &mut TypeTable<'a>,
+) -> Result<Seq<TypeId>, Memory>
+    ensures types_in { IfOk result (λ ids. AreTypesAt (nodes_of types.new) [] ids) }
+    ensures all { IfOk result (λ ids. shown_all_at (nodes_of types.new) [] ids ≡ listed.definition_types declared.now) }
+    ensures grows { OnOk result (Grows types.old types.new) }
+{
+    let mut ids = Seq::new(alloc);
+    for number in 0..declared.definition_count() {
+        add_definition(&mut ids, number, declared, types)?;
+    }
+    Ok(ids)
+}
+
+/// Puts the type of the constructor of a number behind those of the constructors before it.
+#[tactic(auto, using(crate::proofs::Contexts::context_rules))]
+fn add_constructor<'a>(
+    alloc: Global,
+    ids: &mut Seq<TypeId>,
+    number: usize,
+    declared: &Declarations<'a>,
+    types: &mut TypeTable<'a>,
+) -> Result<(), Memory>
+    requires within { number < length (listed.constructors_in declared.now) }
+    requires types_in { AreTypesAt (nodes_of types.old) [] ids.old }
+    requires so_far { shown_all_at (nodes_of types.old) [] ids.old ≡ take number (views.constructor_types declared.now) }
+    ensures types_in { OnOk result (AreTypesAt (nodes_of types.new) [] ids.new) }
+    ensures so_far { OnOk result (shown_all_at (nodes_of types.new) [] ids.new ≡ take (number + 1) (views.constructor_types declared.now)) }
+    ensures grows { OnOk result (Grows types.old types.new) }
+{
+    match declared.constructor_at(number) {
+        None => Ok(()),
+        Some(con) => {
+            let id = constructor_type(alloc, &con, declared.module_word(), types)?;
+            ids.push(id)
+        }
+    }
+}
+
+/// The types of the constructors.
+#[tactic(auto, using(crate::proofs::Contexts::context_rules))]
+fn constructor_types<'a>(
+    alloc: Global,
+    declared: &Declarations<'a>,
+    types: &mut TypeTable<'a>,
+) -> Result<Seq<TypeId>, Memory>
+    ensures types_in { IfOk result (λ ids. AreTypesAt (nodes_of types.new) [] ids) }
+    ensures all { IfOk result (λ ids. shown_all_at (nodes_of types.new) [] ids ≡ views.constructor_types declared.now) }
+    ensures grows { OnOk result (Grows types.old types.new) }
+{
+    let mut ids = Seq::new(alloc);
+    for number in 0..declared.constructor_count() {
+        add_constructor(alloc, &mut ids, number, declared, types)?;
+    }
+    Ok(ids)
+}
+
+impl<'d, 'a> DeclaredTypes<'d, 'a> {
+    /// Puts the types of what a module declares into a table. A type that names a variable out of scope is answered as out of memory.
+    pub fn new(
+        alloc: Global,
+        declared: &'d Declarations<'a>,
+        types: &mut TypeTable<'a>,
+    ) -> Result<DeclaredTypes<'d, 'a>, Memory>
+        ensures read { IfOk result (λ d. AreRead (nodes_of types.new) d) }
+        ensures declared { IfOk result (λ d. modules_read d ≡ modules_of declared.now) }
+        ensures grows { OnOk result (Grows types.old types.new) }
+    {
+        let definition_types = definition_types(alloc, declared, types)?;
+        let constructor_types = constructor_types(alloc, declared, types)?;
+        Ok(DeclaredTypes {
+            declared,
+            definition_types,
+            constructor_types,
+        })
+    }
+
+    /// The type of the definition of a name, in each table that has the types, whatever type variables are in scope.
+    pub fn definition_type(&self, name: &Name) -> Option<TypeId>
+        ensures valid { (ns : List nodes.Node) (ks : List trees.Kind) → AreRead ns self.now → IfSome result (λ id. IsTypeAt ns ks id.0) }
+        ensures view { (ns : List nodes.Node) (ks : List trees.Kind) → AreRead ns self.now → found (option_map (λ id. shown_at ns ks id.0) result) ≡ value_type (modules_read self.now) name.now }
+    {
+        match self.declared.definition_number(name) {
+            None => None,
+            Some(number) => self.definition_types.get(number).copied(),
+        }
+    }
+
+    /// The constructor of a name, with its type in each table that has the types, whatever type variables are in scope.
+    pub fn constructor_named(&self, name: &Name) -> Option<TypedCon<'a>>
+        ensures view { (ns : List nodes.Node) → AreRead ns self.now → option_map (λ k. constructor_of k.con) result ≡ constructor (modules_read self.now) name.now }
+        ensures valid { (ns : List nodes.Node) (ks : List trees.Kind) → AreRead ns self.now → IfSome result (λ k. IsTypeAt ns ks k.ty.0) }
+        ensures ty { (ns : List nodes.Node) (ks : List trees.Kind) → AreRead ns self.now → IfSome result (λ k. shown_at ns ks k.ty.0 ≡ words.constructor_type name.now (constructor_of k.con)) }
+    {
+        let number = self.declared.constructor_number(name)?;
+        let con = self.declared.constructor_at(number)?;
+        let ty = self.constructor_types.get(number)?;
+        Some(TypedCon { con, ty: *ty })
+    }
+}

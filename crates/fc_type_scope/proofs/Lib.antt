@@ -1,0 +1,10 @@
+pub mod Backwards
+pub mod BinderLists
+pub mod Growing
+pub mod Leaving
+pub mod Numbers
+pub mod OneMore
+pub mod Owing
+pub mod Past
+pub mod PastBinders
+pub mod Raising

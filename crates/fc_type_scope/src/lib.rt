@@ -1,0 +1,10 @@
+//! Types where type variables are in scope, as numbers in a table: what is read, built and asked there, and what stands behind binders.
+#![tactic(auto)]
+
+mod binders;
+mod entering;
+mod scope;
+mod scoped;
+
+pub use entering::Entered;
+pub use scope::TypeScope;
