@@ -131,7 +131,7 @@ KINDS = [
     ("deep", deep, [100, 300, 900], 0),
     ("small functions", small, [4_000, 8_000, 16_000], 0),
     ("cases", cases, [3_000, 6_000, 12_000], 0),
-    ("wide", wide, [15_000, 30_000, 60_000], 1),
+    ("wide", wide, [2_500, 5_000, 9_000], 1),
     ("declarations", declarations, [1_000, 2_000, 4_000], 0),
     ("shared", shared, [1_000, 3_000], 0),
     ("polymorphic", polymorphic, [2_000, 4_000, 8_000], 0),
