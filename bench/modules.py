@@ -1,11 +1,11 @@
 #!/usr/bin/env python3
 """Lints and builds modules of growing size with the program `coreopt`, and prints for each the seconds, the bytes a second of both and
-the peak memory of a build; the seconds are those of the processor, the least of five runs. There are ten kinds of modules: constants that give a constructor two names of other definitions; functions whose bodies
+the peak memory of a build; the seconds are those of the processor, the least of five runs. There are eleven kinds of modules: constants that give a constructor two names of other definitions; functions whose bodies
 are lets and applications, a hundred deep; small functions that call others; functions by case; one alternative of many binders, the
 outermost of which is used many times, which is refused for the number of its binders when all of it was judged; data types with parameters,
 existential types and equalities, newtypes and families with their axioms; applications whose argument has a type of 65,535 pieces; polymorphic
-functions, which call others at types made of their own variables; join points, fifty deep, with jumps in their alternatives; and applications of a
-polymorphic function, whose type has 65,535 pieces, each at a type of its own. Run it from anywhere, on a
+functions, which call others at types made of their own variables; join points, fifty deep, with jumps in their alternatives; applications of a
+polymorphic function, whose type has 65,535 pieces, each at a type of its own; and functions that cast what they take and what they answer. Run it from anywhere, on a
 machine where the program is built (`./coreopt build examples/Shapes.fc`), or with another program as its only word."""
 import os
 import subprocess
@@ -125,6 +125,18 @@ def instances(count):
         yield f" (def d{10_000 + i} T (app f (type {numeral(i)}) (app h (type {numeral(i)}))))"
 
 
+def coercions(count):
+    """Functions that cast their arguments and what they answer, to a newtype and from it, alone and below a type, and back."""
+    yield " (newtype N () T A) (data D ((a * R)) (E () a))"
+    below = "(tc R D (ax A))"
+    for i in range(count):
+        other, _ = others(i, count)
+        first = f"(cast x (trans {below} (sym {below})))"
+        second = "(cast (cast y (sym (ax A))) (ax A))"
+        answer = f"(cast (app d{other} {first} {second}) (trans (sym {below}) {below}))"
+        yield f" (def d{10_000 + i} (fun (D N) T (D T)) (lam ((x (D N)) (y T)) {answer}))"
+
+
 # the name of a kind, its definitions, their numbers, and the status that is wanted
 KINDS = [
     ("names", names, [11_000, 22_000, 60_000], 0),
@@ -137,6 +149,7 @@ KINDS = [
     ("polymorphic", polymorphic, [2_000, 4_000, 8_000], 0),
     ("joins", joins, [60, 120, 240], 0),
     ("instances", instances, [1_000, 3_000], 0),
+    ("coercions", coercions, [1_500, 3_000, 6_000], 0),
 ]
 
 

@@ -29,16 +29,16 @@ use Rattle.fc_build.specs.declared.prepare.Stop.TheVariants as stop
 
 -- A SET WITH A FAULT IS NOT ACCEPTED
 
-not_in_module : (file : List ℕ) (m : Module) (f : Fault) → FaultOfModule file m f → whole_fault file m ≡ None → Lints m → ⊥
-not_in_module file m f (as_whole is) none lints = let clash : _ ≡ _ = sym none ∙ is in cc
-not_in_module file m f (unlinted k def path none' fails is) none lints = let clash : _ ≡ _ = sym lints ∙ fails in cc
+not_in_module : (m : Module) (f : Fault) → FaultOfModule m f → whole_fault m ≡ None → Lints m → ⊥
+not_in_module m f (as_whole is) none lints = let clash : _ ≡ _ = sym none ∙ is in cc
+not_in_module m f (unlinted k def path none' fails is) none lints = let clash : _ ≡ _ = sym lints ∙ fails in cc
 
-not_in_bytes : (file bytes : List ℕ) (f : Fault) (n : Module) → FaultOfBytes file bytes f → ReadsTo bytes n → whole_fault file n ≡ None → Lints n → ⊥
+not_in_bytes : (file bytes : List ℕ) (f : Fault) (n : Module) → FaultOfBytes file bytes f → ReadsTo bytes n → whole_fault n ≡ None → Lints n → ⊥
 not_in_bytes file bytes f n (too_long over is) reads none lints = omega (arith, over, reads.short)
 not_in_bytes file bytes f n (unread fault short first is) reads none lints = no_module bytes fault n first reads
 not_in_bytes file bytes f n (faulty m read fault) reads none lints =
     let same : m ≡ n = one_module bytes m n read.spelled reads.spelled in
-    not_in_module file m f fault (subst (λ k. whole_fault file k ≡ None) (sym same) none) (subst Lints (sym same) lints)
+    not_in_module m f fault (subst (λ k. whole_fault k ≡ None) (sym same) none) (subst Lints (sym same) lints)
 
 not_in_entry : (file : List ℕ) (entry : Option (List ℕ)) (f : Fault) (n : Module) → FaultOfEntry file entry f → Accepted (file ∷ []) (λ _. entry) n → ⊥
 not_in_entry file None f n fault accepted = accepted

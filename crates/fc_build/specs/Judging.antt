@@ -13,22 +13,22 @@ use Rattle.fc_build.specs.declared.judge.Judged.{Judged}
 use Rattle.fc_build.specs.declared.judge.Judged.TheVariants as judged
 
 -- what the answer says of a module
-abbrev pub JudgesModule : List ℕ → Module → Judged → Type 0
-JudgesModule file m (judged.Accepted n nameless) = (module_of n ≡ m) × (whole_fault file m ≡ None) × Lints m
-JudgesModule file m (judged.Refused f) = FaultOfModule file m f
-JudgesModule file m judged.ReadFault = ⊥
-JudgesModule file m judged.Memory = ⊤
+abbrev pub JudgesModule : Module → Judged → Type 0
+JudgesModule m (judged.Accepted n nameless) = (module_of n ≡ m) × (whole_fault m ≡ None) × Lints m
+JudgesModule m (judged.Refused f) = FaultOfModule m f
+JudgesModule m judged.ReadFault = ⊥
+JudgesModule m judged.Memory = ⊤
 
 -- of the bytes of a file
 abbrev pub JudgesBytes : List ℕ → List ℕ → Judged → Type 0
-JudgesBytes file bytes (judged.Accepted m nameless) = ReadsTo bytes (module_of m) × (whole_fault file (module_of m) ≡ None) × Lints (module_of m)
+JudgesBytes file bytes (judged.Accepted m nameless) = ReadsTo bytes (module_of m) × (whole_fault (module_of m) ≡ None) × Lints (module_of m)
 JudgesBytes file bytes (judged.Refused f) = FaultOfBytes file bytes f
 JudgesBytes file bytes judged.ReadFault = ⊥
 JudgesBytes file bytes judged.Memory = ⊤
 
 -- of what the name of a file holds
 abbrev pub JudgesEntry : List ℕ → Option (List ℕ) → Judged → Type 0
-JudgesEntry file entry (judged.Accepted m nameless) = IsSomeAnd entry (λ bytes. ReadsTo bytes (module_of m) × (whole_fault file (module_of m) ≡ None) × Lints (module_of m))
+JudgesEntry file entry (judged.Accepted m nameless) = IsSomeAnd entry (λ bytes. ReadsTo bytes (module_of m) × (whole_fault (module_of m) ≡ None) × Lints (module_of m))
 JudgesEntry file entry (judged.Refused f) = FaultOfEntry file entry f
 JudgesEntry file entry judged.ReadFault = ⊤
 JudgesEntry file entry judged.Memory = ⊤

@@ -14,7 +14,6 @@ ghost use Rattle.fc_model.specs.Says.{Says};
 ghost use Rattle.fc_build.specs.Judging.{HasNameless, IsReadyAnswer, Judges, JudgesBytes, JudgesEntry, JudgesModule};
 
 use fc_files::{Files, ReadAnswer};
-use fc_forms::is_supported;
 use fc_lint_set::lint_module;
 use fc_model::{Flaw, Flawed};
 use fc_reader::read_module;
@@ -129,18 +128,15 @@ fn plan_fault(m: &Module) -> Option<FaultKind>
     Some(FaultKind::ImportCycle)
 }
 
-/// Judges a module that was read: its imports, its forms, and then every premise of Lint.
-fn judge_module(alloc: Global, file: &str, m: Module) -> Judged
+/// Judges a module that was read: its imports, and then every premise of Lint.
+fn judge_module(alloc: Global, m: Module) -> Judged
     requires { IsFormed (module_of m) }
-    ensures judged { JudgesModule file.now (module_of m) result }
+    ensures judged { JudgesModule (module_of m) result }
     ensures ready { IsReadyAnswer result }
     ensures nameless { HasNameless result }
 {
     if let Some(kind) = plan_fault(&m) {
         return refused(of_file(alloc, kind, m.name.as_str(), Place::Nowhere));
-    }
-    if !is_supported(&m) {
-        return refused(of_file(alloc, FaultKind::BadForm, file, Place::Nowhere));
     }
     match lint(alloc, &m) {
         Ok(nameless) => Judged::Accepted(m, nameless),
@@ -159,7 +155,7 @@ fn judge_bytes(alloc: Global, file: &str, bytes: Vec<u8>) -> Judged
     let read = read_module(alloc, file, &bytes);
     drop(bytes);
     match read {
-        Ok(m) => judge_module(alloc, file, m),
+        Ok(m) => judge_module(alloc, m),
         Err(Refusal::Fault(fault)) => Judged::Refused(fault),
         Err(Refusal::Memory) => Judged::Memory,
     }

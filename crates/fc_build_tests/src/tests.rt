@@ -257,7 +257,7 @@ fn a_module_is_refused_as_a_whole_behind_its_form_and_before_its_names(
     rt: HostRuntime,
 ) -> Result<(), Fail> {
     let alloc = rt.alloc();
-    let cases: [(&[u8], &[u8]); 11] = [
+    let cases: [(&[u8], &[u8]); 8] = [
         // an import of a module that is not in the set
         (
             b"(module M (imports N) (exports))",
@@ -273,36 +273,23 @@ fn a_module_is_refused_as_a_whole_behind_its_form_and_before_its_names(
             b"(module M (imports M N) (exports))",
             b"refused 12 ImportUnknown M - -\n",
         ),
-        // forms that are not judged yet: a cast, coercions as an argument and as binders of a lambda, an alternative and a join point
-        (
-            b"(module M (imports) (exports) (data T () (K ())) (def x T (cast x (refl R T))))",
-            b"refused 3 BadForm M.fc - -\n",
-        ),
+        // a coercion that a constructor takes none of, and one that a function does not take
         (
             b"(module M (imports) (exports) (data T () (K ())) (def x T (con K (co (refl R T)))))",
-            b"refused 3 BadForm M.fc - -\n",
+            b"refused 58 ConArity M x 1\n",
         ),
         (
             b"(module M (imports) (exports) (data T () (K ())) (def x T (lam ((co c R T T)) x)))",
-            b"refused 3 BadForm M.fc - -\n",
+            b"refused 63 DefType M x -\n",
         ),
-        (
-            b"(module M (imports) (exports) (data T () (K ((co c R T T)))) (def x T (case x (y T) T (K ((co c R T T)) x))))",
-            b"refused 3 BadForm M.fc - -\n",
-        ),
-        (
-            b"(module M (imports) (exports) (data T () (K ())) (def x T (join T (j ((co c R T T)) x) x)))",
-            b"refused 3 BadForm M.fc - -\n",
-        ),
-        // imports count before forms
+        // imports count before names
         (
             b"(module M (imports N) (exports) (def x T (cast x c)))",
             b"refused 12 ImportUnknown M - -\n",
         ),
-        // forms count before names
         (
             b"(module M (imports) (exports) (def f T (cast x c)))",
-            b"refused 3 BadForm M.fc - -\n",
+            b"refused 20 Unbound M f 0\n",
         ),
         // a name in a module that is not imported
         (

@@ -8,21 +8,28 @@ use Rattle.fc_syntax.specs.View.{kind_of}
 use Rattle.fc_model.specs.Calling as words
 use Rattle.fc_model.proofs.Lists.{drop_item}
 use Rattle.fc_type_scope.proofs.Numbers.{number_rules}
+use Rattle.fc_type_scope.proofs.Proven.{IsEndsAt-grows, ends_rules}
 use Rattle.fc_type_table.proofs.Numbers.{Grows-further, IsTypeAt-grows, shown_at-grows}
 use Rattle.fc_type_table.specs.Nodes.{Extends}
+use Rattle.fc_type_table.specs.Scopes.{shown_at}
 use Rattle.fc_type_table.specs.declared.node.Node.{Node}
-use Rattle.fc_lint_calls.specs.GivenViews.{AreGivenAt, IsGivenAt, given_at, givens_at, type_of_given}
+use Rattle.fc_lint_calls.specs.GivenViews.{AreGivenAt, IsGivenAt, given_at, givens_at}
 use Rattle.fc_lint_calls.specs.declared.arguments.Given.{Given}
-use Rattle.fc_lint_calls.specs.declared.arguments.Given.TheVariants.{Term, OfType}
+use Rattle.fc_lint_calls.specs.declared.arguments.Given.TheVariants.{Term, OfType, Coercion}
 
 -- ---- one argument
 
 pub IsGivenAt-grows : (old new : List Node) (ks : List Kind) (g : Given) → Extends old new → IsGivenAt old ks g → IsGivenAt new ks g
-IsGivenAt-grows old new ks g more h = IsTypeAt-grows old new ks (type_of_given g).0 more h
+IsGivenAt-grows old new ks (Term t atom) more h = IsTypeAt-grows old new ks t.0 more h
+IsGivenAt-grows old new ks (OfType t k) more h = IsTypeAt-grows old new ks t.0 more h
+IsGivenAt-grows old new ks (Coercion e) more h = IsEndsAt-grows old new ks e more h
 
 pub given_at-grows : (old new : List Node) (ks : List Kind) (g : Given) → Extends old new → IsGivenAt old ks g → given_at new ks g ≡ given_at old ks g
 given_at-grows old new ks (Term t atom) more h = ap (λ x. words.GivenTerm x atom) (shown_at-grows old new ks t.0 more h)
 given_at-grows old new ks (OfType t k) more h = ap (λ x. words.GivenType x (kind_of k)) (shown_at-grows old new ks t.0 more h)
+given_at-grows old new ks (Coercion e) more h =
+    ap (λ x. words.GivenCoercion e.role x (shown_at new ks e.right.0)) (shown_at-grows old new ks e.left.0 more h.left)
+    ∙ ap (λ x. words.GivenCoercion e.role (shown_at old ks e.left.0) x) (shown_at-grows old new ks e.right.0 more h.right)
 
 -- ---- several
 
@@ -88,4 +95,4 @@ pub givens-grow-rest : (old new : List Node) (ks : List Kind) (gs : List Given) 
 givens-grow-rest old new ks gs i more h = givens-grow old new ks (drop i gs) more (AreGivenAt-drop old ks i gs h)
 
 -- what a caller needs whose table grows
-pub ruleset given_rules = (number_rules, Grows-further, IsGivenAt-grows, given_at-grows, AreGivenAt-none, AreGivenAt-grows, AreGivenAt-push, givens-none, givens-grow, givens-push)
+pub ruleset given_rules = (number_rules, ends_rules, Grows-further, IsGivenAt-grows, given_at-grows, AreGivenAt-none, AreGivenAt-grows, AreGivenAt-push, givens-none, givens-grow, givens-push)

@@ -1,6 +1,6 @@
-pub mod Givens
-pub mod Meets
-pub mod CalledJudged
-pub mod Heads
-pub mod ConstructorFits
 pub mod Asked
+pub mod CalledJudged
+pub mod ConstructorFits
+pub mod Givens
+pub mod Heads
+pub mod Meets

@@ -1,13 +1,15 @@
 -- Arguments that meet what is asked, one after the other.
 use Rattle.std.proofs.Common.{◌≡◌, ℕ, ◌+◌, ◌<◌, drop, get_or, length, Bool, true, ◌&&◌, List, [], Option, Some, None, refl, sym, ap, ◌∙◌}
 use Rattle.std.proofs.Math.Bool.{and-true, and_assoc}
+use Rattle.fc_syntax.specs.declared.ty.Role.{Role}
 use Rattle.fc_syntax.specs.Tree.{Kind}
 use Rattle.fc_syntax.specs.View.{kind_of}
 use Rattle.fc_syntax.specs.declared.ty.Kind as code
 use Rattle.fc_model.specs.Calling as words
-use Rattle.fc_model.specs.Calling.{Met, and_kind, and_term, at_type, atom_fits, forall_kind, from_some, function_ends, has_kind, met}
-use Rattle.fc_model.specs.Kinding.{same_type}
+use Rattle.fc_model.specs.Calling.{Met, and_coercion, and_kind, and_term, at_type, atom_fits, coercion_asked, forall_kind, from_some, function_ends, has_kind, is_asked, met}
+use Rattle.fc_model.specs.Kinding.{same_role, same_type}
 use Rattle.fc_model.specs.Nameless.{NTy}
+use Rattle.fc_type_scope.specs.declared.ends.Ends as proven
 use Rattle.fc_type_table.proofs.Numbers.{shown_at-grows}
 use Rattle.fc_type_table.specs.Nodes.{Extends}
 use Rattle.fc_type_table.specs.Scopes.{IsTypeAt, shown_at}
@@ -17,7 +19,7 @@ use Rattle.fc_lint_calls.specs.GivenViews.{AreGivenAt, givens_at}
 use Rattle.fc_lint_calls.proofs.Givens.{givens-grow-rest, givens-step}
 use Rattle.fc_lint_calls.specs.Meetings.{GoesOn, met_at, met_behind, met_from, met_on}
 use Rattle.fc_lint_calls.specs.declared.arguments.Given.{Given}
-use Rattle.fc_lint_calls.specs.declared.arguments.Given.TheVariants.{Term, OfType}
+use Rattle.fc_lint_calls.specs.declared.arguments.Given.TheVariants.{Term, OfType, Coercion}
 use Rattle.fc_lint_calls.specs.declared.arguments.Meeting.{Meeting}
 
 -- before the first argument all is right
@@ -71,6 +73,35 @@ is_function ns ks m t atom b c from to e p q = record {
       ∙ term_behind m (shown_at ns ks from.0) (shown_at ns ks t.0) atom b c to (met (shown_at ns ks to.0) gs) p q;
 }
 
+-- ---- a coercion
+
+abbrev with_ends : Meeting → Bool → TypeId → Meeting
+with_ends m b to = record { kinds = m.kinds; types = b; atoms = m.atoms; whole = to }
+
+ends_behind : (m : Meeting) (same b : Bool) (to : TypeId) (o : Option Met) → b ≡ (m.types && same) → met_behind m (and_coercion same o) ≡ met_behind (with_ends m b to) o
+ends_behind m same b to (Some n) p =
+    let types : (m.types && (same && n.types)) ≡ (b && n.types) = sym (and_assoc m.types same n.types) ∙ ap (λ x. x && n.types) (sym p) in
+    rw types refl
+ends_behind m same b to None p = refl
+
+pub no_coforall : (ns : List Node) (ks : List Kind) (m : Meeting) (e : proven.Ends) → None ≡ coercion_asked (shown_at ns ks m.whole.0) → GoesOn ns ns ks m (Coercion e) None
+unfolding met_from met_on
+no_coforall ns ks m e h = record {
+  view = λ gs.
+      ap (λ o. met_behind m (from_some (λ (p : Role × NTy × NTy × NTy). and_coercion (is_asked p e.role (shown_at ns ks e.left.0) (shown_at ns ks e.right.0)) (met p.3 gs)) o)) (sym h);
+}
+
+pub is_coforall : (ns : List Node) (ks : List Kind) (m : Meeting) (e : proven.Ends) (b : Bool) (a : proven.Ends) (to : TypeId)
+    → Some (a.role, shown_at ns ks a.left.0, shown_at ns ks a.right.0, shown_at ns ks to.0) ≡ coercion_asked (shown_at ns ks m.whole.0)
+    → b ≡ (m.types && (same_role a.role e.role && (same_type (shown_at ns ks a.left.0) (shown_at ns ks e.left.0) && same_type (shown_at ns ks a.right.0) (shown_at ns ks e.right.0))))
+    → GoesOn ns ns ks m (Coercion e) (Some (with_ends m b to))
+unfolding met_from met_on
+is_coforall ns ks m e b a to h p = record {
+  view = λ gs.
+      ap (λ o. met_behind m (from_some (λ (q : Role × NTy × NTy × NTy). and_coercion (is_asked q e.role (shown_at ns ks e.left.0) (shown_at ns ks e.right.0)) (met q.3 gs)) o)) (sym h)
+      ∙ ends_behind m _ b to (met (shown_at ns ks to.0) gs) p;
+}
+
 -- ---- a type
 
 abbrev with_kind : Meeting → Bool → TypeId → Meeting
@@ -103,6 +134,8 @@ module _ (old mid new : List Node) (ks : List Kind) (m : Meeting) (t : TypeId) (
   }
 
 pub ruleset term_rules = (no_function, is_function)
+
+pub ruleset coercion_rules = (no_coforall, is_coforall)
 
 -- ---- one turn of the loop over the arguments
 

@@ -8,12 +8,13 @@ ghost use Rattle.fc_model.specs.Typing as typing;
 ghost use Rattle.fc_syntax.specs.View.{kind_of};
 ghost use Rattle.fc_lint_calls.specs.GivenViews.{AreGiven, IsGiven, given_in, givens_in};
 ghost use Rattle.fc_lint_calls.specs.Meetings.{GoesOn, met_at};
+ghost use Rattle.fc_type_scope.specs.EndViews.{IsEnds};
 ghost use Rattle.fc_type_scope.specs.Scopes.{scope_in};
 ghost use Rattle.fc_type_table.specs.TypeTables.{Grows, IsType, nodes_of, shown};
 
 use fc_model::{Flawed, flaw_here};
 use fc_syntax::{FaultKind, Kind, Memory, NExpr, Ref};
-use fc_type_scope::TypeScope;
+use fc_type_scope::{Ends, TypeScope};
 use fc_type_table::{TypeId, TypeTable};
 use std::alloc::Global;
 
@@ -24,6 +25,8 @@ pub enum Given {
     Term(TypeId, bool),
     /// The type, which is of the kind.
     OfType(TypeId, Kind),
+    /// A coercion, which proves this.
+    Coercion(Ends),
 }
 
 /// How the arguments so far met what was asked.
@@ -117,8 +120,33 @@ fn applied_to_type<'a>(
     }
 }
 
+/// The type of a head of this type that is applied to a coercion: `NotFunction`, and then `ArgType` where another role or other ends are
+/// asked.
+fn applied_to_coercion<'a>(
+    alloc: Global,
+    head: TypeId,
+    ends: &Ends,
+    types: &TypeTable<'a>,
+    scope: &TypeScope<'_>,
+) -> Result<TypeId, Flawed>
+    requires head_in { IsType types.now (scope_in scope.now) head }
+    requires ends_in { IsEnds types.now (scope_in scope.now) ends.now }
+    ensures valid { IfOk result (λ id. IsType types.now (scope_in scope.now) id) }
+    ensures says { Says (λ id. shown types.now (scope_in scope.now) id) result (words.applied (shown types.now (scope_in scope.now) head) (words.GivenCoercion ends.now.role (shown types.now (scope_in scope.now) ends.now.left) (shown types.now (scope_in scope.now) ends.now.right))) }
+{
+    match scope.coercion_asked(head, types) {
+        None => Err(flaw_here(alloc, FaultKind::NotFunction)),
+        Some((asked, body)) => {
+            if !scope.same_ends(&asked, ends, types) {
+                return Err(flaw_here(alloc, FaultKind::ArgType));
+            }
+            Ok(body)
+        }
+    }
+}
+
 /// The type of a head of this type that is applied to one argument: to a term `NotFunction`, `ArgType` and `UnliftedNotAtom`, to a type
-/// `NotForall` and `KindMismatch`, in this order.
+/// `NotForall` and `KindMismatch`, to a coercion `NotFunction` and `ArgType`, in this order.
 pub fn applied<'a>(
     alloc: Global,
     head: TypeId,
@@ -135,6 +163,7 @@ pub fn applied<'a>(
     match given {
         Given::Term(ty, atom) => applied_to_term(alloc, head, *ty, *atom, types, scope),
         Given::OfType(by, kind) => applied_to_type(alloc, head, *by, kind, types, scope),
+        Given::Coercion(ends) => applied_to_coercion(alloc, head, ends, types, scope),
     }
 }
 
@@ -195,6 +224,33 @@ fn meets_type<'a>(
     }
 }
 
+/// What is met with one more argument, a coercion; nothing where none is asked.
+#[tactic(auto, using(crate::proofs::Meets::coercion_rules))]
+fn meets_coercion<'a>(
+    so_far: Meeting,
+    ends: &Ends,
+    types: &TypeTable<'a>,
+    scope: &TypeScope<'_>,
+) -> Option<Meeting>
+    requires whole_in { IsType types.now (scope_in scope.now) so_far.whole }
+    requires ends_in { IsEnds types.now (scope_in scope.now) ends.now }
+    ensures valid { IfSome result (λ m. IsType types.now (scope_in scope.now) m.whole) }
+    ensures view { GoesOn (nodes_of types.now) (nodes_of types.now) (scope_in scope.now) so_far (Given.Coercion ends.now) result }
+{
+    match scope.coercion_asked(so_far.whole, types) {
+        None => None,
+        Some((asked, body)) => {
+            let same = scope.same_ends(&asked, ends, types);
+            Some(Meeting {
+                kinds: so_far.kinds,
+                types: so_far.types && same,
+                atoms: so_far.atoms,
+                whole: body,
+            })
+        }
+    }
+}
+
 /// What is met with one more argument; nothing where one of another sort is asked, or none.
 fn meets<'a>(
     alloc: Global,
@@ -212,6 +268,7 @@ fn meets<'a>(
     match given {
         Given::Term(ty, atom) => Ok(meets_term(so_far, *ty, *atom, types, scope)),
         Given::OfType(by, kind) => meets_type(alloc, so_far, *by, kind, types, scope),
+        Given::Coercion(ends) => Ok(meets_coercion(so_far, ends, types, scope)),
     }
 }
 

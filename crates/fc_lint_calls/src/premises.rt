@@ -1,4 +1,4 @@
-//! The premises of binds, cases, errors, joins and binders, behind those of their parts.
+//! The premises of binds, cases, casts, errors, joins and binders, behind those of their parts.
 ghost use Rattle.std.specs.Prelude.{◌≡◌, ◌++◌, List, length, Ok, IfOk, OnOk};
 ghost use Rattle.fc_model.specs.Calling.{atom_fits};
 ghost use Rattle.fc_model.specs.Faulting.{need};
@@ -11,14 +11,15 @@ ghost use Rattle.fc_model.specs.Typing.{kinds_behind, paid};
 ghost use Rattle.fc_syntax.specs.Tree as trees;
 ghost use Rattle.fc_syntax.specs.View.{kind_of};
 ghost use Rattle.fc_syntax.specs.declared.fault.FaultKind.TheVariants.{LetType, NotAType, ScrutineeType, UnliftedNotAtom};
+ghost use Rattle.fc_type_scope.specs.EndViews.{IsEnds, shown_ends};
 ghost use Rattle.fc_type_scope.specs.Scopes.{scope_in};
 ghost use Rattle.fc_type_table.specs.TypeTables.{Grows, IsNumber, IsType, modules_in, shown};
 
 use fc_model::{Flawed, flaw_here};
-use fc_syntax::{FaultKind, Kind, NBinder, NTy};
-use fc_type_scope::TypeScope;
+use fc_syntax::{FaultKind, Kind, NBinder, NTy, Role};
+use fc_type_scope::{Ends, TypeScope};
 use fc_type_table::{TypeId, TypeTable};
-use fc_types::is_value_kind;
+use fc_types::{is_value_kind, same_role};
 use std::alloc::Global;
 
 /// What was asked of binders, behind what stands below them: the fault, if there is one.
@@ -105,6 +106,29 @@ pub fn case_type<'a>(
         return Err(flaw_here(alloc, FaultKind::NotAType));
     }
     Ok(answer)
+}
+
+/// The type of a cast of what is of this type, by a coercion that proves this: `RoleWrong` where it is not at R, and then `CastFrom` where it
+/// goes from another type. Takes no memory.
+pub fn cast_type<'a>(
+    alloc: Global,
+    ends: &Ends,
+    from: TypeId,
+    types: &TypeTable<'a>,
+    scope: &TypeScope<'_>,
+) -> Result<TypeId, Flawed>
+    requires ends_in { IsEnds types.now (scope_in scope.now) ends.now }
+    requires from_in { IsType types.now (scope_in scope.now) from }
+    ensures valid { IfOk result (λ id. IsType types.now (scope_in scope.now) id) }
+    ensures says { Says (λ id. shown types.now (scope_in scope.now) id) result (words.cast (shown types.now (scope_in scope.now) from) (shown_ends types.now (scope_in scope.now) ends.now)) }
+{
+    if !same_role(ends.role, Role::R) {
+        return Err(flaw_here(alloc, FaultKind::RoleWrong));
+    }
+    if !scope.same(ends.left, from, types) {
+        return Err(flaw_here(alloc, FaultKind::CastFrom));
+    }
+    Ok(ends.right)
 }
 
 /// The type of an error at this type, which is of this kind: `NotAType` where that is none of the types of values.

@@ -9,14 +9,14 @@ use Rattle.fc_lint_context.specs.LocalViews.{bind_types}
 reversed_more : {X : Type 0} (x : X) (xs ys : List X) → reverse (x ∷ xs) ++ ys ≡ reverse xs ++ (x ∷ ys)
 reversed_more x xs ys = ap (λ zs. zs ++ ys) (reverse_onto xs x []) ∙ append_assoc (reverse xs) (x ∷ []) ys
 
-pub with_binds-is : (bs : NBinds) (c : Context) → with_binds bs c ≡ record { kinds = c.kinds; values = reverse (bind_types bs) ++ c.values; joins = c.joins }
+pub with_binds-is : (bs : NBinds) (c : Context) → with_binds bs c ≡ record { kinds = c.kinds; coercions = c.coercions; values = reverse (bind_types bs) ++ c.values; joins = c.joins }
 with_binds-is NoNBinds c = refl
 with_binds-is (MoreNBinds (NBound t e) rest) c =
-    let f : List NTy → Context = λ vs. record { kinds = c.kinds; values = vs; joins = c.joins } in
+    let f : List NTy → Context = λ vs. record { kinds = c.kinds; coercions = c.coercions; values = vs; joins = c.joins } in
     with_binds-is rest (with_value t c) ∙ ap f (sym (reversed_more t (bind_types rest) c.values))
 
-pub with_joins-is : (t : NTy) (js : NJoins) (c : Context) → with_joins t js c ≡ record { kinds = c.kinds; values = c.values; joins = reverse (join_points t js) ++ c.joins }
+pub with_joins-is : (t : NTy) (js : NJoins) (c : Context) → with_joins t js c ≡ record { kinds = c.kinds; coercions = c.coercions; values = c.values; joins = reverse (join_points t js) ++ c.joins }
 with_joins-is t NoNJoins c = refl
 with_joins-is t (MoreNJoins (NJoined ps e) rest) c =
-    let f : List JoinPoint → Context = λ js. record { kinds = c.kinds; values = c.values; joins = js } in
+    let f : List JoinPoint → Context = λ js. record { kinds = c.kinds; coercions = c.coercions; values = c.values; joins = js } in
     with_joins-is t rest (with_join (join_point t ps) c) ∙ ap f (sym (reversed_more (join_point t ps) (join_points t rest) c.joins))

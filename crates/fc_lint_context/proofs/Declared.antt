@@ -2,21 +2,23 @@
 use Rattle.std.proofs.Common.{◌≡◌, ℕ, zero, suc, ◌+◌, ◌≤◌, Bool, true, false, List, [], ◌∷◌, ◌++◌, length, map, slice_get, take, Option, Some, None, IfSome, Result, Ok, Err, OnOk, if◌then◌else◌, refl, sym, ap, subst, ◌∙◌, arith}
 use Rattle.std.proofs.lemmas.List.{length-map, take_more}
 use Rattle.std.proofs.lemmas.Option.{get_or_from_slice_get, slice_get-map, slice_get_within}
-use Rattle.std.specs.Option.{option_map}
+use Rattle.std.specs.Option.{option_and_then, option_map}
 use Rattle.std.specs.Str.{bytes_eq}
 use Rattle.fc_syntax.specs.Tree.{Kind, Word}
 use Rattle.fc_syntax.specs.declared.ty.Name.{Name}
 use Rattle.fc_syntax.specs.declared.fault.FaultKind.TheVariants.{Unbound}
 use Rattle.fc_model.proofs.Sameness.{bytes_eq_eq}
 use Rattle.fc_model.specs.Calling.{Constructor, con_decl, constructor, constructor_type}
+use Rattle.fc_model.specs.Coercing.{Axiom, axiom_decl, axiom_named}
 use Rattle.fc_model.specs.Faulting.{F}
 use Rattle.fc_model.specs.Nameless.{NTy, NDecl}
 use Rattle.fc_model.specs.NamelessView.{ndecls_of}
 use Rattle.fc_model.specs.Says.{IsFlaw, Refuses}
 use Rattle.fc_model.specs.declared.flaw.Flawed.{Flawed}
 use Rattle.fc_model.specs.declared.flaw.Flawed.TheVariants.{Memory, Flaw as OfFlaw}
-use Rattle.fc_types.specs.Listed.{constructors_in}
+use Rattle.fc_types.specs.Listed.{axioms_in, constructors_in}
 use Rattle.fc_types.specs.ModuleViews.{modules_of, module_word_of}
+use Rattle.fc_types.specs.TableViews.{axiom_of}
 use Rattle.fc_types.specs.Tables.{found}
 use Rattle.fc_types.specs.declared.declarations.Declarations.{Declarations}
 use Rattle.fc_type_scope.proofs.Numbers.{AreTypesAt-at, AreTypesAt-grows, shown_all-get, shown_all-grows, shown_all-push}
@@ -26,8 +28,9 @@ use Rattle.fc_type_table.specs.Scopes.{IsTypeAt, shown_at}
 use Rattle.fc_type_table.specs.declared.node.Node.{Node}
 use Rattle.fc_type_table.specs.declared.node.TypeId.{TypeId}
 use Rattle.fc_lint_context.proofs.Closed.{IsTypeAt-closed, shown_at-closed}
-use Rattle.fc_lint_context.specs.DeclaredViews.{AreRead, constructor_types, name_in, own_constructor_type}
+use Rattle.fc_lint_context.specs.DeclaredViews.{AreRead, AreSidesAt, ShowSides, axiom_lefts, axiom_rights, constructor_types, left_side, name_in, own_constructor_type, right_side}
 use Rattle.fc_lint_context.specs.declared.declared_types.DeclaredTypes.{DeclaredTypes}
+use Rattle.fc_lint_context.specs.declared.declared_types.TypedAxiom.{TypedAxiom}
 
 pub AreRead-grows : (old new : List Node) (d : DeclaredTypes) → Extends old new → AreRead old d → AreRead new d
 AreRead-grows old new d more r = record {
@@ -35,6 +38,10 @@ AreRead-grows old new d more r = record {
   definitions = shown_all-grows old new [] d.definition_types more r.definitions_in ∙ r.definitions;
   constructors_in = AreTypesAt-grows old new [] d.constructor_types more r.constructors_in;
   constructors = shown_all-grows old new [] d.constructor_types more r.constructors_in ∙ r.constructors;
+  lefts_in = AreTypesAt-grows old new [] d.axiom_lefts more r.lefts_in;
+  lefts = shown_all-grows old new [] d.axiom_lefts more r.lefts_in ∙ r.lefts;
+  rights_in = AreTypesAt-grows old new [] d.axiom_rights more r.rights_in;
+  rights = shown_all-grows old new [] d.axiom_rights more r.rights_in ∙ r.rights;
 }
 
 -- ---- a closed type, found at a number
@@ -67,7 +74,7 @@ pub types-pushed : {T E X : Type 0} (r : Result T E) (xs before after : List X) 
 types-pushed (Ok y) xs before after i x so_far at e = e ∙ ap (λ ys. ys ++ x ∷ []) so_far ∙ sym (take_said xs i x at)
 types-pushed (Err y) xs before after i x so_far at e = tt
 
--- ---- constructors
+-- ---- what is made of each declared thing
 
 no_type : {X Y : Type 0} (f : X → Y) (xs : List X) (i : ℕ) → None ≡ slice_get (map f xs) i → slice_get xs i ≡ None
 no_type f xs i e = by (slice_get xs i) (e ∙ slice_get-map f xs i)
@@ -76,20 +83,44 @@ no_type f xs i e = by (slice_get xs i) (e ∙ slice_get-map f xs i)
     by None e = refl
     by (Some x) e = cc
 
+made_none : {X : Type 0} (f : X → NTy) (xs : List X) (ns : List Node) (ids : List TypeId) (i : ℕ) → shown_all_at ns [] ids ≡ map f xs → None ≡ slice_get ids i → slice_get xs i ≡ None
+made_none f xs ns ids i all e = no_type f xs i (ap (option_map (λ (id : TypeId). shown_at ns [] id.0)) e ∙ sym (shown_all-get ns [] ids i) ∙ ap (λ ts. slice_get ts i) all)
+
+made_shown : {X : Type 0} (f : X → NTy) (xs : List X) (ns : List Node) (ks : List Kind) (ids : List TypeId) (i : ℕ) (id : TypeId) (x : X) → AreTypesAt ns [] ids → shown_all_at ns [] ids ≡ map f xs → slice_get ids i ≡ Some id
+    → slice_get xs i ≡ Some x → shown_at ns ks id.0 ≡ f x
+made_shown f xs ns ks ids i id x ts all at here =
+    let shown : Some (shown_at ns ks id.0) ≡ Some (f x) = type_shown ns ks ids (map f xs) i (Some id) (sym at) ts all ∙ slice_get-map f xs i ∙ ap (option_map f) here in cc
+
+-- one type more
+made_pushed : {X : Type 0} (f : X → NTy) (xs : List X) (old new : List Node) (ids pushed : List TypeId) (id : TypeId) (i : ℕ) (x : X) → Extends old new → AreTypesAt old [] ids → shown_all_at old [] ids ≡ take i (map f xs)
+    → Some x ≡ slice_get xs i → shown_at new [] id.0 ≡ f x → pushed ≡ ids ++ id ∷ [] → shown_all_at new [] pushed ≡ take (i + 1) (map f xs)
+made_pushed f xs old new ids pushed id i x more ts so_far at shown e =
+    let there : Some (f x) ≡ slice_get (map f xs) i = ap (option_map f) at ∙ sym (slice_get-map f xs i) in
+    shown_all-push old new [] ids pushed id (f x) more ts shown e ∙ ap (λ us. us ++ f x ∷ []) so_far ∙ sym (take_said (map f xs) i (f x) there)
+
+take_far : {X : Type 0} (xs : List X) (n : ℕ) → length xs ≤ n → take n xs ≡ xs
+take_far [] zero far = refl
+take_far [] (suc n) far = refl
+take_far (x ∷ xs) zero far = absurd (omega arith)
+take_far (x ∷ xs) (suc n) far = ap (λ ys. x ∷ ys) (take_far xs n (omega arith))
+
+made_all : {X : Type 0} (f : X → NTy) (xs : List X) (n : ℕ) (ts : List NTy) → ts ≡ take n (map f xs) → length xs ≤ n → ts ≡ map f xs
+made_all f xs n ts e far = e ∙ take_far (map f xs) n (omega (arith, length-map xs f))
+
+-- ---- constructors
+
 pub constructor_none : (ns : List Node) (d : DeclaredTypes) (i : ℕ) → AreRead ns d → None ≡ slice_get d.constructor_types i → slice_get (constructors_in d.declared.now) i ≡ None
 unfolding constructor_types
-constructor_none ns d i r e =
-    no_type (own_constructor_type (module_word_of d.declared.now)) (constructors_in d.declared.now) i
-    (ap (option_map (λ (id : TypeId). shown_at ns [] id.0)) e ∙ sym (shown_all-get ns [] d.constructor_types i) ∙ ap (λ ts. slice_get ts i) r.constructors)
+constructor_none ns d i r e = made_none (own_constructor_type (module_word_of d.declared.now)) (constructors_in d.declared.now) ns d.constructor_types i r.constructors e
 
 pub constructor_valid : (ns : List Node) (ks : List Kind) (d : DeclaredTypes) (i : ℕ) (id : TypeId) → AreRead ns d → slice_get d.constructor_types i ≡ Some id → IsTypeAt ns ks id.0
 constructor_valid ns ks d i id r e = IsTypeAt-closed ns ks id.0 (valid_at ns d.constructor_types i id e r.constructors_in)
 
--- a constructor is one of the module itself
-found_in : (m : Word) (ds : List NDecl) (v w : Word) (k : Constructor) → con_decl (if bytes_eq m v then ds else []) w ≡ Some k → m ≡ v
-found_in m ds v w k e = by (bytes_eq m v) refl e
+-- what is found is the module's own
+found_in : {X : Type 0} (find : List NDecl → Option X) (m : Word) (ds : List NDecl) (v : Word) (x : X) → find [] ≡ None → find (if bytes_eq m v then ds else []) ≡ Some x → m ≡ v
+found_in find m ds v x none e = by (bytes_eq m v) refl e
   where
-    by : (b : Bool) → bytes_eq m v ≡ b → con_decl (if b then ds else []) w ≡ Some k → m ≡ v
+    by : (b : Bool) → bytes_eq m v ≡ b → find (if b then ds else []) ≡ Some x → m ≡ v
     by true same e = bytes_eq_eq m v same
     by false same e = cc
 
@@ -99,7 +130,7 @@ own_module d n k e = by n.module e
   where
     by : (o : Option Word) → constructor (modules_of d) (record { «module» = o; text = n.text }) ≡ Some k → o ≡ Some (module_word_of d)
     by None e = cc
-    by (Some v) e = ap Some (sym (found_in d.module.now.name (ndecls_of d.module.now.decls) v n.text k e))
+    by (Some v) e = ap Some (sym (found_in (λ ds. con_decl ds n.text) d.module.now.name (ndecls_of d.module.now.decls) v k refl e))
 
 -- of its name, only the module counts
 alike : (m n : Name) (k : Constructor) → m.module ≡ n.module → constructor_type m k ≡ constructor_type n k
@@ -110,13 +141,8 @@ pub constructor_shown : (ns : List Node) (ks : List Kind) (d : DeclaredTypes) (i
 unfolding constructor_types
 constructor_shown ns ks d i id n k r at here named =
     let m = module_word_of d.declared.now in
-    let own = own_constructor_type m in
-    let shown : Some (shown_at ns ks id.0) ≡ Some (own k) =
-    type_shown ns ks d.constructor_types (constructor_types d.declared.now) i (Some id) (sym at) r.constructors_in r.constructors ∙ slice_get-map own (constructors_in d.declared.now) i ∙ ap (option_map own) here in
-    let there : n.module ≡ Some m = own_module d.declared.now n k (sym named ∙ here) in
-    let same : own k ≡ constructor_type n k = alike (name_in m k.data_word) n k (sym there) in
-    let apart : shown_at ns ks id.0 ≡ own k = cc in
-    apart ∙ same
+    made_shown (own_constructor_type m) (constructors_in d.declared.now) ns ks d.constructor_types i id k r.constructors_in r.constructors at here
+    ∙ alike (name_in m k.data_word) n k (sym (own_module d.declared.now n k (sym named ∙ here)))
 
 -- one type more, where there was memory for it
 pub constructor_pushed : {T E : Type 0} (r : Result T E) (old new : List Node) (d : Declarations) (i : ℕ) (ids pushed : List TypeId) (id : TypeId) (k : Constructor) (word : Word) → word ≡ module_word_of d → Extends old new → AreTypesAt old [] ids
@@ -124,18 +150,73 @@ pub constructor_pushed : {T E : Type 0} (r : Result T E) (old new : List Node) (
 unfolding constructor_types
 constructor_pushed (Err x) old new d i ids pushed id k word same more ts so_far at shown e = tt
 constructor_pushed (Ok x) old new d i ids pushed id k word same more ts so_far at shown e =
-    let own = own_constructor_type (module_word_of d) in
-    let there : Some (own k) ≡ slice_get (map own (constructors_in d)) i = ap (option_map own) at ∙ sym (slice_get-map own (constructors_in d) i) in
-    shown_all-push old new [] ids pushed id (own k) more ts (shown ∙ ap (λ w. own_constructor_type w k) same) e ∙ ap (λ us. us ++ own k ∷ []) so_far ∙ sym (take_said (map own (constructors_in d)) i (own k) there)
-
-take_far : {X : Type 0} (xs : List X) (n : ℕ) → length xs ≤ n → take n xs ≡ xs
-take_far [] zero far = refl
-take_far [] (suc n) far = refl
-take_far (x ∷ xs) zero far = absurd (omega arith)
-take_far (x ∷ xs) (suc n) far = ap (λ ys. x ∷ ys) (take_far xs n (omega arith))
+    made_pushed (own_constructor_type (module_word_of d)) (constructors_in d) old new ids pushed id i k more ts so_far at (shown ∙ ap (λ w. own_constructor_type w k) same) e
 
 pub constructors_all : (d : Declarations) (n : ℕ) (ts : List NTy) → ts ≡ take n (constructor_types d) → length (constructors_in d) ≤ n → ts ≡ constructor_types d
 unfolding constructor_types
-constructors_all d n ts e far =
-    let own = own_constructor_type (module_word_of d) in
-    e ∙ take_far (map own (constructors_in d)) n (omega (arith, length-map (constructors_in d) own))
+constructors_all d n ts e far = made_all (own_constructor_type (module_word_of d)) (constructors_in d) n ts e far
+
+-- ---- axioms
+
+abbrev left_of : Declarations → NDecl → NTy
+left_of d x = left_side (axiom_of (Some (module_word_of d)) x)
+
+abbrev right_of : Declarations → NDecl → NTy
+right_of d x = right_side (axiom_of (Some (module_word_of d)) x)
+
+pub left_none : (ns : List Node) (d : DeclaredTypes) (i : ℕ) → AreRead ns d → None ≡ slice_get d.axiom_lefts i → slice_get (axioms_in d.declared.now) i ≡ None
+unfolding axiom_lefts
+left_none ns d i r e = made_none (left_of d.declared.now) (axioms_in d.declared.now) ns d.axiom_lefts i r.lefts e
+
+pub right_none : (ns : List Node) (d : DeclaredTypes) (i : ℕ) → AreRead ns d → None ≡ slice_get d.axiom_rights i → slice_get (axioms_in d.declared.now) i ≡ None
+unfolding axiom_rights
+right_none ns d i r e = made_none (right_of d.declared.now) (axioms_in d.declared.now) ns d.axiom_rights i r.rights e
+
+pub axiom_valid : (ns : List Node) (ks : List Kind) (d : DeclaredTypes) (i : ℕ) (k : TypedAxiom) → AreRead ns d → slice_get d.axiom_lefts i ≡ Some k.left → slice_get d.axiom_rights i ≡ Some k.right → AreSidesAt ns ks k
+axiom_valid ns ks d i k r left right = record {
+  left = IsTypeAt-closed ns ks k.left.0 (valid_at ns d.axiom_lefts i k.left left r.lefts_in);
+  right = IsTypeAt-closed ns ks k.right.0 (valid_at ns d.axiom_rights i k.right right r.rights_in);
+}
+
+own_axiom : (d : Declarations) (n : Name) (a : Axiom) → axiom_named (modules_of d) n ≡ Some a → n.module ≡ Some (module_word_of d)
+unfolding modules_of
+own_axiom d n a e = by n.module e
+  where
+    by : (o : Option Word) → axiom_named (modules_of d) (record { «module» = o; text = n.text }) ≡ Some a → o ≡ Some (module_word_of d)
+    by None e = cc
+    by (Some v) e = ap Some (sym (found_in (λ ds. axiom_decl (Some v) ds n.text) d.module.now.name (ndecls_of d.module.now.decls) v a refl e))
+
+pub axiom_shown : (ns : List Node) (ks : List Kind) (d : DeclaredTypes) (i : ℕ) (n : Name) (x : NDecl) (k : TypedAxiom) (a : Axiom) → AreRead ns d → slice_get d.axiom_lefts i ≡ Some k.left → slice_get d.axiom_rights i ≡ Some k.right
+    → slice_get (axioms_in d.declared.now) i ≡ Some x → option_and_then (axiom_of n.module) (slice_get (axioms_in d.declared.now) i) ≡ axiom_named (modules_of d.declared.now) n → axiom_of n.module x ≡ Some a
+    → ShowSides ns ks k a
+unfolding axiom_lefts axiom_rights
+axiom_shown ns ks d i n x k a r left right here named is =
+    let there : n.module ≡ Some (module_word_of d.declared.now) = own_axiom d.declared.now n a (sym named ∙ ap (option_and_then (axiom_of n.module)) here ∙ is) in
+    let own : axiom_of (Some (module_word_of d.declared.now)) x ≡ Some a = ap (λ o. axiom_of o x) (sym there) ∙ is in
+    record {
+      left = made_shown (left_of d.declared.now) (axioms_in d.declared.now) ns ks d.axiom_lefts i k.left x r.lefts_in r.lefts left here ∙ ap left_side own;
+      right = made_shown (right_of d.declared.now) (axioms_in d.declared.now) ns ks d.axiom_rights i k.right x r.rights_in r.rights right here ∙ ap right_side own;
+    }
+
+-- a side more
+pub left_pushed : (old new : List Node) (d : Declarations) (ids pushed : List TypeId) (id : TypeId) (i : ℕ) (x : NDecl) (word : Word) → word ≡ module_word_of d → Extends old new → AreTypesAt old [] ids
+    → shown_all_at old [] ids ≡ take i (axiom_lefts d) → Some x ≡ slice_get (axioms_in d) i → shown_at new [] id.0 ≡ left_side (axiom_of (Some word) x) → pushed ≡ ids ++ id ∷ []
+    → shown_all_at new [] pushed ≡ take (i + 1) (axiom_lefts d)
+unfolding axiom_lefts
+left_pushed old new d ids pushed id i x word same more ts so_far at shown e =
+    made_pushed (left_of d) (axioms_in d) old new ids pushed id i x more ts so_far at (shown ∙ ap (λ w. left_side (axiom_of (Some w) x)) same) e
+
+pub right_pushed : (old new : List Node) (d : Declarations) (ids pushed : List TypeId) (id : TypeId) (i : ℕ) (x : NDecl) (word : Word) → word ≡ module_word_of d → Extends old new → AreTypesAt old [] ids
+    → shown_all_at old [] ids ≡ take i (axiom_rights d) → Some x ≡ slice_get (axioms_in d) i → shown_at new [] id.0 ≡ right_side (axiom_of (Some word) x) → pushed ≡ ids ++ id ∷ []
+    → shown_all_at new [] pushed ≡ take (i + 1) (axiom_rights d)
+unfolding axiom_rights
+right_pushed old new d ids pushed id i x word same more ts so_far at shown e =
+    made_pushed (right_of d) (axioms_in d) old new ids pushed id i x more ts so_far at (shown ∙ ap (λ w. right_side (axiom_of (Some w) x)) same) e
+
+pub lefts_all : (d : Declarations) (n : ℕ) (ts : List NTy) → ts ≡ take n (axiom_lefts d) → length (axioms_in d) ≤ n → ts ≡ axiom_lefts d
+unfolding axiom_lefts
+lefts_all d n ts e far = made_all (left_of d) (axioms_in d) n ts e far
+
+pub rights_all : (d : Declarations) (n : ℕ) (ts : List NTy) → ts ≡ take n (axiom_rights d) → length (axioms_in d) ≤ n → ts ≡ axiom_rights d
+unfolding axiom_rights
+rights_all d n ts e far = made_all (right_of d) (axioms_in d) n ts e far

@@ -4,12 +4,13 @@ use Rattle.std.proofs.lemmas.List.{length-map, map-append, reverse-append, take_
 use Rattle.fc_syntax.specs.Tree.{Kind, Word}
 use Rattle.fc_syntax.specs.View.{kind_of}
 use Rattle.fc_syntax.specs.declared.module.Param.{Param}
+use Rattle.fc_syntax.specs.declared.module.Plain.{Plain}
 use Rattle.fc_syntax.specs.declared.ty.Ty.{Ty}
 use Rattle.fc_model.proofs.Lists.{drop_item}
 use Rattle.fc_model.specs.Calling.{applied_to_variables, over_binders, type_count}
 use Rattle.fc_model.specs.Kinding.{param_kinds}
-use Rattle.fc_model.specs.Nameless.{NTy, NTCon, NTForall, NBinder, NBType, NBValue}
-use Rattle.fc_model.specs.NamelessView.{nparams_of, ntys_of}
+use Rattle.fc_model.specs.Nameless.{NTy, NTCon, NTForall, NParam, NParamOf, NBinder, NBType, NBValue}
+use Rattle.fc_model.specs.NamelessView.{nparams_of, nplains_of, ntys_of}
 use Rattle.fc_types.specs.KindViews.{behind_group, own_kinds}
 use Rattle.fc_types.specs.declared.kind_scope.LocalKind.{LocalKind}
 use Rattle.fc_type_scope.proofs.BinderLists.{length-binder_kinds}
@@ -31,7 +32,24 @@ params_more ks pushed k ps i p whole so_far low is e same =
     so_far ∙ ap (λ xs. own_kinds ks ++ param_kinds (nparams_of xs)) (drop_item ps i p low is) ∙ ap (λ x. own_kinds ks ++ (x ∷ rest)) (sym same)
     ∙ sym (ap (λ xs. xs ++ rest) (own_kinds-push ks pushed k e) ∙ append_assoc (own_kinds ks) (kind_of k.kind.now ∷ []) rest)
 
+kinds_length : (ps : List NParam) → length (param_kinds ps) ≡ length ps
+kinds_length [] = refl
+kinds_length (NParamOf k r ∷ ps) = ap suc (kinds_length ps)
+
+-- as many kinds as parameters
+pub kinds_count : (ls : List LocalKind) (ps : List NParam) → own_kinds ls ≡ param_kinds ps → length ls ≡ length ps
+kinds_count ls ps e = sym (length-map ls (λ (x : LocalKind). kind_of x.kind.now)) ∙ ap length e ∙ kinds_length ps
+
 pub ruleset param_rules = (params_more)
+
+pub plains_more : (ks pushed : List LocalKind) (k : LocalKind) (ps : List Plain) (i : ℕ) (p : Plain) (whole : List Kind) → whole ≡ own_kinds ks ++ nplains_of (drop i ps) → i < length ps → p ≡ get_or ps i p
+    → pushed ≡ ks ++ k ∷ [] → kind_of k.kind.now ≡ kind_of p.kind → whole ≡ own_kinds pushed ++ nplains_of (drop (i + 1) ps)
+plains_more ks pushed k ps i p whole so_far low is e same =
+    let rest = nplains_of (drop (i + 1) ps) in
+    so_far ∙ ap (λ xs. own_kinds ks ++ nplains_of xs) (drop_item ps i p low is) ∙ ap (λ x. own_kinds ks ++ (x ∷ rest)) (sym same)
+    ∙ sym (ap (λ xs. xs ++ rest) (own_kinds-push ks pushed k e) ∙ append_assoc (own_kinds ks) (kind_of k.kind.now ∷ []) rest)
+
+pub ruleset plain_rules = (plains_more)
 
 -- ---- `forall`s
 

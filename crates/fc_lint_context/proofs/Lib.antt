@@ -1,5 +1,6 @@
 pub mod Behind
 pub mod Closed
+pub mod Coerced
 pub mod Contexts
 pub mod Declared
 pub mod Foralls

@@ -2,10 +2,12 @@
 use Rattle.std.specs.Prelude.{List}
 use Rattle.fc_model.specs.Kinding.{Modules}
 use Rattle.fc_model.specs.Typing.{Context}
+use Rattle.fc_type_scope.specs.EndViews.{AreEndsAt, shown_all_ends_at}
 use Rattle.fc_type_scope.specs.Scopes.{AreTypesAt, scope_in, shown_all_at}
 use Rattle.fc_type_table.specs.TypeTables.{nodes_of}
 use Rattle.fc_type_table.specs.declared.node.Node.{Node}
 use Rattle.fc_type_table.specs.declared.table.TypeTable.{TypeTable}
+use Rattle.fc_lint_context.specs.CoercionViews.{proven_of}
 use Rattle.fc_lint_context.specs.DeclaredViews.{AreRead, modules_read}
 use Rattle.fc_lint_context.specs.JoinViews.{AreJoinsAt, points_of, shown_joins_at}
 use Rattle.fc_lint_context.specs.LocalViews.{numbers_of}
@@ -15,19 +17,22 @@ use Rattle.fc_lint_context.specs.declared.context.Context as code
 abbrev pub modules_of_context : code.Context → Modules
 modules_of_context c = modules_read c.declared.now
 
--- the numbers of the table show the types of what is declared, of the local variables and of the join points
+-- the numbers of the table show the types of what is declared, of what the coercion variables prove, of the local variables and of the
+-- join points
 pub record IsContextAt (ns : List Node) (c : code.Context) : Type 0 where
   pub declared : AreRead ns c.declared.now
+  pub coercions : AreEndsAt ns (scope_in c.scope) (proven_of c.coercions)
   pub locals : AreTypesAt ns (scope_in c.scope) (numbers_of c.locals)
   pub joins : AreJoinsAt ns (scope_in c.scope) (points_of c.joins)
 
 abbrev pub IsContext : TypeTable → code.Context → Type 0
 IsContext table c = IsContextAt (nodes_of table) c
 
--- the kinds of the type variables, the types of the variables of values and the join points
+-- the kinds of the type variables, what the coercion variables prove, the types of the variables of values and the join points
 unfoldable pub context_at : List Node → code.Context → Context
 context_at ns c = record {
   kinds = scope_in c.scope;
+  coercions = shown_all_ends_at ns (scope_in c.scope) (proven_of c.coercions);
   values = shown_all_at ns (scope_in c.scope) (numbers_of c.locals);
   joins = shown_joins_at ns (scope_in c.scope) (points_of c.joins);
 }

@@ -1,16 +1,20 @@
 -- What the numbers of the types of what a module declares mean.
-use Rattle.std.specs.Prelude.{◌≡◌, List, [], map, Some}
-use Rattle.fc_model.specs.Calling.{Constructor, constructor_type}
+use Rattle.std.specs.Prelude.{◌≡◌, List, [], map, Option, Some, None}
+use Rattle.fc_model.specs.Calling.{Constructor, constructor_type, over_binders}
+use Rattle.fc_model.specs.Coercing.{Axiom}
 use Rattle.fc_model.specs.Kinding.{Modules}
-use Rattle.fc_model.specs.Nameless.{NTy}
-use Rattle.fc_syntax.specs.Tree.{Word}
+use Rattle.fc_model.specs.Nameless.{NBType, NTInt, NTy}
+use Rattle.fc_syntax.specs.Tree.{Kind, Word}
 use Rattle.fc_syntax.specs.declared.ty.Name.{Name}
 use Rattle.fc_type_scope.specs.Scopes.{AreTypesAt, shown_all_at}
+use Rattle.fc_type_table.specs.Scopes.{IsTypeAt, shown_at}
 use Rattle.fc_type_table.specs.declared.node.Node.{Node}
-use Rattle.fc_types.specs.Listed.{constructors_in, definition_types}
+use Rattle.fc_types.specs.Listed.{axioms_in, constructors_in, definition_types}
+use Rattle.fc_types.specs.TableViews.{axiom_of}
 use Rattle.fc_types.specs.ModuleViews.{modules_of, module_word_of}
 use Rattle.fc_types.specs.declared.declarations.Declarations.{Declarations}
 use Rattle.fc_lint_context.specs.declared.declared_types.DeclaredTypes.{DeclaredTypes}
+use Rattle.fc_lint_context.specs.declared.declared_types.TypedAxiom.{TypedAxiom}
 
 -- what is declared
 abbrev pub modules_read : DeclaredTypes → Modules
@@ -28,9 +32,41 @@ own_constructor_type m k = constructor_type (name_in m k.data_word) k
 unfoldable pub constructor_types : Declarations → List NTy
 constructor_types d = map (own_constructor_type (module_word_of d)) (constructors_in d)
 
--- the numbers of the types of definitions and of constructors are right in the table, with no type variable in scope
+-- a side of an axiom as a `forall` over the axiom's parameters
+abbrev pub over_kinds : List Kind → NTy → NTy
+over_kinds ks t = over_binders (map NBType ks) t
+
+-- the sides of the axiom of a declaration; a declaration that has none counts as one of `Int#`
+abbrev pub left_side : Option Axiom → NTy
+left_side (Some a) = over_kinds a.params a.ends.left
+left_side None = NTInt
+
+abbrev pub right_side : Option Axiom → NTy
+right_side (Some a) = over_kinds a.params a.ends.right
+right_side None = NTInt
+
+unfoldable pub axiom_lefts : Declarations → List NTy
+axiom_lefts d = map (λ x. left_side (axiom_of (Some (module_word_of d)) x)) (axioms_in d)
+
+unfoldable pub axiom_rights : Declarations → List NTy
+axiom_rights d = map (λ x. right_side (axiom_of (Some (module_word_of d)) x)) (axioms_in d)
+
+-- the sides of an axiom are types, and show what it relates
+pub record AreSidesAt (ns : List Node) (ks : List Kind) (k : TypedAxiom) : Type 0 where
+  pub left : IsTypeAt ns ks k.left.0
+  pub right : IsTypeAt ns ks k.right.0
+
+pub record ShowSides (ns : List Node) (ks : List Kind) (k : TypedAxiom) (a : Axiom) : Type 0 where
+  pub left : shown_at ns ks k.left.0 ≡ over_kinds a.params a.ends.left
+  pub right : shown_at ns ks k.right.0 ≡ over_kinds a.params a.ends.right
+
+-- the numbers of the types of definitions, of constructors and of the sides of axioms are right in the table, with no type variable in scope
 pub record AreRead (ns : List Node) (d : DeclaredTypes) : Type 0 where
   pub definitions_in : AreTypesAt ns [] d.definition_types
   pub definitions : shown_all_at ns [] d.definition_types ≡ definition_types d.declared.now
   pub constructors_in : AreTypesAt ns [] d.constructor_types
   pub constructors : shown_all_at ns [] d.constructor_types ≡ constructor_types d.declared.now
+  pub lefts_in : AreTypesAt ns [] d.axiom_lefts
+  pub lefts : shown_all_at ns [] d.axiom_lefts ≡ axiom_lefts d.declared.now
+  pub rights_in : AreTypesAt ns [] d.axiom_rights
+  pub rights : shown_all_at ns [] d.axiom_rights ≡ axiom_rights d.declared.now

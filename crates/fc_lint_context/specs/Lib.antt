@@ -1,3 +1,4 @@
+pub mod CoercionViews
 pub mod ContextViews
 pub mod DeclaredViews
 pub mod JoinViews

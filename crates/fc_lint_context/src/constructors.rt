@@ -18,9 +18,9 @@ use fc_type_table::{TypeId, TypeTable};
 use fc_types::{DeclaredCon, Kinds, LocalKind};
 use std::alloc::Global;
 
-/// The kinds of parameters, in their order.
+/// The kinds of parameters, in their order. Fails only where memory runs out.
 #[tactic(auto, using(crate::proofs::Foralls::param_rules))]
-fn param_kinds<'a>(alloc: Global, params: &'a [Param]) -> Result<Seq<LocalKind<'a>>, Memory>
+pub fn param_kinds<'a>(alloc: Global, params: &'a [Param]) -> Result<Seq<LocalKind<'a>>, Memory>
     ensures { IfOk result (λ kinds. own_kinds kinds ≡ words.param_kinds (nparams_of params.now)) }
 {
     let mut kinds = Seq::new(alloc);
@@ -56,7 +56,7 @@ fn applied_to_variable<'a>(
 }
 
 /// A type applied to this many variables, the innermost of which stands so far out.
-fn applied_to_params<'a>(
+pub(crate) fn applied_to_params<'a>(
     scope: &TypeScope,
     head: TypeId,
     count: usize,
@@ -175,7 +175,7 @@ fn forall_behind<'a>(
 }
 
 /// The `forall`s over variables of these kinds, the last one the innermost.
-fn over_params<'a>(
+pub(crate) fn over_params<'a>(
     alloc: Global,
     kinds: &[LocalKind],
     body: TypeId,

@@ -1,30 +1,35 @@
 //! What is in scope where an expression is judged.
-ghost use Rattle.std.specs.Prelude.{◌≡◌, [], ◌++◌, List, reverse, IfOk, IfSome};
-ghost use Rattle.std.specs.Option.{option_map};
+ghost use Rattle.std.specs.Prelude.{◌≡◌, [], ◌∷◌, ◌++◌, List, reverse, IfOk, IfSome, Some};
+ghost use Rattle.std.specs.Option.{option_and_then, option_map};
+ghost use Rattle.fc_syntax.specs.Tree as trees;
 ghost use Rattle.fc_model.specs.Calling as calls;
 ghost use Rattle.fc_model.specs.Calling.{constructor};
+ghost use Rattle.fc_model.specs.Coercing.{Axiom, axiom_named};
 ghost use Rattle.fc_model.specs.Faulting.{at_distance};
+ghost use Rattle.fc_model.specs.NamelessView.{ndecl_of};
 ghost use Rattle.fc_model.specs.Nameless as pure;
 ghost use Rattle.fc_model.specs.Says.{Says};
 ghost use Rattle.fc_model.specs.Typing as words;
 ghost use Rattle.fc_model.specs.Typing.{answered, value_type};
+ghost use Rattle.fc_type_scope.specs.EndViews.{IsEndsAt, shown_ends_at};
 ghost use Rattle.fc_type_scope.specs.Behind.{IsEntered, kinds_past};
 ghost use Rattle.fc_type_scope.specs.Scopes.{AreTypesAt, scope_in, shown_all_at};
 ghost use Rattle.fc_type_table.specs.Scopes.{IsTypeAt, shown_at};
 ghost use Rattle.fc_type_table.specs.declared.node.Node as nodes;
 ghost use Rattle.fc_types.specs.KindViews.{kinds_of, own_kinds};
-ghost use Rattle.fc_types.specs.TableViews.{constructor_of};
-ghost use Rattle.fc_lint_context.specs.DeclaredViews.{AreRead, modules_read};
+ghost use Rattle.fc_types.specs.TableViews.{axiom_of, constructor_of};
+ghost use Rattle.fc_lint_context.specs.DeclaredViews.{AreRead, AreSidesAt, ShowSides, modules_read};
 ghost use Rattle.fc_lint_context.specs.ContextViews.{IsContextAt, context_at, modules_of_context};
 ghost use Rattle.fc_lint_context.specs.JoinViews.{AreJoinsAt, IsJoinAt, join_points, points_of, shown_join, shown_joins_at};
 ghost use Rattle.fc_lint_context.specs.LocalViews.{bind_types, numbers_of};
 
-use crate::declared_types::{DeclaredTypes, TypedCon};
+use crate::coercions::{Coercions, ends_at};
+use crate::declared_types::{DeclaredTypes, TypedAxiom, TypedCon};
 use crate::joins::{JoinPoint, Joins, join_at};
 use crate::locals::{Locals, local_type};
 use fc_model::{Flawed, flaw_here};
 use fc_syntax::{FaultKind, Name};
-use fc_type_scope::{Entered, TypeScope};
+use fc_type_scope::{Ends, Entered, TypeScope};
 use fc_type_table::TypeId;
 use fc_types::Kinds;
 use std::alloc::Global;
@@ -36,6 +41,8 @@ pub struct Context<'x, 'd, 'a> {
     pub declared: &'x DeclaredTypes<'d, 'a>,
     /// The type variables in scope.
     pub scope: TypeScope<'x>,
+    /// What the local variables of coercions prove.
+    pub coercions: Coercions<'x>,
     /// The local variables of values, by their types.
     pub locals: Locals<'x>,
     /// The join points in tail reach.
@@ -54,6 +61,7 @@ impl<'x, 'd, 'a> Context<'x, 'd, 'a> {
         Context {
             declared,
             scope: TypeScope { kinds },
+            coercions: Coercions::End,
             locals: Locals::End,
             joins: Joins::End,
         }
@@ -65,6 +73,14 @@ impl<'x, 'd, 'a> Context<'x, 'd, 'a> {
         ensures says { (ns : List nodes.Node) → Says (λ id. shown_at ns (scope_in self.now.scope) id.0) result (at_distance (context_at ns self.now).values distance) }
     {
         local_type(alloc, &self.locals, distance)
+    }
+
+    /// What the coercion variable at a distance proves.
+    pub fn coercion(&self, alloc: Global, distance: u32) -> Result<Ends, Flawed>
+        ensures valid { (ns : List nodes.Node) → IsContextAt ns self.now → IfOk result (λ e. IsEndsAt ns (scope_in self.now.scope) e) }
+        ensures says { (ns : List nodes.Node) → Says (λ e. shown_ends_at ns (scope_in self.now.scope) e) result (at_distance (context_at ns self.now).coercions distance) }
+    {
+        ends_at(alloc, &self.coercions, distance)
     }
 
     /// The join point at a distance.
@@ -95,6 +111,15 @@ impl<'x, 'd, 'a> Context<'x, 'd, 'a> {
         self.declared.constructor_named(name)
     }
 
+    /// The axiom of a name, with its sides as `forall`s over its parameters.
+    pub fn axiom_named(&self, name: &Name) -> Option<TypedAxiom<'a>>
+        ensures view { (ns : List nodes.Node) → IsContextAt ns self.now → option_and_then (λ k. axiom_of name.now.module (ndecl_of k.decl.now)) result ≡ axiom_named (modules_of_context self.now) name.now }
+        ensures valid { (ns : List nodes.Node) → IsContextAt ns self.now → IfSome result (λ k. AreSidesAt ns (scope_in self.now.scope) k) }
+        ensures sides { (ns : List nodes.Node) → IsContextAt ns self.now → IfSome result (λ k. (a : Axiom) → axiom_of name.now.module (ndecl_of k.decl.now) ≡ Some a → ShowSides ns (scope_in self.now.scope) k a) }
+    {
+        self.declared.axiom_named(name)
+    }
+
     /// The same where no join point is in tail reach.
     pub fn without_joins(&self) -> Context<'x, 'd, 'a>
         ensures declared { modules_of_context result ≡ modules_of_context self.now }
@@ -105,6 +130,7 @@ impl<'x, 'd, 'a> Context<'x, 'd, 'a> {
         Context {
             declared: self.declared,
             scope: self.scope,
+            coercions: self.coercions,
             locals: self.locals,
             joins: Joins::End,
         }
@@ -120,6 +146,7 @@ impl<'x, 'd, 'a> Context<'x, 'd, 'a> {
         Context {
             declared: self.declared,
             scope: self.scope,
+            coercions: self.coercions,
             locals: Locals::Value(t, &self.locals),
             joins: self.joins,
         }
@@ -135,6 +162,7 @@ impl<'x, 'd, 'a> Context<'x, 'd, 'a> {
         Context {
             declared: self.declared,
             scope: self.scope,
+            coercions: self.coercions,
             locals: Locals::Group(ids, &self.locals),
             joins: self.joins,
         }
@@ -150,8 +178,25 @@ impl<'x, 'd, 'a> Context<'x, 'd, 'a> {
         Context {
             declared: self.declared,
             scope: self.scope,
+            coercions: self.coercions,
             locals: self.locals,
             joins: Joins::Group(points, &self.joins),
+        }
+    }
+
+    /// Behind a type variable, with the kinds of the type variables in scope there.
+    pub fn behind_type(&'x self, kinds: &'x Kinds<'x>) -> Context<'x, 'd, 'a>
+        ensures declared { modules_of_context result ≡ modules_of_context self.now }
+        ensures scope { scope_in result.scope ≡ kinds_of kinds.now }
+        ensures valid { (ns : List nodes.Node) (k : trees.Kind) → kinds_of kinds.now ≡ k ∷ scope_in self.now.scope → IsContextAt ns self.now → IsContextAt ns result }
+        ensures view { (ns : List nodes.Node) (k : trees.Kind) → kinds_of kinds.now ≡ k ∷ scope_in self.now.scope → IsContextAt ns self.now → context_at ns result ≡ words.with_type k (context_at ns self.now) }
+    {
+        Context {
+            declared: self.declared,
+            scope: TypeScope { kinds },
+            coercions: self.coercions,
+            locals: self.locals,
+            joins: self.joins,
         }
     }
 
@@ -170,6 +215,7 @@ impl<'x, 'd, 'a> Context<'x, 'd, 'a> {
         Context {
             declared: self.declared,
             scope: TypeScope { kinds },
+            coercions: Coercions::Group(entered.coercions.as_slice(), &self.coercions),
             locals: Locals::Group(entered.values.as_slice(), &self.locals),
             joins: self.joins,
         }

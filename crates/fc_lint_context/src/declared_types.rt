@@ -1,10 +1,11 @@
 //! The types of what a module declares, in a table.
-ghost use Rattle.std.specs.Prelude.{◌≡◌, ◌+◌, ◌<◌, [], ◌∷◌, ◌++◌, List, length, take, IfOk, IfSome, OnOk};
-ghost use Rattle.std.specs.Option.{option_map};
+ghost use Rattle.std.specs.Prelude.{◌≡◌, ◌+◌, ◌<◌, [], ◌∷◌, ◌++◌, List, length, take, Some, IfOk, IfSome, OnOk};
+ghost use Rattle.std.specs.Option.{option_and_then, option_map};
 ghost use Rattle.fc_syntax.specs.Tree as trees;
 ghost use Rattle.fc_model.specs.Calling as words;
 ghost use Rattle.fc_model.specs.Calling.{constructor};
-ghost use Rattle.fc_model.specs.NamelessView.{nty_of};
+ghost use Rattle.fc_model.specs.Coercing.{Axiom, axiom_named};
+ghost use Rattle.fc_model.specs.NamelessView.{ndecl_of, nty_of};
 ghost use Rattle.fc_model.specs.Typing.{value_type};
 ghost use Rattle.fc_type_scope.specs.Scopes.{AreTypesAt, shown_all_at};
 ghost use Rattle.fc_type_table.specs.Scopes.{IsTypeAt, shown_at};
@@ -12,19 +13,20 @@ ghost use Rattle.fc_type_table.specs.TypeTables.{Grows, nodes_of};
 ghost use Rattle.fc_type_table.specs.declared.node.Node as nodes;
 ghost use Rattle.fc_types.specs.Listed as listed;
 ghost use Rattle.fc_types.specs.ModuleViews.{modules_of};
-ghost use Rattle.fc_types.specs.TableViews.{constructor_of};
+ghost use Rattle.fc_types.specs.TableViews.{axiom_of, constructor_of};
 ghost use Rattle.fc_types.specs.Tables.{found};
 ghost use Rattle.fc_lint_context.specs.DeclaredViews as views;
-ghost use Rattle.fc_lint_context.specs.DeclaredViews.{AreRead, modules_read};
+ghost use Rattle.fc_lint_context.specs.DeclaredViews.{AreRead, AreSidesAt, ShowSides, modules_read};
 
+use crate::axioms::axiom_sides;
 use crate::constructors::constructor_type;
-use fc_syntax::{Memory, NTy, Name, Seq};
+use fc_syntax::{Memory, NDecl, NTy, Name, Seq};
 use fc_type_scope::TypeScope;
 use fc_type_table::{TypeId, TypeTable};
 use fc_types::{Declarations, DeclaredCon, Kinds};
 use std::alloc::Global;
 
-/// What a module declares, with the types of its definitions and of its constructors in a table. Each is put there once, however often
+/// What a module declares, with the types of its definitions, of its constructors and of the sides of its axioms in a table. Each is put there once, however often
 /// it is used.
 #[derive(Drop)]
 pub struct DeclaredTypes<'d, 'a> {
@@ -34,6 +36,21 @@ pub struct DeclaredTypes<'d, 'a> {
     definition_types: Seq<TypeId>,
     /// The types of the constructors as functions of their binders.
     constructor_types: Seq<TypeId>,
+    /// What the axioms go from, as `forall`s over their parameters.
+    axiom_lefts: Seq<TypeId>,
+    /// What they go to.
+    axiom_rights: Seq<TypeId>,
+}
+
+/// An axiom with its sides.
+#[derive(Clone, Copy)]
+pub struct TypedAxiom<'a> {
+    /// The newtype or the equation of a family that has it.
+    pub decl: &'a NDecl,
+    /// What it goes from, as a `forall` over its parameters.
+    pub left: TypeId,
+    /// What it goes to.
+    pub right: TypeId,
 }
 
 /// A constructor with its type.
@@ -142,6 +159,68 @@ fn constructor_types<'a>(
     Ok(ids)
 }
 
+/// The sides of axioms, in their order.
+#[derive(Drop)]
+struct AxiomSides {
+    /// What they go from.
+    lefts: Seq<TypeId>,
+    /// What they go to.
+    rights: Seq<TypeId>,
+}
+
+/// Puts the sides of the axiom of a number behind those of the axioms before it.
+#[tactic(auto, using(crate::proofs::Contexts::context_rules))]
+fn add_axiom<'a>(
+    alloc: Global,
+    sides: &mut AxiomSides,
+    number: usize,
+    declared: &Declarations<'a>,
+    types: &mut TypeTable<'a>,
+) -> Result<(), Memory>
+    requires within { number < length (listed.axioms_in declared.now) }
+    requires lefts_in { AreTypesAt (nodes_of types.old) [] sides.old.lefts }
+    requires rights_in { AreTypesAt (nodes_of types.old) [] sides.old.rights }
+    requires lefts { shown_all_at (nodes_of types.old) [] sides.old.lefts ≡ take number (views.axiom_lefts declared.now) }
+    requires rights { shown_all_at (nodes_of types.old) [] sides.old.rights ≡ take number (views.axiom_rights declared.now) }
+    ensures lefts_in { OnOk result (AreTypesAt (nodes_of types.new) [] sides.new.lefts) }
+    ensures rights_in { OnOk result (AreTypesAt (nodes_of types.new) [] sides.new.rights) }
+    ensures lefts { OnOk result (shown_all_at (nodes_of types.new) [] sides.new.lefts ≡ take (number + 1) (views.axiom_lefts declared.now)) }
+    ensures rights { OnOk result (shown_all_at (nodes_of types.new) [] sides.new.rights ≡ take (number + 1) (views.axiom_rights declared.now)) }
+    ensures grows { OnOk result (Grows types.old types.new) }
+{
+    match declared.axiom_at(number) {
+        None => Ok(()),
+        Some(decl) => {
+            let own = axiom_sides(alloc, decl, declared.module_word(), types)?;
+            sides.lefts.push(own.left)?;
+            sides.rights.push(own.right)
+        }
+    }
+}
+
+/// The sides of the axioms.
+#[tactic(auto, using(crate::proofs::Contexts::context_rules))]
+fn sides_of_axioms<'a>(
+    alloc: Global,
+    declared: &Declarations<'a>,
+    types: &mut TypeTable<'a>,
+) -> Result<AxiomSides, Memory>
+    ensures lefts_in { IfOk result (λ s. AreTypesAt (nodes_of types.new) [] s.lefts) }
+    ensures rights_in { IfOk result (λ s. AreTypesAt (nodes_of types.new) [] s.rights) }
+    ensures lefts { IfOk result (λ s. shown_all_at (nodes_of types.new) [] s.lefts ≡ views.axiom_lefts declared.now) }
+    ensures rights { IfOk result (λ s. shown_all_at (nodes_of types.new) [] s.rights ≡ views.axiom_rights declared.now) }
+    ensures grows { OnOk result (Grows types.old types.new) }
+{
+    let mut sides = AxiomSides {
+        lefts: Seq::new(alloc),
+        rights: Seq::new(alloc),
+    };
+    for number in 0..declared.axiom_count() {
+        add_axiom(alloc, &mut sides, number, declared, types)?;
+    }
+    Ok(sides)
+}
+
 impl<'d, 'a> DeclaredTypes<'d, 'a> {
     /// Puts the types of what a module declares into a table. A type that names a variable out of scope is answered as out of memory.
     pub fn new(
@@ -155,10 +234,13 @@ impl<'d, 'a> DeclaredTypes<'d, 'a> {
     {
         let definition_types = definition_types(alloc, declared, types)?;
         let constructor_types = constructor_types(alloc, declared, types)?;
+        let sides = sides_of_axioms(alloc, declared, types)?;
         Ok(DeclaredTypes {
             declared,
             definition_types,
             constructor_types,
+            axiom_lefts: sides.lefts,
+            axiom_rights: sides.rights,
         })
     }
 
@@ -183,5 +265,22 @@ impl<'d, 'a> DeclaredTypes<'d, 'a> {
         let con = self.declared.constructor_at(number)?;
         let ty = self.constructor_types.get(number)?;
         Some(TypedCon { con, ty: *ty })
+    }
+
+    /// The axiom of a name, with its sides in each table that has the types, whatever type variables are in scope.
+    pub fn axiom_named(&self, name: &Name) -> Option<TypedAxiom<'a>>
+        ensures view { (ns : List nodes.Node) → AreRead ns self.now → option_and_then (λ k. axiom_of name.now.module (ndecl_of k.decl.now)) result ≡ axiom_named (modules_read self.now) name.now }
+        ensures valid { (ns : List nodes.Node) (ks : List trees.Kind) → AreRead ns self.now → IfSome result (λ k. AreSidesAt ns ks k) }
+        ensures sides { (ns : List nodes.Node) (ks : List trees.Kind) → AreRead ns self.now → IfSome result (λ k. (a : Axiom) → axiom_of name.now.module (ndecl_of k.decl.now) ≡ Some a → ShowSides ns ks k a) }
+    {
+        let number = self.declared.axiom_number(name)?;
+        let decl = self.declared.axiom_at(number)?;
+        let left = self.axiom_lefts.get(number)?;
+        let right = self.axiom_rights.get(number)?;
+        Some(TypedAxiom {
+            decl,
+            left: *left,
+            right: *right,
+        })
     }
 }

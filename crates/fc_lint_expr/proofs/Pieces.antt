@@ -8,13 +8,14 @@ use Rattle.fc_syntax.specs.declared.fault.FaultKind.{FaultKind}
 use Rattle.fc_syntax.specs.declared.fault.FaultKind.TheVariants.{ConArity, JumpArity, JumpNotTail, NotAType, Unbound}
 use Rattle.fc_syntax.specs.declared.ty.Name.{Name}
 use Rattle.fc_syntax.specs.declared.ty.Ref.{Ref}
-use Rattle.fc_model.specs.Calling.{Constructor, Given, GivenTerm, GivenType, applied, called, constructor, constructor_binders, constructor_type}
+use Rattle.fc_model.specs.Calling.{Constructor, Given, GivenCoercion, GivenTerm, GivenType, applied, called, constructor, constructor_binders, constructor_type}
+use Rattle.fc_model.specs.Coercing.{Ends, ends_or_fault}
 use Rattle.fc_model.specs.Faulting.{F, At, and_then, at_distance, need, under}
 use Rattle.fc_model.specs.Kinding.{Modules, is_value_kind, kind_or_fault, same_type}
-use Rattle.fc_model.specs.Nameless.{NAType, NApp, NArg, NAlts, NCase, NCon, NExpr, NFail, NJump, NPrim, NTy}
+use Rattle.fc_model.specs.Nameless.{NACo, NAType, NApp, NArg, NAlts, NCase, NCast, NCo, NCon, NExpr, NFail, NJump, NPrim, NTy}
 use Rattle.fc_model.specs.NamelessView.{narg_of, nargs_of, nexpr_of, nexprs_of}
 use Rattle.fc_model.specs.Says.{Deepens, IsFlaw, Refuses, Says}
-use Rattle.fc_model.specs.Typing.{Context, JoinPoint, answered, argument_given, args_given, found_constructed, is_atom, jumped, operands_given, operated, type_or_fault, without_joins}
+use Rattle.fc_model.specs.Typing.{Context, JoinPoint, answered, argument_given, args_given, cast, found_constructed, is_atom, jumped, operands_given, operated, type_or_fault, without_joins}
 use Rattle.fc_model.specs.declared.flaw.Flawed.{Flawed}
 use Rattle.fc_model.specs.declared.flaw.Flawed.TheVariants.{Memory, Flaw as OfFlaw}
 use Rattle.fc_type_table.specs.TypeTables.{Grows, nodes_of}
@@ -144,6 +145,19 @@ head_then ms c later f a t grown h =
 
 pub scrutinee_then : (ms : Modules) (c later : Context) (e : NExpr) (xt rt : NTy) (alts : NAlts) (s : NTy) → later ≡ c → under 0 (type_or_fault ms (without_joins c) e) ≡ Ok s → type_or_fault ms c (NCase e xt rt alts) ≡ case_judged ms later s xt rt alts
 scrutinee_then ms c later e xt rt alts s grown h = ap (λ r. and_then {X = NTy} {Y = NTy} r (λ s. case_judged ms c s xt rt alts)) h ∙ ap (λ (x : Context). case_judged ms x s xt rt alts) (sym grown)
+
+pub cast_then : (ms : Modules) (c later : Context) (e : NExpr) (g : NCo) (ks : List Kind) (t : NTy) → later ≡ c → c.kinds ≡ ks → under 0 (type_or_fault ms (without_joins c) e) ≡ Ok t
+    → type_or_fault ms c (NCast e g) ≡ and_then {X = Ends} {Y = NTy} (under 1 (ends_or_fault ms ks later.coercions g)) (λ p. cast t p)
+cast_then ms c later e g ks t grown kinds h =
+    ap (λ r. and_then {X = NTy} {Y = NTy} r (λ t. and_then {X = Ends} {Y = NTy} (under 1 (ends_or_fault ms c.kinds c.coercions g)) (λ p. cast t p))) h
+    ∙ ap (λ (x : Context). and_then {X = Ends} {Y = NTy} (under 1 (ends_or_fault ms c.kinds x.coercions g)) (λ p. cast t p)) (sym grown)
+    ∙ ap (λ (xs : List Kind). and_then {X = Ends} {Y = NTy} (under 1 (ends_or_fault ms xs later.coercions g)) (λ p. cast t p)) kinds
+
+-- a coercion that is given
+pub coercion_judged : (ms : Modules) (c : Context) (a : NArg) (g : NCo) (ks : List Kind) → a ≡ NACo g → c.kinds ≡ ks
+    → argument_given ms c a ≡ and_then {X = Ends} {Y = Given} (ends_or_fault ms ks c.coercions g) (λ p. Ok (GivenCoercion p.role p.left p.right))
+coercion_judged ms c a g ks here kinds =
+    ap (argument_given ms c) here ∙ ap (λ (xs : List Kind). and_then {X = Ends} {Y = Given} (ends_or_fault ms xs c.coercions g) (λ p. Ok (GivenCoercion p.role p.left p.right))) kinds
 
 -- the parts are judged in a context that is this one with no join point in reach
 module _ (ms inner_ms : Modules) (c inner : Context) (same : inner_ms ≡ ms) (is : inner ≡ without_joins c) where

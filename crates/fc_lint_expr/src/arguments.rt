@@ -11,10 +11,11 @@ ghost use Rattle.fc_lint_expr.specs.Lists.{args_from, operand_given, operands_fr
 ghost use Rattle.fc_type_table.specs.TypeTables.{Grows, modules_in};
 
 use crate::expressions::type_of;
+use fc_coercion::ends_of;
 use fc_lint_calls::{Given, is_atom};
 use fc_lint_context::Context;
-use fc_model::{Flawed, deeper, flaw_here, next_part};
-use fc_syntax::{FaultKind, NArg, NExpr, Seq};
+use fc_model::{Flawed, deeper, next_part};
+use fc_syntax::{NArg, NExpr, Seq};
 use fc_type_table::TypeTable;
 use fc_types::kind;
 use std::alloc::Global;
@@ -44,7 +45,10 @@ pub(crate) fn argument<'x, 'd, 'a>(
             let ty = context.scope.read(t, types)?;
             Ok(Given::OfType(ty, of))
         }
-        NArg::OfCo(_) => Err(flaw_here(alloc, FaultKind::BadForm)),
+        NArg::OfCo(g) => {
+            let ends = ends_of(alloc, g, types, &*context)?;
+            Ok(Given::Coercion(ends))
+        }
     }
 }
 

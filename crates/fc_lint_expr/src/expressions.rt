@@ -3,12 +3,13 @@ ghost use Rattle.std.specs.Prelude.{◌≡◌, [], Ok, IfOk, OnOk};
 ghost use Rattle.fc_model.specs.Says.{Says};
 ghost use Rattle.fc_lint_context.specs.ContextViews.{IsContext, context_in, modules_of_context};
 ghost use Rattle.fc_type_scope.specs.Scopes.{scope_in};
+ghost use Rattle.fc_model.specs.Coercing.{ends_or_fault};
 ghost use Rattle.fc_model.specs.Faulting.{and_then, under};
 ghost use Rattle.fc_model.specs.Kinding.{same_type};
 ghost use Rattle.fc_model.specs.Calling as words;
 ghost use Rattle.fc_model.specs.Nameless.{NCon, NFail, NJump, NPrim};
-ghost use Rattle.fc_model.specs.NamelessView.{narg_of, nargs_of, nexpr_of, nexprs_of, nty_of};
-ghost use Rattle.fc_model.specs.Typing.{argument_given, no_context, type_or_fault, without_joins};
+ghost use Rattle.fc_model.specs.NamelessView.{narg_of, nargs_of, nco_of, nexpr_of, nexprs_of, nty_of};
+ghost use Rattle.fc_model.specs.Typing.{argument_given, cast, no_context, type_or_fault, without_joins};
 ghost use Rattle.fc_lint_context.specs.DeclaredViews.{AreRead, modules_read};
 ghost use Rattle.fc_type_table.specs.TypeTables.{Grows, IsType, modules_in, nodes_of, shown};
 
@@ -17,10 +18,11 @@ use crate::binding::type_of_lambda;
 use crate::cases::type_of_case;
 use crate::joins::type_of_join;
 use crate::lets::type_of_let;
-use fc_lint_calls::{applied, called, fail_type, operated};
+use fc_coercion::ends_of_part;
+use fc_lint_calls::{applied, called, cast_type, fail_type, operated};
 use fc_lint_context::{Context, DeclaredTypes};
 use fc_model::{Flawed, deeper, flaw_here};
-use fc_syntax::{FaultKind, NArg, NExpr, NTy, Name, PrimOp, Ref};
+use fc_syntax::{FaultKind, NArg, NCo, NExpr, NTy, Name, PrimOp, Ref};
 use fc_type_scope::TypeScope;
 use fc_type_table::{TypeId, TypeTable};
 use fc_types::{Kinds, kind_of_part};
@@ -180,6 +182,27 @@ fn type_of_jump<'x, 'd, 'a>(
     }
 }
 
+/// The type of a cast of what is of this type, by the coercion that is the part 1.
+#[tactic(auto, using(crate::proofs::Judging::judging_rules))]
+fn type_of_cast<'x, 'd, 'a>(
+    alloc: Global,
+    g: &'a NCo,
+    found: TypeId,
+    types: &mut TypeTable<'a>,
+    context: &'x Context<'x, 'd, 'a>,
+) -> Result<TypeId, Flawed>
+    requires context { IsContext types.old context.now }
+    requires modules { modules_in types.old ≡ modules_of_context context.now }
+    requires found_in { IsType types.old (scope_in context.now.scope) found }
+    ensures valid { IfOk result (λ id. IsType types.new (scope_in context.now.scope) id) }
+    ensures says { Says (λ id. shown types.new (scope_in context.now.scope) id) result (and_then (under 1 (ends_or_fault (modules_of_context context.now) (scope_in context.now.scope) (context_in types.old context.now).coercions (nco_of g.now))) (λ p. cast (shown types.old (scope_in context.now.scope) found) p)) }
+    ensures grows { OnOk result (Grows types.old types.new) }
+    ensures context { OnOk result (IsContext types.new context.now) }
+{
+    let ends = ends_of_part(alloc, g, types, &*context, 1)?;
+    cast_type(alloc, &ends, found, types, &context.scope)
+}
+
 /// The type of an error.
 #[tactic(auto, using(crate::proofs::Judging::judging_rules))]
 fn type_of_fail<'x, 'd, 'a>(
@@ -231,7 +254,10 @@ pub(crate) fn type_of<'x, 'd, 'a>(
             let alternatives = alternatives.as_slice();
             type_of_case(alloc, alternatives, of, answer, found, types, &*context)
         }
-        NExpr::Cast(_, _) => Err(flaw_here(alloc, FaultKind::BadForm)),
+        NExpr::Cast(e, g) => {
+            let found = type_of_first(alloc, e, types, &*context)?;
+            type_of_cast(alloc, g, found, types, &*context)
+        }
         NExpr::Con(name, args) => {
             type_of_constructor(alloc, name, args.as_slice(), types, &*context)
         }
@@ -258,14 +284,14 @@ pub(crate) fn type_of<'x, 'd, 'a>(
 
 /// The type of a closed expression among the declarations of its module, or the first premise that fails: the parts from left to right,
 /// before the premises of the piece itself, each with the part numbers to the piece. The faults are those of kinds in each type; `Unbound`;
-/// for an application `NotFunction`, `ArgType` and `UnliftedNotAtom`, and to a type `NotForall` and `KindMismatch`; for a lambda
-/// `NotAType`, and over a type `UnliftedVariable` before its body; for a bind `NotAType`, `LetType` and `UnliftedNotAtom`; for a
+/// for an application `NotFunction`, `ArgType` and `UnliftedNotAtom`, to a type `NotForall` and `KindMismatch`, and to a coercion
+/// `NotFunction` and `ArgType`; those of `ends_of` in each coercion; for a cast `RoleWrong` and `CastFrom`; for a lambda `NotAType`, over
+/// a coercion `KindsDiffer`, and over a type `UnliftedVariable` before its body; for a bind `NotAType`, `LetType` and `UnliftedNotAtom`; for a
 /// constructor `Unbound`, `ConArity`, `KindMismatch`, `ArgType` and `UnliftedNotAtom`; for a case `ScrutineeType` and `NotAType`; for the
 /// default of a case `AltOrder`, for a literal's alternative `LitAlt` and `AltOrder`, for a constructor's `AltConstructor`, `AltOrder` and
 /// `ConArity`, and for each of them then `EscapingType` and `AltType`; for a primitive `PrimArity`, `ArgType` and `UnliftedNotAtom`; for an
-/// error `NotAType`; for a join point `NotAType`, `EscapingType` and `LetType`; for a join `LetType` and `NotAType`; for a jump
-/// `JumpNotTail`, `JumpArity`, `KindMismatch`, `ArgType` and `UnliftedNotAtom`; in these orders. A form that no rule is for yet is
-/// `BadForm`: casts, and binders and arguments that are coercions.
+/// error `NotAType`; for a join point `NotAType` and `KindsDiffer`, `EscapingType` and `LetType`; for a join `LetType` and `NotAType`; for a jump
+/// `JumpNotTail`, `JumpArity`, `KindMismatch`, `ArgType` and `UnliftedNotAtom`; in these orders.
 #[tactic(auto, using(crate::proofs::Judging::judging_rules))]
 pub fn lint<'x, 'd, 'a>(
     alloc: Global,

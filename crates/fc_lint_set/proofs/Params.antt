@@ -9,7 +9,8 @@ use Rattle.fc_syntax.specs.Tree.{Kind}
 use Rattle.fc_syntax.specs.View.{param_of, params_of}
 use Rattle.fc_model.specs.Faulting.{and_then, need, under}
 use Rattle.fc_model.specs.Kinding.{Modules}
-use Rattle.fc_model.specs.Linting.{con_binder_judged, con_binders_judged, done, kinds_behind, roles_judged}
+use Rattle.fc_model.specs.Linting.{con_binder_judged, con_binders_judged, done, roles_judged}
+use Rattle.fc_model.specs.Typing.{kinds_behind}
 use Rattle.fc_model.specs.Nameless.{NBinder}
 use Rattle.fc_model.specs.NamelessView.{nparams_of}
 use Rattle.fc_model.specs.Worded.{bare_param}

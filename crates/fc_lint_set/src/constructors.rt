@@ -2,7 +2,8 @@
 ghost use Rattle.std.specs.Prelude.{◌≡◌, true, ◌&&◌, List, OnOk};
 ghost use Rattle.fc_syntax.specs.Tree.{Kind};
 ghost use Rattle.fc_model.specs.Faulting.{under};
-ghost use Rattle.fc_model.specs.Linting.{con_binder_judged, con_judged, cons_judged, fields_judged, kinds_behind};
+ghost use Rattle.fc_model.specs.Linting.{con_binder_judged, con_judged, cons_judged, fields_judged};
+ghost use Rattle.fc_model.specs.Typing.{kinds_behind};
 ghost use Rattle.fc_model.specs.NamelessView.{nbinder_of, ncon_of, ncons_of, ntys_of};
 ghost use Rattle.fc_model.specs.Says.{Says};
 ghost use Rattle.fc_types.specs.KindViews.{behind_group, kinds_of, own_kinds};

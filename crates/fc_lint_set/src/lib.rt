@@ -4,7 +4,6 @@
 mod constructors;
 mod definitions;
 mod exports;
-mod families;
 mod modules;
 mod type_declarations;
 mod variables;

@@ -14,12 +14,13 @@ ghost use Rattle.fc_model.specs.Says.{Says};
 ghost use Rattle.fc_types.specs.ModuleViews.{modules_of};
 
 use crate::constructors::lint_constructors;
-use crate::families::is_family_applied;
 use crate::variables::{kinds_of_params, kinds_of_plains, lint_roles, lint_variables};
 use fc_model::{Flawed, flaw_here, in_declaration, next_part, word_of};
 use fc_roles::{needs_of_constructors, needs_of_type};
 use fc_syntax::{FaultKind, Kind, NConDecl, NDecl, NTy, Param, Plain};
-use fc_types::{Declarations, Kinds, is_lifted, is_star, kind_of_part, same_kind};
+use fc_types::{
+    Declarations, Kinds, is_family_applied, is_lifted, is_star, kind_of_part, same_kind,
+};
 use std::alloc::Global;
 
 /// That the fields of a data type are of the kinds of values: `NotAType` where they are not.

@@ -1,6 +1,7 @@
 //! The first faults of modules, by number, declaration and place, by hand from the rules of the language. A place is written as it is
 //! told, the innermost part number first.
 mod cases;
+mod coercions;
 mod declarations;
 mod expressions;
 mod joins;

@@ -1,14 +1,15 @@
 -- Where the variables and join points of a context stand among the binders of the erased term.
 use Rattle.std.proofs.Common.{◌≡◌, ℕ, zero, suc, Bool, List, [], ◌∷◌, map, Some, Ok, refl, sym, ap, ◌∙◌}
 use Rattle.fc_syntax.specs.Tree.{Kind}
+use Rattle.fc_model.specs.Coercing.{Ends, ends}
 use Rattle.fc_model.specs.Erasure.{Scope, below_all, below_binds, below_join, below_joins, below_unnamed, below_value, binder_sorts, no_scope, sort_of_type}
 use Rattle.fc_model.specs.Faulting.{at_distance}
 use Rattle.fc_model.specs.Kinding.{Modules}
 use Rattle.fc_model.specs.Nameless.{NTy, NBinder, NBound, NJoined, NBinds, NoNBinds, MoreNBinds, NJoins, NoNJoins, MoreNJoins}
-use Rattle.fc_model.specs.Terms.{Sort, Lifted, enters, sort_at, upr}
-use Rattle.fc_model.specs.Typing.{Context, JoinPoint, join_point, no_context, shifted_join, with_binders, with_binds, with_join, with_joins, with_type, with_value, without_joins}
+use Rattle.fc_model.specs.Terms.{Sort, Lifted, Unlifted, enters, sort_at, upr}
+use Rattle.fc_model.specs.Typing.{Context, JoinPoint, join_point, no_context, shifted_join, with_binders, with_binds, with_coercion, with_join, with_joins, with_type, with_value, without_joins}
 use Rattle.fc_model.specs.Substituting.{shifted_type}
-use Rattle.fc_model.specs.TypingRules.{BindersAreKinded, no_binders, one_binder, value_binder, type_binder}
+use Rattle.fc_model.specs.TypingRules.{BindersAreKinded, no_binders, one_binder, value_binder, type_binder, coercion_binder}
 use Rattle.fc_model.proofs.Parts.{err_ok, ok_ok}
 use Rattle.fc_meaning.specs.Laws.{Agrees}
 use Rattle.fc_meaning.proofs.SortsOfTypes.{sort_of_renamed}
@@ -62,6 +63,11 @@ pub fits_unnamed : {c : Context} {s : Scope} {g : List Sort} → Fits c s g → 
 unfolding sort_at
 fits_unnamed fits o = record { values = fits.values; joins = fits.joins }
 
+-- below the binder of a coercion, which is unlifted, and which no variable of a value names
+pub fits_coercion : {c : Context} {s : Scope} {g : List Sort} → Fits c s g → (e : Ends) → Fits (with_coercion e c) (below_unnamed s) (Unlifted ∷ g)
+unfolding sort_at
+fits_coercion fits e = record { values = fits.values; joins = fits.joins }
+
 join_below : {c : Context} {s : Scope} {g : List Sort} → Fits c s g → (x : JoinPoint) (i : ℕ) (j : JoinPoint) → at_distance (x ∷ c.joins) i ≡ Ok j
     → sort_at (Lifted ∷ g) (upr s.joins i) ≡ Some Lifted
 unfolding sort_at upr
@@ -81,6 +87,7 @@ unfolding enters
 fits_binders no_binders fits = fits
 fits_binders (one_binder (value_binder {t = t} k h v) rest) fits = fits_binders rest (fits_value fits t)
 fits_binders (one_binder (type_binder {k = k} l) rest) fits = fits_binders rest (fits_type fits k)
+fits_binders (one_binder (coercion_binder {r = r} {t = t} {u = u} j k h i v) rest) fits = fits_binders rest (fits_coercion fits (ends r t u))
 
 abbrev pub bind_sorts : NBinds → List Sort
 bind_sorts NoNBinds = []

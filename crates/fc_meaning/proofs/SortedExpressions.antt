@@ -2,17 +2,19 @@
 -- that a jump needs nothing of its join point but that it has a binder.
 use Rattle.std.proofs.Common.{◌≡◌, ℕ, true, false, Bool, List, [], ◌∷◌, Some, refl, sym, ap, ◌∙◌, subst}
 use Rattle.fc_model.specs.Calling.{Given}
-use Rattle.fc_model.specs.Erasure.{Scope, applied, arg_sorts, below_all, below_binds, below_joins, below_unnamed, below_value, binder_sorts, erased, erased_alts, erased_args, erased_join_lets, erased_joins, erased_lets, erased_rights, lambdas, sort_of, sort_of_type}
+use Rattle.fc_model.specs.Coercing.{ends}
+use Rattle.fc_model.specs.Erasure.{Scope, applied, arg_sorts, below_all, below_binds, below_joins, below_unnamed, below_value, binder_sorts, coercion_token, erased, erased_alts, erased_args, erased_join_lets, erased_joins, erased_lets, erased_rights, lambdas, sort_of, sort_of_type}
 use Rattle.fc_model.specs.Kinding.{Modules, decls_at}
 use Rattle.fc_model.specs.LintingRules.{ModuleHolds}
 use Rattle.fc_model.specs.Nameless.{NTy, NTInt, NExpr, NArgs, NBinds, NJoins, NAlts, NModule}
 use Rattle.fc_model.specs.Terms.{Sort, Lifted, Unlifted, Term, Var, App, IsSorted, AreSorted, AltsAreSorted, IsAtom, HasSorts, enters, head_sorts, lifteds, sort_at}
 use Rattle.fc_model.specs.Typing.{Context, Before, is_atom}
-use Rattle.fc_model.specs.TypingRules.{AltsFit, no_alts, default_alt, literal_alt, con_alt, value_binder, type_binder}
-use Rattle.fc_model.specs.TypingRules.{HasType, typed_local, typed_declared, typed_literal, typed_application, typed_lambda, typed_let, typed_case, typed_con, typed_prim, typed_fail, typed_join, typed_jump}
-use Rattle.fc_model.specs.TypingRules.{given_term, given_type, ArgsAreGiven, no_args, one_arg, BindsHaveTypes, no_binds, one_bind, JoinsHaveType, no_joins, one_join}
+use Rattle.fc_model.specs.TypingRules.{AltsFit, no_alts, default_alt, literal_alt, con_alt, value_binder, type_binder, coercion_binder}
+use Rattle.fc_model.specs.TypingRules.{HasType, typed_local, typed_declared, typed_literal, typed_application, typed_lambda, typed_let, typed_case, typed_cast, typed_con, typed_prim, typed_fail, typed_join, typed_jump}
+use Rattle.fc_model.specs.TypingRules.{given_term, given_type, given_coercion, ArgsAreGiven, no_args, one_arg, BindsHaveTypes, no_binds, one_bind, JoinsHaveType, no_joins, one_join}
 use Rattle.fc_meaning.proofs.ArgSorts.{sort_is}
-use Rattle.fc_meaning.proofs.ScopesFit.{Fits, agrees, bind_sorts, fits_binders, fits_binds, fits_joins, fits_type, fits_unnamed, fits_value, fits_values, join_sorts}
+use Rattle.fc_meaning.proofs.PrimitiveRange.{zero_fits}
+use Rattle.fc_meaning.proofs.ScopesFit.{Fits, agrees, bind_sorts, fits_binders, fits_binds, fits_coercion, fits_joins, fits_type, fits_unnamed, fits_value, fits_values, join_sorts}
 use Rattle.fc_meaning.proofs.SortsOfTypes.{no_atom_is_lifted}
 use Rattle.fc_meaning.proofs.WrittenExpressions.{AreAltsWritten, AreArgsWritten, AreBindsWritten, AreJoinsWritten, IsWritten}
 
@@ -33,6 +35,7 @@ is_placed (typed_application t h f a takes) s g fits = tt
 is_placed (typed_lambda k e below) s g fits = tt
 is_placed (typed_let bs e) s g fits = tt
 is_placed (typed_case j k e t r alts v) s g fits = tt
+is_placed (typed_cast e p) s g fits = tt
 is_placed (typed_con k gs is args l takes) s g fits = tt
 is_placed (typed_prim a p b q) s g fits = tt
 is_placed (typed_fail k t v) s g fits = tt
@@ -77,9 +80,12 @@ module _ (m : NModule) (holds : ModuleHolds m) where
     expr_sorted (typed_application t h f (given_term a) takes) s g fits w =
         (expr_sorted f s g (fits_values fits) w.0, expr_sorted a s g (fits_values fits) w.1, is_placed a s g (fits_values fits))
     expr_sorted (typed_application t h f (given_type k) takes) s g fits w = expr_sorted f s g (fits_values fits) w.0
+    expr_sorted (typed_application t h f (given_coercion p) takes) s g fits w = (expr_sorted f s g (fits_values fits) w.0, zero_fits, tt)
     expr_sorted (typed_lambda (value_binder {t = t} k kind v) e below) s g fits w =
         expr_sorted e (below_value (sort_of_type t) s) (sort_of_type t ∷ g) (fits_value (fits_values fits) t) w
     expr_sorted (typed_lambda (type_binder {k = k} l) e below) s g fits w = expr_sorted e s g (fits_type (fits_values fits) k) w
+    expr_sorted (typed_lambda (coercion_binder {r = r} {t = t} {u = u} j k h i v) e below) s g fits w =
+        expr_sorted e (below_unnamed s) (Unlifted ∷ g) (fits_coercion (fits_values fits) (ends r t u)) w
     expr_sorted (typed_let {r = false} {bs = bs} {e = e} binds body) s g fits w =
         lets_sorted binds s g (fits_values fits) w.0 (erased (below_binds bs s) e) (expr_sorted body (below_binds bs s) (enters (bind_sorts bs) g) (fits_binds bs fits) w.1)
     expr_sorted (typed_let {r = true} {bs = bs} {e = e} binds body) s g fits w =
@@ -88,6 +94,7 @@ module _ (m : NModule) (holds : ModuleHolds m) where
         (rights_sorted binds (below_binds bs s) (enters (bind_sorts bs) g) (fits_values inner) w.0, expr_sorted body (below_binds bs s) (enters (bind_sorts bs) g) inner w.1)
     expr_sorted (typed_case {s = xt} j k e t r alts v) s g fits w =
         (expr_sorted e s g (fits_values fits) w.0, alts_sorted alts (below_value (sort_of_type xt) s) (sort_of_type xt ∷ g) (fits_value fits xt) w.1)
+    expr_sorted (typed_cast e p) s g fits w = expr_sorted e s g (fits_values fits) w
     expr_sorted (typed_con k gs is args l takes) s g fits w = args_sorted args s g (fits_values fits) w
     expr_sorted (typed_prim a p b q) s g fits w =
         let inner = fits_values fits in
@@ -108,6 +115,7 @@ module _ (m : NModule) (holds : ModuleHolds m) where
     args_sorted (one_arg (given_term a) rest) s g fits w =
         let others = args_sorted rest s g fits w.1 in ((expr_sorted a s g fits w.0, others.0), (is_placed a s g fits, others.1))
     args_sorted (one_arg (given_type k) rest) s g fits w = args_sorted rest s g fits w.1
+    args_sorted (one_arg (given_coercion p) rest) s g fits w = let others = args_sorted rest s g fits w.1 in ((zero_fits, others.0), (tt, others.1))
 
     -- a head applied to arguments
     applied_sorted : {c : Context} {args : NArgs} {gs : List Given} → ArgsAreGiven (decls_at (m ∷ [])) c args gs → (s : Scope) (g : List Sort) → Fits c s g → AreArgsWritten args
@@ -116,6 +124,7 @@ module _ (m : NModule) (holds : ModuleHolds m) where
     applied_sorted (one_arg (given_term {e = e} a) rest) s g fits w h sorted =
         applied_sorted rest s g fits w.1 (App (sort_of s e) h (erased s e)) (sorted, expr_sorted a s g fits w.0, is_placed a s g fits)
     applied_sorted (one_arg (given_type k) rest) s g fits w h sorted = applied_sorted rest s g fits w.1 h sorted
+    applied_sorted (one_arg (given_coercion p) rest) s g fits w h sorted = applied_sorted rest s g fits w.1 (App Unlifted h coercion_token) (sorted, zero_fits, tt)
 
     -- lets, one inside another, around a body
     lets_sorted : {c : Context} {bs : NBinds} → BindsHaveTypes (decls_at (m ∷ [])) c false bs → (s : Scope) (g : List Sort) → Fits c s g → AreBindsWritten bs

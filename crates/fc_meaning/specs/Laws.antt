@@ -1,10 +1,10 @@
 -- Laws of evaluation, of what terms show, and of erasure.
-use Rattle.std.specs.Prelude.{◌≡◌, ◌↔◌, ℕ, ℤ, Bool, true, List, [], ◌∷◌, map, Some, None, Ok}
+use Rattle.std.specs.Prelude.{◌≡◌, ◌↔◌, ℕ, ℤ, Bool, true, List, [], ◌∷◌, Some, None, Ok}
 use Rattle.fc_syntax.specs.declared.ty.Name.{Name}
 use Rattle.fc_syntax.specs.Tree.{Module}
 use Rattle.fc_model.specs.Faulting.{at_distance}
 use Rattle.fc_model.specs.Formed.{IsFormed}
-use Rattle.fc_model.specs.Erasure.{Scope, arg_sorts, sort_of, sort_of_type}
+use Rattle.fc_model.specs.Erasure.{Scope, arg_sorts, binder_sorts, sort_of, sort_of_type}
 use Rattle.fc_model.specs.Kinding.{decls_at}
 use Rattle.fc_model.specs.Linting.{Lints, done, lint_or_fault}
 use Rattle.fc_model.specs.Nameless.{NArgs, NCon, NExpr, NModule, NTy}
@@ -13,7 +13,7 @@ use Rattle.fc_model.specs.Programs.{Mentions, program_of}
 use Rattle.fc_model.specs.ResolutionRules.{Resolves}
 use Rattle.fc_model.specs.Stepping.{Program, Bare, Missing, LitKey, ConKey, LamKey, IsHead, Reaches, choose, default_of, next, wrap}
 use Rattle.fc_model.specs.Terms.{Sort, Lifted, Term, Lit, Var, Lam, Rec, Case, Con, Terms, Alts, IsSorted, push, pushes, sub}
-use Rattle.fc_model.specs.Calling.{Constructor, atom_fits, constructor}
+use Rattle.fc_model.specs.Calling.{Constructor, atom_fits, constructor, constructor_binders}
 use Rattle.fc_model.specs.Typing.{Context, is_atom}
 use Rattle.fc_model.specs.TypingRules.{HasType}
 
@@ -70,10 +70,10 @@ LintedIsSorted = (m : Module) (n : NModule) → IsFormed m → Resolves m n → 
 abbrev pub Agrees : Context → Scope → Type 0
 Agrees c s = (i : ℕ) (t : NTy) → at_distance c.values i ≡ Ok t → s.sorts i ≡ sort_of_type t
 
--- the sorts that are read off the arguments of a constructor are those of its fields' types
+-- the sorts that are read off the arguments of a constructor are those of its binders: its coercions and its fields
 abbrev pub SortsAreOfTypes : Type 0
 SortsAreOfTypes = (m : NModule) → lint_or_fault m ≡ Ok done → (c : Context) (s : Scope) → Agrees c s → (n : Name) (args : NArgs) (t : NTy)
-    → HasType (decls_at (m ∷ [])) c (NCon n args) t → (k : Constructor) → constructor (decls_at (m ∷ [])) n ≡ Some k → arg_sorts s args ≡ map sort_of_type k.fields
+    → HasType (decls_at (m ∷ [])) c (NCon n args) t → (k : Constructor) → constructor (decls_at (m ∷ [])) n ≡ Some k → arg_sorts s args ≡ binder_sorts (constructor_binders k)
 
 -- the sort that is read off what may stand at a place of its type, as the argument of an application, is that of the type
 abbrev pub ArgumentSortIsOfType : Type 0

@@ -59,8 +59,9 @@ pub fn steps_keep_sorts()
     ensures kept { StepsKeepSorts }
 {}
 
-/// The definitions of a formed module that lints are sorted when their types are gone. The sort that is read off what stands at a
-/// field is that of the field's type, and the sort that is read off the argument of an application is that of the argument's type.
+/// The definitions of a formed module that lints are sorted when their types are gone. The sorts that are read off the arguments of
+/// a constructor are those of its binders, coercions and fields, and the sort that is read off the argument of an application is
+/// that of the argument's type.
 pub fn what_lints_is_sorted()
     ensures sorted { LintedIsSorted }
     ensures sorts { SortsAreOfTypes }

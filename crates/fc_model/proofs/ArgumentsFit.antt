@@ -2,19 +2,23 @@
 use Rattle.std.proofs.Common.{◌≡◌, ℕ, zero, suc, Bool, true, false, not, ◌||◌, List, [], ◌∷◌, length, map, Ok, refl, sym, ap, ◌∙◌, subst, arith}
 use Rattle.fc_syntax.specs.declared.ty.Role.{Role}
 use Rattle.fc_syntax.specs.Tree.{Kind}
-use Rattle.fc_model.specs.Calling.{Given, GivenTerm, GivenType, Takes, takes_nothing, takes_term, takes_type, atom_fits, binders_to, is_int, over_binders, type_count}
+use Rattle.fc_model.specs.Calling.{Given, GivenTerm, GivenType, GivenCoercion, Takes, takes_nothing, takes_term, takes_type, takes_coercion, atom_fits, binders_to, is_int}
+use Rattle.fc_model.specs.Calling.{over_binders, type_count}
+use Rattle.fc_model.specs.Coercing.{Ends, ends, shifted_ends}
+use Rattle.fc_model.specs.CoercionLaws.{IsSaturated, substituted_ends}
 use Rattle.fc_model.specs.Faulting.{at_distance}
 use Rattle.fc_model.specs.Kinding.{Modules, HasKind, kind_variable, is_lifted}
-use Rattle.fc_model.specs.Nameless.{NTy, NTFun, NTForall, NExpr, NATerm, NAType, NArgs, NBinder, NBValue, NBType, NBCo}
-use Rattle.fc_model.specs.Replacing.{Replacement, replaced, type_before, unchanged, value_before, with_argument, with_arguments}
-use Rattle.fc_model.specs.Substituting.{instantiated, raised_type, shifted_type, substituted_type, type_for_innermost, types_below}
-use Rattle.fc_model.specs.Typing.{Context, JoinPoint, is_atom, kinds_behind, shifted_join, with_binders, with_type, with_value, without_joins}
-use Rattle.fc_model.specs.TypingLaws.{ArgumentsFit, Fits, IsExpressionOf, TypesAtArguments, substituted_join}
-use Rattle.fc_model.specs.TypingRules.{given_term, given_type, ArgsAreGiven, no_args, one_arg, BinderIsKinded, type_binder, BindersAreKinded, one_binder, HasType, typed_local}
+use Rattle.fc_model.specs.Nameless.{NTy, NTFun, NTForall, NTCoForall, NCo, NExpr, NATerm, NAType, NACo, NArgs, NBinder, NBValue, NBType, NBCo}
+use Rattle.fc_model.specs.Replacing.{Substitution, coercion_before, replaced, unchanged, value_before, with_argument, with_arguments}
+use Rattle.fc_model.specs.Substituting.{instantiated, raised_type, shifted_type, substituted_type, type_before, type_for_innermost, types_below}
+use Rattle.fc_model.specs.Typing.{Context, JoinPoint, is_atom, kinds_behind, shifted_join, with_binders, with_coercion, with_type, with_value, without_joins}
+use Rattle.fc_model.specs.TypingLaws.{ArgumentsFit, Fits, IsCoercionProving, IsExpressionOf, TypesAtArguments, substituted_join}
+use Rattle.fc_model.specs.TypingRules.{given_term, given_type, given_coercion, ArgsAreGiven, no_args, one_arg, BinderIsKinded, type_binder, BindersAreKinded, one_binder, HasType}
 use Rattle.fc_model.proofs.CallsKept.{raised_by_more, raised_by_nothing}
-use Rattle.fc_model.proofs.FitsKept.{mapped_inv}
+use Rattle.fc_model.proofs.EndsKept.{mapped_inv}
+use Rattle.fc_model.proofs.EndsKinded.{kinded_is_saturated}
 use Rattle.fc_model.proofs.Parts.{ok_ok}
-use Rattle.fc_model.proofs.ReplacedKept.{join_itself, lifted_is_not_int, replacement_keeps_types}
+use Rattle.fc_model.proofs.ReplacedKept.{coercion_itself, join_in_place, lifted_is_not_int, local_itself, replacement_keeps_types}
 use Rattle.fc_model.proofs.Substitutions.{equal_types, shifted_is_kept, substitutions_compose, types_for_renamed, variables_for_themselves}
 
 -- TYPES BEFORE OTHERS
@@ -28,7 +32,7 @@ innermost_before u s zero = refl
 innermost_before u s (suc i) = shifted_is_kept u (s i)
 
 -- a type for the innermost variable and others for the others, at once
-instantiated_before : (u : NTy) (s : ℕ → NTy) (t : NTy) → instantiated u (substituted_type (types_below s) t) ≡ substituted_type (type_before u s) t
+pub instantiated_before : (u : NTy) (s : ℕ → NTy) (t : NTy) → instantiated u (substituted_type (types_below s) t) ≡ substituted_type (type_before u s) t
 instantiated_before u s t = substitutions_compose (types_below s) (type_for_innermost u) t ∙ equal_types (innermost_before u s) t
 
 -- WHAT TAKES ARGUMENTS
@@ -39,14 +43,11 @@ nothing_taken takes_nothing = refl
 term_taken : {a b t u : NTy} {atom : Bool} {gs : List Given} → Takes (NTFun a b) (GivenTerm t atom ∷ gs) u → (t ≡ a) × (atom_fits a atom ≡ true) × Takes b gs u
 term_taken (takes_term fits rest) = (refl, fits, rest)
 
-no_type_taken : {X : Type 0} {a b t u : NTy} {k : Kind} {gs : List Given} → Takes (NTFun a b) (GivenType t k ∷ gs) u → X
-no_type_taken h = elim h [ ]
-
 type_taken : {b t u : NTy} {j k : Kind} {gs : List Given} → Takes (NTForall j b) (GivenType t k ∷ gs) u → (k ≡ j) × Takes (instantiated t b) gs u
 type_taken (takes_type rest) = (refl, rest)
 
-no_term_taken : {X : Type 0} {b t u : NTy} {j : Kind} {atom : Bool} {gs : List Given} → Takes (NTForall j b) (GivenTerm t atom ∷ gs) u → X
-no_term_taken h = elim h [ ]
+coercion_taken : {a b c t u v : NTy} {o q : Role} {gs : List Given} → Takes (NTCoForall o a b c) (GivenCoercion q t u ∷ gs) v → (ends q t u ≡ ends o a b) × Takes c gs v
+coercion_taken (takes_coercion rest) = (refl, rest)
 
 atom_at_int : (i a : Bool) → not i || a ≡ true → i ≡ true → a ≡ true
 atom_at_int true a h e = h
@@ -62,23 +63,27 @@ module _ (ms : Modules) (owes : Bool) where
   lifted_binder : {ks : List Kind} {k : Kind} → BinderIsKinded ms owes ks (NBType k) → is_lifted k ≡ true
   lifted_binder (type_binder l) = l
 
-  no_coercion : {X : Type 0} {ks : List Kind} {r : Role} {t u : NTy} → BinderIsKinded ms owes ks (NBCo r t u) → X
-  no_coercion h = elim h [ ]
-
   -- ONE ARGUMENT
 
-  term_fits : (c d : Context) (r : Replacement NExpr) → Fits ms c d r → (t : NTy) (e : NExpr) → HasType ms (without_joins d) e (substituted_type r.types t)
+  term_fits : (c d : Context) (r : Substitution) → Fits ms c d r → (t : NTy) (e : NExpr) → HasType ms (without_joins d) e (substituted_type r.types t)
       → atom_fits (substituted_type r.types t) (is_atom e) ≡ true → Fits ms (with_value t c) d (with_argument (NATerm e) r)
-  term_fits c d r f t e h fits = record { kinds = f.kinds; lifted = f.lifted; values = values; joins = f.joins }
+  term_fits c d r f t e h fits = record {
+    kinds = f.kinds;
+    lifted = f.lifted;
+    saturated = f.saturated;
+    coercions = f.coercions;
+    values = values;
+    joins = f.joins;
+  }
     where
       values : (i : ℕ) (u : NTy) → at_distance (t ∷ c.values) i ≡ Ok u → IsExpressionOf ms (without_joins d) (value_before e r.values i) (substituted_type r.types u)
       values zero u a =
           subst (λ x. IsExpressionOf ms (without_joins d) e (substituted_type r.types x)) (ok_ok a) (h, atom_at_int (is_int (substituted_type r.types t)) (is_atom e) fits)
       values (suc i) u a = f.values i u a
 
-  type_fits : (c d : Context) (r : Replacement NExpr) → Fits ms c d r → (k : Kind) (u : NTy) → HasKind ms d.kinds u k → is_lifted k ≡ true
+  type_fits : (c d : Context) (r : Substitution) → Fits ms c d r → (k : Kind) (u : NTy) → HasKind ms d.kinds u k → is_lifted k ≡ true
       → Fits ms (with_type k c) d (with_argument (NAType u) r)
-  type_fits c d r f k u h l = record { kinds = kinds; lifted = lifted; values = values; joins = joins }
+  type_fits c d r f k u h l = record { kinds = kinds; lifted = lifted; saturated = saturated; coercions = coercions; values = values; joins = joins }
     where
       kinds : (i : ℕ) (j : Kind) → at_distance (k ∷ c.kinds) i ≡ Ok j → HasKind ms d.kinds (type_before u r.types i) j
       kinds zero j a = subst (HasKind ms d.kinds u) (ok_ok a) h
@@ -87,6 +92,17 @@ module _ (ms : Modules) (owes : Bool) where
       lifted : (i : ℕ) → is_int (type_before u r.types i) ≡ false
       lifted zero = lifted_is_not_int ms d.kinds k u l h
       lifted (suc i) = f.lifted i
+
+      saturated : (i : ℕ) → IsSaturated ms (type_before u r.types i)
+      saturated zero = kinded_is_saturated ms d.kinds u k h
+      saturated (suc i) = f.saturated i
+
+      coercions : (i : ℕ) (e : Ends) → at_distance (map shifted_ends c.coercions) i ≡ Ok e → IsCoercionProving ms d (r.coercions i) (substituted_ends (type_before u r.types) e)
+      coercions i e a =
+          let p = mapped_inv shifted_ends c.coercions i e a in
+          let q = p.0 in
+          let past : substituted_ends (type_before u r.types) (shifted_ends q) ≡ substituted_ends r.types q = rw (type_past u r.types q.left, type_past u r.types q.right) refl in
+          subst (IsCoercionProving ms d (r.coercions i)) (sym past ∙ ap (substituted_ends (type_before u r.types)) p.2) (f.coercions i q p.1)
 
       values : (i : ℕ) (t : NTy) → at_distance (map shifted_type c.values) i ≡ Ok t → IsExpressionOf ms (without_joins d) (r.values i) (substituted_type (type_before u r.types) t)
       values i t a =
@@ -100,9 +116,24 @@ module _ (ms : Modules) (owes : Bool) where
           let past : substituted_join (type_before u r.types) (shifted_join q) ≡ substituted_join r.types q = rw (type_past u r.types q.type, type_past u r.types q.result) refl in
           f.joins i q p.1 ∙ ap (λ x. Ok x) (sym past ∙ ap (substituted_join (type_before u r.types)) p.2)
 
+  coercion_fits : (c d : Context) (r : Substitution) → Fits ms c d r → (p : Ends) (g : NCo) → IsCoercionProving ms d g (substituted_ends r.types p)
+      → Fits ms (with_coercion p c) d (with_argument (NACo g) r)
+  coercion_fits c d r f p g h = record {
+    kinds = f.kinds;
+    lifted = f.lifted;
+    saturated = f.saturated;
+    coercions = coercions;
+    values = f.values;
+    joins = f.joins;
+  }
+    where
+      coercions : (i : ℕ) (e : Ends) → at_distance (p ∷ c.coercions) i ≡ Ok e → IsCoercionProving ms d (coercion_before g r.coercions i) (substituted_ends r.types e)
+      coercions zero e a = subst (λ x. IsCoercionProving ms d g (substituted_ends r.types x)) (ok_ok a) h
+      coercions (suc i) e a = f.coercions i e a
+
   -- ALL ARGUMENTS
 
-  all_fit : (bs : List NBinder) (c d : Context) (r : Replacement NExpr) → Fits ms c d r → BindersAreKinded ms owes c.kinds bs → (args : NArgs) (gs : List Given)
+  all_fit : (bs : List NBinder) (c d : Context) (r : Substitution) → Fits ms c d r → BindersAreKinded ms owes c.kinds bs → (args : NArgs) (gs : List Given)
       → ArgsAreGiven ms (without_joins d) args gs → length gs ≡ length bs → (s u : NTy) → Takes (substituted_type r.types (binders_to bs s)) gs u
       → Fits ms (with_binders bs c) d (with_arguments args r) × (u ≡ substituted_type r.types s)
       × (substituted_type (with_arguments args r).types (raised_type (type_count bs) s) ≡ substituted_type r.types s)
@@ -117,8 +148,10 @@ module _ (ms : Modules) (owes : Bool) where
       let one = term_fits c d r f t e typed q.1 in
       let shorter : length hs ≡ length bs = omega (arith, long) in
       all_fit bs (with_value t c) d (with_argument (NATerm e) r) one (binder_rest b) rest hs more shorter s u q.2
-  all_fit (NBValue t ∷ bs) c d r f b args gs (one_arg (given_type p) more) long s u takes = no_type_taken takes
-  all_fit (NBType k ∷ bs) c d r f b args gs (one_arg (given_term p) more) long s u takes = no_term_taken takes
+  all_fit (NBValue t ∷ bs) c d r f b args gs (one_arg (given_type p) more) long s u takes = elim takes [ ]
+  all_fit (NBValue t ∷ bs) c d r f b args gs (one_arg (given_coercion p) more) long s u takes = elim takes [ ]
+  all_fit (NBType k ∷ bs) c d r f b args gs (one_arg (given_term p) more) long s u takes = elim takes [ ]
+  all_fit (NBType k ∷ bs) c d r f b args gs (one_arg (given_coercion p) more) long s u takes = elim takes [ ]
   all_fit (NBType k ∷ bs) c d r f b args gs (one_arg {rest = rest} {gs = hs} (given_type {t = v} {k = j} p) more) long s u takes =
       let q = type_taken takes in
       let kinded = subst (HasKind ms d.kinds v) q.0 p in
@@ -132,7 +165,13 @@ module _ (ms : Modules) (owes : Bool) where
         all.1 ∙ type_past v r.types s,
         ap (substituted_type (with_arguments rest (with_argument (NAType v) r)).types) (raised_by_more (type_count bs) s) ∙ all.2 ∙ type_past v r.types s,
       )
-  all_fit (NBCo o t v ∷ bs) c d r f b args gs (one_arg p more) long s u takes = no_coercion (binder_first b)
+  all_fit (NBCo o t v ∷ bs) c d r f b args gs (one_arg (given_term p) more) long s u takes = elim takes [ ]
+  all_fit (NBCo o t v ∷ bs) c d r f b args gs (one_arg (given_type p) more) long s u takes = elim takes [ ]
+  all_fit (NBCo o t v ∷ bs) c d r f b args gs (one_arg {rest = rest} {gs = hs} (given_coercion {g = g} {r = q} {s = x} {t = y} p) more) long s u takes =
+      let taken = coercion_taken takes in
+      let one = coercion_fits c d r f (ends o t v) g (subst (IsCoercionProving ms d g) taken.0 p) in
+      let shorter : length hs ≡ length bs = omega (arith, long) in
+      all_fit bs (with_coercion (ends o t v) c) d (with_argument (NACo g) r) one (binder_rest b) rest hs more shorter s u taken.1
 
 pub arguments_fit : ArgumentsFit
 arguments_fit ms owes bs c d r f b args gs given long s u takes = all_fit ms owes bs c d r f b args gs given long s u takes
@@ -141,8 +180,10 @@ unchanged_fits : (ms : Modules) (c : Context) → Fits ms c c unchanged
 unchanged_fits ms c = record {
   kinds = λ i k h. kind_variable h;
   lifted = λ i. refl;
-  values = λ i t h. (typed_local (h ∙ ap (λ x. Ok x) (sym (variables_for_themselves t))), λ int. refl);
-  joins = λ i j h. h ∙ ap (λ x. Ok x) (sym (join_itself j));
+  saturated = λ i n. refl;
+  coercions = coercion_itself ms c;
+  values = local_itself ms c;
+  joins = join_in_place c;
 }
 
 pub types_at_arguments : TypesAtArguments

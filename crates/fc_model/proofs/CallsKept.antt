@@ -3,16 +3,17 @@ use Rattle.std.proofs.Common.{◌≡◌, ℕ, zero, suc, ◌+◌, Bool, true, fa
 use Rattle.std.proofs.Math.Path.{fun_ext}
 use Rattle.std.proofs.lemmas.Bool.{and_parts}
 use Rattle.fc_syntax.specs.declared.ty.Name.{Name}
+use Rattle.fc_syntax.specs.declared.ty.Role.{Role}
 use Rattle.fc_syntax.specs.Tree.{Kind}
-use Rattle.fc_model.specs.Calling.{Constructor, Given, GivenTerm, GivenType, Takes, takes_nothing, takes_term, takes_type, at_type, at_types, atom_fits, binders_fit}
-use Rattle.fc_model.specs.Calling.{binders_to, constructor_type, data_name, from_some, is_con_type, is_data_of, is_int, over_binders, same_as, type_arguments, type_count}
-use Rattle.fc_model.specs.Calling.{type_head}
+use Rattle.fc_model.specs.Calling.{Constructor, Given, GivenTerm, GivenType, GivenCoercion, Takes, takes_nothing, takes_term, takes_type, takes_coercion, at_type, at_types}
+use Rattle.fc_model.specs.Calling.{atom_fits, binders_fit, binders_to, constructor_type, data_name, from_some, is_con_type, is_data_of, is_int, over_binders, same_as}
+use Rattle.fc_model.specs.Calling.{type_arguments, type_count, type_head}
 use Rattle.fc_model.specs.Kinding.{Modules}
 use Rattle.fc_model.specs.Nameless.{NTy, NTVar, NTCon, NTInt, NTApp, NTFun, NTForall, NTCoForall, NBinder, NBValue, NBType, NBCo}
 use Rattle.fc_model.specs.Replacing.{replaced_binder, replaced_binders, types_behind, types_behind_all}
 use Rattle.fc_model.specs.Substituting.{IsScopedType, instantiated, raised_type, renamed_type, shifted_type, substituted_type, types_below}
 use Rattle.fc_model.specs.Typing.{kinds_behind}
-use Rattle.fc_model.specs.TypingRules.{BinderIsKinded, value_binder, type_binder, BindersAreKinded, no_binders, one_binder}
+use Rattle.fc_model.specs.TypingRules.{BinderIsKinded, value_binder, type_binder, coercion_binder, BindersAreKinded, no_binders, one_binder}
 use Rattle.fc_model.proofs.KindsKept.{HaveKinds, have_kinds_below, substitution_keeps_kinds}
 use Rattle.fc_model.proofs.Sameness.{false_true, same_type_eq, same_type_of}
 use Rattle.fc_model.proofs.Substitutions.{equal_types, instantiated_within, only_values_count, renamed_again, renamed_is_substituted, shifted_below, variables_for_themselves}
@@ -107,6 +108,8 @@ pub binder_kept : (ms : Modules) (owes : Bool) (ks ls : List Kind) (s : ℕ → 
     → BinderIsKinded ms owes ls (replaced_binder s b)
 binder_kept ms owes ks ls s h b (value_binder {t = t} k p v) = value_binder k (substitution_keeps_kinds ms ks ls s h 0 t k p) v
 binder_kept ms owes ks ls s h b (type_binder l) = type_binder l
+binder_kept ms owes ks ls s h b (coercion_binder {t = t} {u = u} j k p q same) =
+    coercion_binder j k (substitution_keeps_kinds ms ks ls s h 0 t j p) (substitution_keeps_kinds ms ks ls s h 0 u k q) same
 
 -- the kinds behind a binder are those behind it as it is replaced
 pub kinds_behind_kept : (ms : Modules) (ks ls : List Kind) (s : ℕ → NTy) → HaveKinds ms ks ls s → (b : NBinder)
@@ -123,10 +126,12 @@ binders_kept ms owes ks ls s h bs (one_binder {b = b} {bs = rest} p ps) =
 
 -- ARGUMENTS
 
--- an argument is given its type with types in place of variables; it need be an atom only where it was one and its place takes one
+-- an argument is given its type, and what it proves, with types in place of variables; it need be an atom only where it was one and its
+-- place takes one
 pub data BecomesGiven (s : ℕ → NTy) : Given → Given → Type 0 where
   term_becomes : {t : NTy} {a b : Bool} → (atom_fits t a ≡ true → atom_fits (substituted_type s t) b ≡ true) → BecomesGiven s (GivenTerm t a) (GivenTerm (substituted_type s t) b)
   type_becomes : {t : NTy} {k : Kind} → BecomesGiven s (GivenType t k) (GivenType (substituted_type s t) k)
+  coercion_becomes : {r : Role} {t u : NTy} → BecomesGiven s (GivenCoercion r t u) (GivenCoercion r (substituted_type s t) (substituted_type s u))
 
 pub data BecomeGiven (s : ℕ → NTy) : List Given → List Given → Type 0 where
   none_become : BecomeGiven s [] []
@@ -142,6 +147,7 @@ takes_kept s takes_nothing none_become = takes_nothing
 takes_kept s (takes_term fits rest) (one_becomes (term_becomes f) bs) = takes_term (f fits) (takes_kept s rest bs)
 takes_kept s (takes_type {u = u} {r = r} {t = t} rest) (one_becomes {hs = hs} (type_becomes {k = k}) bs) =
     takes_type (subst (λ x. Takes x hs (substituted_type s t)) (instantiated_within s u r) (takes_kept s rest bs))
+takes_kept s (takes_coercion rest) (one_becomes coercion_becomes bs) = takes_coercion (takes_kept s rest bs)
 
 -- ALTERNATIVES
 
@@ -187,7 +193,8 @@ from_some_inv : {X Y : Type 0} (f : X → Option Y) (o : Option X) (y : Y) → f
 from_some_inv f (Some x) y h = (x, refl, h)
 from_some_inv f None y h = absurd cc
 
-pub at_types_kept : (s : ℕ → NTy) (t : NTy) (us : List NTy) (v : NTy) → at_types t us ≡ Some v → at_types (substituted_type s t) (map (substituted_type s) us) ≡ Some (substituted_type s v)
+pub at_types_kept : (s : ℕ → NTy) (t : NTy) (us : List NTy) (v : NTy) → at_types t us ≡ Some v
+    → at_types (substituted_type s t) (map (substituted_type s) us) ≡ Some (substituted_type s v)
 at_types_kept s t [] v h = let e : t ≡ v = cc in ap (λ x. Some (substituted_type s x)) e
 at_types_kept s t (u ∷ us) v h =
     let p = from_some_inv (λ w. at_types w us) (at_type t u) v h in
@@ -215,6 +222,7 @@ fit_kept s n k t bs closed is h =
     let e = same_as_inv (at_types (constructor_type n k) (type_arguments t)) (binders_to bs t) h in
     let f = at_types_kept s (constructor_type n k) (type_arguments t) (binders_to bs t) e in
     let g : at_types (constructor_type n k) (type_arguments (substituted_type s t)) ≡ Some (substituted_type s (binders_to bs t)) =
-    rw (arguments_kept s (data_name n k.data_word) t p.0) (subst (λ x. at_types x (map (substituted_type s) (type_arguments t)) ≡ Some (substituted_type s (binders_to bs t))) (closed_kept s (constructor_type n k) closed) f)
+    rw (arguments_kept s (data_name n k.data_word) t p.0)
+    (subst (λ x. at_types x (map (substituted_type s) (type_arguments t)) ≡ Some (substituted_type s (binders_to bs t))) (closed_kept s (constructor_type n k) closed) f)
     in
     ap (λ o. same_as o (binders_to (replaced_binders s bs) (substituted_type s t))) g ∙ same_type_of (binders_to_kept s bs t)

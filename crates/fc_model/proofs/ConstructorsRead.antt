@@ -2,7 +2,7 @@
 -- its data type is at.
 use Rattle.std.proofs.Common.{◌≡◌, ℕ, zero, suc, ◌+◌, List, [], ◌∷◌, ◌++◌, length, map, Some, refl, sym, ap, ap₂, ◌∙◌, subst, arith}
 use Rattle.fc_syntax.specs.declared.ty.Name.{Name}
-use Rattle.fc_model.specs.Calling.{Constructor, Given, GivenTerm, GivenType, Takes, takes_nothing, takes_term, takes_type}
+use Rattle.fc_model.specs.Calling.{Constructor, Given, GivenTerm, GivenType, GivenCoercion, Takes, takes_nothing, takes_term, takes_type, takes_coercion}
 use Rattle.fc_model.specs.Calling.{applied_to_variables, constructed_type, constructor_binders, constructor_type, data_name, over_binders, type_count}
 use Rattle.fc_model.specs.Kinding.{Modules, param_kinds}
 use Rattle.fc_model.specs.Nameless.{NTy, NTVar, NTCon, NTApp, NParam, NParamOf, NBinder, NBValue, NBType, NBCo, NArgs}
@@ -24,18 +24,21 @@ abbrev put : List Given → (ℕ → NTy) → ℕ → NTy
 put [] s = s
 put (GivenTerm t atom ∷ gs) s = put gs s
 put (GivenType u k ∷ gs) s = put gs (with_innermost u s)
+put (GivenCoercion o a b ∷ gs) s = put gs s
 
 -- how many types are among arguments
 abbrev types_among : List Given → ℕ
 types_among [] = 0
 types_among (GivenTerm t atom ∷ gs) = types_among gs
 types_among (GivenType u k ∷ gs) = suc (types_among gs)
+types_among (GivenCoercion o a b ∷ gs) = types_among gs
 
 -- a variable that stands outside of all binders keeps its type
 put_past : (gs : List Given) (s : ℕ → NTy) (i j : ℕ) → j ≡ i + types_among gs → put gs s j ≡ s i
 put_past [] s i j e = ap s (omega (arith, e))
 put_past (GivenTerm t atom ∷ gs) s i j e = put_past gs s i j e
 put_past (GivenType u k ∷ gs) s i j e = put_past gs (with_innermost u s) (suc i) j (omega (arith, e))
+put_past (GivenCoercion o a b ∷ gs) s i j e = put_past gs s i j e
 
 -- below a binder and then a type for its variable
 innermost_put : (u : NTy) (s : ℕ → NTy) (i : ℕ) → instantiated u (types_below s i) ≡ with_innermost u s i
@@ -57,7 +60,7 @@ taken_is (NBValue t ∷ bs) (g ∷ gs) s r w (takes_term fits rest) l = taken_is
 taken_is (NBType k ∷ bs) (g ∷ gs) s r w (takes_type {u = u} rest) l =
     let p = taken_is bs gs (with_innermost u s) r w (subst (λ x. Takes x gs w) (instantiated_is_put u s (over_binders bs r)) rest) (omega (arith, l)) in
     (p.0, omega (arith, p.1))
-taken_is (NBCo o t u ∷ bs) (g ∷ gs) s r w h l = elim h [ ]
+taken_is (NBCo o t u ∷ bs) (g ∷ gs) s r w (takes_coercion rest) l = taken_is bs gs s r w rest (omega (arith, l))
 
 -- COUNTS OF TYPES
 

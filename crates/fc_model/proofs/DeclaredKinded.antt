@@ -1,4 +1,5 @@
--- What a module that holds against itself defines and constructs has types of kind `*`.
+-- What a module that holds against itself defines and constructs has types of kind `*`, and both sides of each of its axioms have one
+-- kind; so none of these has variables from outside.
 use Rattle.std.proofs.Common.{◌≡◌, ℕ, suc, ◌+◌, Bool, true, false, if◌then◌else◌, List, [], ◌∷◌, ◌++◌, ◌⊎◌, inl, inr, length, map, reverse, Option, Some, None, Result}
 use Rattle.std.proofs.Common.{Ok, bytes_eq, refl, sym, ap, ◌∙◌, subst, append_assoc, append-nil, length-append, arith}
 use Rattle.std.proofs.lemmas.Bool.{and_parts}
@@ -7,6 +8,8 @@ use Rattle.std.specs.List.{list_all}
 use Rattle.fc_syntax.specs.declared.ty.Name.{Name}
 use Rattle.fc_syntax.specs.Tree.{Word, Kind, KStar, Decl}
 use Rattle.fc_model.specs.Calling.{Constructor, applied_to_variables, con_among, con_decl, constructed_type, first_of, constructor_type, data_name, over_binders, type_count}
+use Rattle.fc_model.specs.Coercing.{Axiom, axiom_decl, axiom_named, family_axiom, newtype_axiom}
+use Rattle.fc_model.specs.CoercionLaws.{HaveOneKind}
 use Rattle.fc_model.specs.Declaring.{ntype_words, nwords_by}
 use Rattle.fc_model.specs.Faulting.{F, at_distance}
 use Rattle.fc_model.specs.Kinding.{Modules, HasHeadKind, HasKind, kind_application, kind_coforall, kind_declared, kind_forall, kind_function, kind_variable, arrows}
@@ -23,7 +26,7 @@ use Rattle.fc_model.specs.ResolutionRules.{resolves_newtype, resolves_family, re
 use Rattle.fc_model.specs.Typing.{def_type}
 use Rattle.fc_model.specs.TypingLaws.{LintedAreKinded, ResolvedHaveDistinctTypes}
 use Rattle.fc_model.proofs.Parts.{err_ok, ok_ok}
-use Rattle.fc_model.proofs.Sameness.{bytes_eq_eq, bytes_eq_refl, false_true}
+use Rattle.fc_model.proofs.Sameness.{bytes_eq_eq, bytes_eq_refl, false_true, name_of}
 
 -- DISTINCT WORDS
 
@@ -86,6 +89,13 @@ found_is_new e (NFamily n ps k ∷ ds) w d distinct h =
     let p = distinct_inv e n (nwords_by ntype_words ds) distinct in
     new_behind e n w (Some (NFamily n ps k)) (type_decl ds w) d p.0 (λ later. found_is_new (plus n e) ds w d p.1 later) h
 
+-- what is found behind a type of another word is found past it
+type_behind : (e : WordSet) (n : Word) (d : NDecl) (ds : List NDecl) → ((w : Word) → type_decl (d ∷ ds) w ≡ (if bytes_eq n w then Some d else type_decl ds w))
+    → AreDistinct (plus n e) (nwords_by ntype_words ds) → (w : Word) (x : NDecl) → type_decl ds w ≡ Some x → type_decl (d ∷ ds) w ≡ Some x
+type_behind e n d ds past distinct w x h =
+    let other = (not_before (bytes_eq n w) (e w) (found_is_new (plus n e) ds w x distinct h)).0 in
+    past w ∙ ap (λ b. if b then Some d else type_decl ds w) other ∙ h
+
 -- CONSTRUCTORS
 
 -- a constructor of data that is the first type of its word, and holds
@@ -110,18 +120,10 @@ first_of_inv : {X : Type 0} (o p : Option X) (x : X) → first_of o p ≡ Some x
 first_of_inv (Some y) p x h = inl h
 first_of_inv None p x h = inr h
 
--- what is found behind a type of another word is found past it
 found_behind : (ms : Modules) (e : WordSet) (n : Word) (d : NDecl) (ds : List NDecl) (k : Constructor)
     → ((w : Word) → type_decl (d ∷ ds) w ≡ (if bytes_eq n w then Some d else type_decl ds w)) → AreDistinct (plus n e) (nwords_by ntype_words ds) → IsFound ms ds k → IsFound ms (d ∷ ds) k
 found_behind ms e n d ds k past distinct f =
-    let new = found_is_new (plus n e) ds k.data_word _ distinct f.declared in
-    let other = (not_before (bytes_eq n k.data_word) (e k.data_word) new).0 in
-    record {
-      cons = f.cons;
-      declared = past k.data_word ∙ ap (λ b. if b then Some d else type_decl ds k.data_word) other ∙ f.declared;
-      lifted = f.lifted;
-      holds = f.holds;
-    }
+    record { cons = f.cons; declared = type_behind e n d ds past distinct k.data_word _ f.declared; lifted = f.lifted; holds = f.holds }
 
 -- what is found behind what declares no type is found past it
 found_past : (ms : Modules) (d : NDecl) (ds : List NDecl) (k : Constructor) → ((w : Word) → type_decl (d ∷ ds) w ≡ type_decl ds w) → IsFound ms ds k → IsFound ms (d ∷ ds) k
@@ -227,6 +229,41 @@ module _ (ms : Modules) where
       types_kinded ps [] (k.binders ++ map NBValue k.fields) (constructed_type n k) f.lifted
       (subst (λ x. HasKind ms x (over_binders (k.binders ++ map NBValue k.fields) (constructed_type n k)) KStar) none counted)
 
+  -- AXIOMS
+
+  -- a newtype at its parameters is of the kind of what it holds
+  newtype_kinded : (m : Option Word) (n con : Word) (ps : List NParam) (t : NTy) → type_decl (ms m) n ≡ Some (NNew n ps t con) → HasKind ms (reverse (param_kinds ps)) t KStar
+      → HaveOneKind ms (reverse (param_kinds ps)) (applied_to_variables (NTCon (name_of m n)) (length ps) 0) t
+  newtype_kinded m n con ps t found h =
+      let ks = param_kinds ps in
+      let none : reverse ks ≡ reverse ks ++ [] = sym (append-nil (reverse ks)) in
+      let known : (args : ℕ) → HasHeadKind ms (reverse ks) args (NTCon (name_of m n)) (arrows ks KStar) = λ args. kind_declared (ap (λ d. decl_kind d args) found) in
+      let left = applied_kinded ks [] (NTCon (name_of m n)) (reverse ks) [] none known in
+      (KStar, subst (λ i. HasKind ms (reverse ks) (applied_to_variables (NTCon (name_of m n)) i 0) KStar) (sym (param_count ps)) left, h)
+
+  -- both sides of an axiom have one kind, where the types that are found among the declarations are those of the module
+  axiom_kinded : (m : Option Word) (e : WordSet) (ds : List NDecl) (w : Word) (a : Axiom) → TypeDeclsHold ms ds → AreDistinct e (nwords_by ntype_words ds)
+      → ((v : Word) (d : NDecl) → type_decl ds v ≡ Some d → type_decl (ms m) v ≡ Some d) → axiom_decl m ds w ≡ Some a → HaveOneKind ms (reverse a.params) a.ends.left a.ends.right
+  axiom_kinded m e ds w a no_type_decls distinct found h = absurd cc
+  axiom_kinded m e ds w a (one_type_decl {ds = rest} (data_holds {n = n} {ps = ps} {cs = cs} l c roles) more) distinct found h =
+      let p = distinct_inv e n (nwords_by ntype_words rest) distinct in
+      axiom_kinded m (plus n e) rest w a more p.1 (λ v d q. found v d (type_behind e n (NData n ps cs) rest (λ x. refl) p.1 v d q)) h
+  axiom_kinded m e ds w a (one_type_decl {ds = rest} (newtype_holds {n = n} {con = con} {ps = ps} {t = t} l c roles) more) distinct found h =
+      let p = distinct_inv e n (nwords_by ntype_words rest) distinct in
+      let here = newtype_kinded m n con ps t (found n (NNew n ps t con) (rw (bytes_eq_refl n) refl)) c in
+      either (if_some (bytes_eq con w) (Some (newtype_axiom m n ps t)) (axiom_decl m rest w) a h)
+      (λ q. subst (λ x. HaveOneKind ms (reverse x.params) x.ends.left x.ends.right) (some_some q.1) here)
+      (λ q. axiom_kinded m (plus n e) rest w a more p.1 (λ v d r. found v d (type_behind e n (NNew n ps t con) rest (λ x. refl) p.1 v d r)) q.1)
+  axiom_kinded m e ds w a (one_type_decl {ds = rest} (family_holds {n = n} {ks = ks} {k = k} l c) more) distinct found h =
+      let p = distinct_inv e n (nwords_by ntype_words rest) distinct in
+      axiom_kinded m (plus n e) rest w a more p.1 (λ v d q. found v d (type_behind e n (NFamily n ks k) rest (λ x. refl) p.1 v d q)) h
+  axiom_kinded m e ds w a (one_type_decl {ds = rest} (axiom_holds {n = n} {ks = ks} {t = t} {u = u} k l p q f) more) distinct found h =
+      either (if_some (bytes_eq n w) (Some (family_axiom ks t u)) (axiom_decl m rest w) a h)
+      (λ r. subst (λ x. HaveOneKind ms (reverse x.params) x.ends.left x.ends.right) (some_some r.1) (k, p, q))
+      (λ r. axiom_kinded m e rest w a more distinct found r.1)
+  axiom_kinded m e ds w a (one_type_decl {ds = rest} def_declares_no_type more) distinct found h = axiom_kinded m e rest w a more distinct found h
+  axiom_kinded m e ds w a (one_type_decl {ds = rest} wrap_declares_no_type more) distinct found h = axiom_kinded m e rest w a more distinct found h
+
 -- MODULES
 
 definition_kinded : (ms : Modules) (ds : List NDecl) (w : Word) (t : NTy) → DefinitionsHold ms ds → def_type ds w ≡ Ok t → HasKind ms [] t KStar
@@ -264,8 +301,16 @@ module _ (m : Word) (imports exports hidden : List Word) (ds : List NDecl) where
       constructor_kinded alone n k (subst (λ x. IsFound alone x k) (sym e) (con_found alone no_word ds n.text k hold distinct (subst (λ x. con_decl x n.text ≡ Some k) e h)))
   con_kinded_alone hold distinct n k (inr e) h = let none : con_decl [] n.text ≡ Some k = subst (λ x. con_decl x n.text ≡ Some k) e h in absurd cc
 
+  axiom_kinded_alone : TypeDeclsHold alone ds → AreDistinct no_word (nwords_by ntype_words ds) → (n : Name) (a : Axiom) → (alone n.module ≡ ds) ⊎ (alone n.module ≡ [])
+      → axiom_named alone n ≡ Some a → HaveOneKind alone (reverse a.params) a.ends.left a.ends.right
+  axiom_kinded_alone hold distinct n a (inl e) h =
+      axiom_kinded alone n.module no_word ds n.text a hold distinct (λ v d q. subst (λ x. type_decl x v ≡ Some d) (sym e) q)
+      (subst (λ x. axiom_decl n.module x n.text ≡ Some a) e h)
+  axiom_kinded_alone hold distinct n a (inr e) h = let none : axiom_decl n.module [] n.text ≡ Some a = subst (λ x. axiom_decl n.module x n.text ≡ Some a) e h in absurd cc
+
 pub linted_are_kinded : LintedAreKinded
 linted_are_kinded n distinct (module_holds {m = m} {imports = imports} {exports = exports} {hidden = hidden} {ds = ds} e h types definitions) = record {
   values = λ v t p. value_kinded m imports exports hidden ds definitions v t (at_one m imports exports hidden ds v.module) p;
   constructors = λ v k p. con_kinded_alone m imports exports hidden ds types distinct v k (at_one m imports exports hidden ds v.module) p;
+  axioms = λ v a p. axiom_kinded_alone m imports exports hidden ds types distinct v a (at_one m imports exports hidden ds v.module) p;
 }

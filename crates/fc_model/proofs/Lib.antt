@@ -2,10 +2,15 @@ pub mod ArgumentsFit
 pub mod BindersJudged
 pub mod Called
 pub mod CallsKept
+pub mod CoercionsAre
+pub mod CoercionsKept
 pub mod ConstructorsRead
 pub mod DeclaredKinded
 pub mod Declares
 pub mod Distances
+pub mod EndsJudged
+pub mod EndsKept
+pub mod EndsKinded
 pub mod FitsKept
 pub mod KindedIs
 pub mod KindsKept

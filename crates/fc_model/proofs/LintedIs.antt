@@ -8,16 +8,16 @@ use Rattle.fc_syntax.specs.Roles.{role_below}
 use Rattle.fc_syntax.specs.Tree.{Kind, KStar, KHash, KArrow}
 use Rattle.fc_model.specs.Declaring.{ndecl_word, ndeclared_words}
 use Rattle.fc_model.specs.Faulting.{F, need, under, within, and_then}
-use Rattle.fc_model.specs.Kinding.{Modules, HasKind, decls_at, is_lifted, is_star, is_value_kind, kind_or_fault, param_kinds, same_kind, same_type}
+use Rattle.fc_model.specs.Kinding.{Modules, HasKind, decls_at, is_family_applied, is_lifted, is_star, is_value_kind, kind_or_fault, param_kinds, same_kind, same_type}
 use Rattle.fc_model.specs.Linting.{Done, done, con_binder_judged, con_binders_judged, con_judged, cons_judged, def_type_judged, def_types_judged, definition_kind, exports_judged, fields_judged}
-use Rattle.fc_model.specs.Linting.{is_family_applied, kinds_behind, kinds_behind_all, lint_or_fault, right_judged, right_side_judged, rights_judged, roles_judged, type_decl_judged, type_decls_judged, variables_judged}
+use Rattle.fc_model.specs.Linting.{kinds_behind_all, lint_or_fault, right_judged, right_side_judged, rights_judged, roles_judged, type_decl_judged, type_decls_judged, variables_judged}
 use Rattle.fc_model.specs.LintingRules.{AreValueTypes, no_types, one_type, ConHolds, holds_fields, holds_type, holds_coercion, ConsHold, no_cons, one_con, RolesHold, no_roles, one_role}
 use Rattle.fc_model.specs.LintingRules.{TypeDeclHolds, data_holds, newtype_holds, family_holds, axiom_holds, def_declares_no_type, wrap_declares_no_type, TypeDeclsHold, no_type_decls, one_type_decl}
 use Rattle.fc_model.specs.LintingRules.{DefinitionHolds, def_holds, wrap_holds, data_defines_nothing, newtype_defines_nothing, family_defines_nothing, axiom_defines_nothing}
 use Rattle.fc_model.specs.LintingRules.{DefinitionsHold, no_definitions, one_definition, ModuleHolds, module_holds}
 use Rattle.fc_model.specs.Nameless.{NTy, NBinder, NBValue, NBType, NBCo, NParam, NParamOf, NConDecl, NConOf, NDecl, NData, NNew, NFamily, NAxiom, NDef, NWrap, NExpr, NModule, NModuleOf}
 use Rattle.fc_model.specs.Resolution.{no_word, plus_all}
-use Rattle.fc_model.specs.Typing.{no_context, type_or_fault}
+use Rattle.fc_model.specs.Typing.{kinds_behind, no_context, type_or_fault}
 use Rattle.fc_model.specs.TypingRules.{HasType}
 use Rattle.fc_model.proofs.KindedIs.{given_kind_is, is_star_inv, kind_is_given}
 use Rattle.fc_model.proofs.Parts.{and_then_inv, err_ok, need_inv, ok_ok, part, under_inv}

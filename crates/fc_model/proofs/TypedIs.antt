@@ -4,11 +4,14 @@ use Rattle.fc_syntax.specs.declared.ty.Name.{Name}
 use Rattle.fc_syntax.specs.declared.expr.Head.{Head}
 use Rattle.fc_syntax.specs.declared.expr.Head.TheVariants as head
 use Rattle.fc_syntax.specs.declared.expr.PrimOp.{PrimOp}
+use Rattle.fc_syntax.specs.declared.ty.Role.TheVariants.{R}
 use Rattle.fc_syntax.specs.declared.fault.FaultKind.TheVariants.{AltType, ConArity, JumpArity, LetType, PrimArity}
 use Rattle.fc_model.specs.Calling.{Constructor, Given, GivenTerm, Takes, takes_nothing, takes_term}
 use Rattle.fc_model.specs.Calling.{atom_fits, binders_fit, called, constructor, constructor_binders, constructor_type, is_data_of, is_int, type_count}
+use Rattle.fc_model.specs.Coercing.{ends, ends_or_fault}
+use Rattle.fc_model.specs.CoercingRules.{Proves}
 use Rattle.fc_model.specs.Faulting.{F, at_distance}
-use Rattle.fc_model.specs.Kinding.{Modules, is_value_kind, kind_or_fault, same_type}
+use Rattle.fc_model.specs.Kinding.{Modules, is_value_kind, kind_or_fault, same_role, same_type}
 use Rattle.fc_model.specs.Nameless.{NTy, NTInt, NBinder}
 use Rattle.fc_model.specs.Nameless.{NExpr, NLocal, NVar, NLit, NApp, NLam, NLet, NCase, NCast, NCon, NPrim, NFail, NJoin, NJump}
 use Rattle.fc_model.specs.Nameless.{NArg, NATerm, NAType, NACo, NBound, NJoined, NBranch, NArgs, NoNArgs, MoreNArgs, NExprs, NoNExprs, MoreNExprs}
@@ -19,15 +22,17 @@ use Rattle.fc_model.specs.Typing.{type_or_fault, argument_given, args_given, ope
 use Rattle.fc_model.specs.Typing.{body_fits, constructor_goes, constructor_in_order, default_in_order, found_constructed, head_goes, is_atom, jumped, literal_in_order, primitive_type, then_given}
 use Rattle.fc_model.specs.Typing.{with_binder, with_binders, with_binds, with_joins, with_value, without_joins}
 use Rattle.fc_model.specs.TypingRules.{BindersAreKinded}
-use Rattle.fc_model.specs.TypingRules.{HasType, typed_local, typed_declared, typed_literal, typed_application, typed_lambda, typed_let, typed_case, typed_con, typed_prim, typed_fail, typed_join, typed_jump}
-use Rattle.fc_model.specs.TypingRules.{ArgIsGiven, given_term, given_type, ArgsAreGiven, no_args, one_arg, BindsHaveTypes, no_binds, one_bind, JoinsHaveType, no_joins, one_join}
-use Rattle.fc_model.specs.TypingRules.{AltsFit, no_alts, default_alt, literal_alt, con_alt}
+use Rattle.fc_model.specs.TypingRules.{HasType, typed_local, typed_declared, typed_literal, typed_application, typed_lambda, typed_let, typed_case, typed_cast}
+use Rattle.fc_model.specs.TypingRules.{typed_con, typed_prim, typed_fail, typed_join, typed_jump}
+use Rattle.fc_model.specs.TypingRules.{ArgIsGiven, given_term, given_type, given_coercion, ArgsAreGiven, no_args, one_arg, BindsHaveTypes, no_binds, one_bind}
+use Rattle.fc_model.specs.TypingRules.{JoinsHaveType, no_joins, one_join, AltsFit, no_alts, default_alt, literal_alt, con_alt}
 use Rattle.fc_model.proofs.BindersJudged.{binders_are_judged, body_is_fit, fit_body_is, judged_binders_are, judged_parameter_is, not_asked, paid_inv, parameter_is_judged, unowed}
 use Rattle.fc_model.proofs.Called.{applied_takes, called_takes, taken_applies, taken_is_called}
+use Rattle.fc_model.proofs.CoercionsAre.{ends_are}
 use Rattle.fc_model.proofs.KindedIs.{given_kind_is, kind_is_given}
 use Rattle.fc_model.proofs.Parts.{and_then_inv, answer, err_ok, need_inv, ok_ok, part, under_inv}
 use Rattle.fc_model.proofs.Raised.{leaves_as_inv, raised_leaves}
-use Rattle.fc_model.proofs.Sameness.{same_type_eq, same_type_refl}
+use Rattle.fc_model.proofs.Sameness.{same_role_eq, same_type_eq, same_type_refl}
 
 -- CALLS
 
@@ -159,6 +164,7 @@ module _ (ms : Modules) where
     type_is_given (typed_let bs e) = let p = binds_are_judged 0 bs in rw (p.1, type_is_given e) refl
     type_is_given (typed_case {s = s} j k e t r alts v) =
         let p = alts_are_judged 3 alts in rw (type_is_given e, kind_is_given ms t, kind_is_given ms r, p.1, same_type_refl s, v) refl
+    type_is_given (typed_cast {c = c} {g = g} {s = s} {t = t} e p) = rw (type_is_given e, (ends_are ms c.kinds c.coercions g (ends R s t)).1 p, same_type_refl s) refl
     type_is_given (typed_con k gs is args l takes) = rw (args_are_given 0 args, is) (taken_is_called ConArity (length (constructor_binders k)) l takes)
     type_is_given (typed_prim a x b y) = rw (type_is_given a, x, type_is_given b, y) refl
     type_is_given (typed_fail k t v) = rw (kind_is_given ms t, v) refl
@@ -169,6 +175,7 @@ module _ (ms : Modules) where
     pub argument_is_given : {c : Context} {a : NArg} {g : Given} → ArgIsGiven ms c a g → argument_given ms c a ≡ Ok g
     argument_is_given (given_term e) = rw (type_is_given e) refl
     argument_is_given (given_type t) = rw (kind_is_given ms t) refl
+    argument_is_given (given_coercion {c = c} {g = g} {r = r} {s = s} {t = t} p) = rw ((ends_are ms c.kinds c.coercions g (ends r s t)).1 p) refl
 
     pub args_are_given : {c : Context} {args : NArgs} {gs : List Given} (i : ℕ) → ArgsAreGiven ms c args gs → args_given ms c i args ≡ Ok gs
     args_are_given i no_args = refl
@@ -209,7 +216,7 @@ module _ (ms : Modules) where
         let u = paid_inv p.0 _ t q.2 in
         let v = need_inv (body_fits ms c.kinds b q.0) _ _ t u.1 in
         subst (λ x. HasType ms c (NLam b e) x) (ok_ok v.1)
-        (typed_lambda (judged_parameter_is ms c.kinds b (p.1 ∙ ap answer u.0)) (given_type_is d e q.0 q.1) (fit_body_is ms c.kinds b p.0 q.0 p.1 v.0))
+        (typed_lambda (judged_parameter_is ms c.kinds b (p.1 ∙ ap answer u.0)) (given_type_is d e q.0 q.1) (fit_body_is ms c.kinds b q.0 v.0))
     given_type_is c (NLet r bs e) t h =
         let d = without_joins (if r then with_binds bs c else c) in
         let p = and_then_inv (binds_judged ms d r 0 bs) _ t h in
@@ -226,7 +233,16 @@ module _ (ms : Modules) where
         subst (λ x. HasType ms c (NCase e xt rt alts) x) (ok_ok z.1)
         (typed_case q.0 u.0 (subst (λ x. HasType ms d e x) same (given_type_is d e p.0 p.1)) (given_kind_is ms c.kinds 0 xt q.0 q.1) (given_kind_is ms c.kinds 0 rt u.0 u.1)
         (subst (λ x. AltsFit ms (with_value xt c) x rt Start alts) same (judged_alts_fit (with_value xt c) p.0 rt 3 Start alts v.0 v.1)) z.0)
-    given_type_is c (NCast e g) t h = err_ok h
+    given_type_is c (NCast e g) t h =
+        let d = without_joins c in
+        let p = part 0 (type_or_fault ms d e) _ t h in
+        let q = part 1 (ends_or_fault ms c.kinds c.coercions g) _ t p.2 in
+        let u = need_inv (same_role q.0.role R) _ _ t q.2 in
+        let v = need_inv (same_type q.0.left p.0) _ _ t u.1 in
+        let proved = (ends_are ms c.kinds c.coercions g q.0).0 q.1 in
+        let at_role = subst (λ r. Proves ms c.kinds c.coercions g r q.0.left q.0.right) (same_role_eq q.0.role R u.0) proved in
+        subst (λ x. HasType ms c (NCast e g) x) (ok_ok v.1)
+        (typed_cast (subst (λ x. HasType ms d e x) (sym (same_type_eq q.0.left p.0 v.0)) (given_type_is d e p.0 p.1)) at_role)
     given_type_is c (NCon n args) t h =
         let p = and_then_inv (args_given ms (without_joins c) 0 args) _ t h in
         let q = found_inv n (constructor ms n) p.0 t p.2 in
@@ -267,7 +283,9 @@ module _ (ms : Modules) where
         let p = and_then_inv (type_or_fault ms c e) _ g h in subst (λ x. ArgIsGiven ms c (NATerm e) x) (ok_ok p.2) (given_term (given_type_is c e p.0 p.1))
     given_argument_is c (NAType u) g h =
         let p = and_then_inv (kind_or_fault ms c.kinds u) _ g h in subst (λ x. ArgIsGiven ms c (NAType u) x) (ok_ok p.2) (given_type (given_kind_is ms c.kinds 0 u p.0 p.1))
-    given_argument_is c (NACo k) g h = err_ok h
+    given_argument_is c (NACo k) g h =
+        let p = and_then_inv (ends_or_fault ms c.kinds c.coercions k) _ g h in
+        subst (λ x. ArgIsGiven ms c (NACo k) x) (ok_ok p.2) (given_coercion ((ends_are ms c.kinds c.coercions k p.0).0 p.1))
 
     pub given_args_are : (c : Context) (i : ℕ) (args : NArgs) (gs : List Given) → args_given ms c i args ≡ Ok gs → ArgsAreGiven ms c args gs
     given_args_are c i NoNArgs gs h = subst (λ x. ArgsAreGiven ms c NoNArgs x) (ok_ok h) no_args

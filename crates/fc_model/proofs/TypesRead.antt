@@ -1,13 +1,17 @@
 -- Where an expression has a type, it is the one that is read off.
 use Rattle.std.proofs.Common.{◌≡◌, [], ◌∷◌, Option, Some, None, refl, ap}
-use Rattle.fc_model.specs.Calling.{Given, Takes, from_some, takes_term, takes_type}
+use Rattle.fc_syntax.specs.declared.ty.Role.TheVariants.{R}
+use Rattle.fc_model.specs.Calling.{Given, Takes, from_some, takes_term, takes_type, takes_coercion}
+use Rattle.fc_model.specs.Coercing.{ends}
 use Rattle.fc_model.specs.Kinding.{Modules}
 use Rattle.fc_model.specs.Nameless.{NTy, NBinder, NBValue, NBType, NBCo, NATerm, NAType, NACo, NArg, NBound, NBinds, NoNBinds, MoreNBinds}
 use Rattle.fc_model.specs.Nameless.{NExpr, NLocal, NVar, NLit, NApp, NLam, NLet, NCase, NCast, NCon, NPrim, NFail, NJoin, NJump}
-use Rattle.fc_model.specs.Typing.{Context, answered, type_read_off, with_binder, with_binds, with_value, without_joins}
-use Rattle.fc_model.specs.TypingRules.{HasType, typed_local, typed_declared, typed_literal, typed_application, typed_lambda, typed_let, typed_case, typed_con, typed_prim, typed_fail, typed_join, typed_jump}
-use Rattle.fc_model.specs.TypingRules.{ArgIsGiven, given_term, given_type}
+use Rattle.fc_model.specs.Typing.{Context, answered, right_end, type_read_off, with_binder, with_binds, with_value, without_joins}
+use Rattle.fc_model.specs.TypingRules.{HasType, typed_local, typed_declared, typed_literal, typed_application, typed_lambda, typed_let, typed_case, typed_cast}
+use Rattle.fc_model.specs.TypingRules.{typed_con, typed_prim, typed_fail, typed_join, typed_jump}
+use Rattle.fc_model.specs.TypingRules.{ArgIsGiven, given_term, given_type, given_coercion}
 use Rattle.fc_model.proofs.Called.{takes_none}
+use Rattle.fc_model.proofs.CoercionsAre.{ends_are}
 use Rattle.fc_model.proofs.ConstructorsRead.{constructed_is_read}
 
 -- WITH JOIN POINTS
@@ -35,7 +39,7 @@ module _ (ms : Modules) where
   read_with_joins c (NLit n) t h = h
   read_with_joins c (NApp f (NATerm a)) t h = follows_too _ _ _ (read_with_joins c f) h
   read_with_joins c (NApp f (NAType u)) t h = follows_too _ _ _ (read_with_joins c f) h
-  read_with_joins c (NApp f (NACo g)) t h = h
+  read_with_joins c (NApp f (NACo g)) t h = follows_too _ _ _ (read_with_joins c f) h
   read_with_joins c (NLam b e) t h = follows_too _ _ _ (read_with_joins (with_binder b c) e) (rw binder_without_joins at h)
   read_with_joins c (NLet r bs e) t h = read_with_joins (with_binds bs c) e t (rw binds_without_joins at h)
   read_with_joins c (NCase e xt rt alts) t h = h
@@ -51,6 +55,7 @@ module _ (ms : Modules) where
       → type_read_off ms c f ≡ Some s → type_read_off ms c (NApp f a) ≡ Some t
   application_is_read c f (takes_term fits rest) (given_term e) read = rw read (ap (λ x. Some x) (takes_none rest))
   application_is_read c f (takes_type rest) (given_type kind) read = rw read (ap (λ x. Some x) (takes_none rest))
+  application_is_read c f (takes_coercion rest) (given_coercion p) read = rw read (ap (λ x. Some x) (takes_none rest))
 
   pub type_is_read_off : {c : Context} {e : NExpr} {t : NTy} → HasType ms c e t → type_read_off ms c e ≡ Some t
   type_is_read_off (typed_local p) = ap answered p
@@ -61,6 +66,7 @@ module _ (ms : Modules) where
       rw (read_with_joins (with_binder b c) e u (rw binder_without_joins at (type_is_read_off body))) refl
   type_is_read_off (typed_let bs e) = type_is_read_off e
   type_is_read_off (typed_case j k e t r alts v) = refl
+  type_is_read_off (typed_cast {c = c} {g = g} {s = s} {t = t} e p) = ap (λ x. right_end (answered x)) ((ends_are ms c.kinds c.coercions g (ends R s t)).1 p)
   type_is_read_off (typed_con {n = n} k gs is args l takes) = rw is (constructed_is_read ms n k takes args l)
   type_is_read_off (typed_prim a x b y) = refl
   type_is_read_off (typed_fail k t v) = refl

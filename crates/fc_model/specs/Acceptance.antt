@@ -10,7 +10,6 @@ use Rattle.fc_syntax.specs.declared.fault.FaultKind.{FaultKind}
 use Rattle.fc_syntax.specs.declared.fault.FaultKind.TheVariants as kind
 use Rattle.fc_syntax.specs.declared.fault.Place.{Place}
 use Rattle.fc_syntax.specs.declared.fault.Place.TheVariants as place
-use Rattle.fc_model.specs.Supported.{is_supported}
 use Rattle.fc_model.specs.Faulting.{At}
 use Rattle.fc_model.specs.Headers.{name_of}
 use Rattle.fc_model.specs.Linting.{Lints, module_lint}
@@ -31,17 +30,13 @@ abbrev pub plan_fault : Module → Option FaultKind
 plan_fault (ModuleOf m [] exports hidden ds) = None
 plan_fault (ModuleOf m (w ∷ ws) exports hidden ds) = if list_any (λ v. not (bytes_eq v m)) (w ∷ ws) then Some kind.ImportUnknown else Some kind.ImportCycle
 
--- a module whose imports stand is refused as a whole where it has a form that is not judged yet
-abbrev pub form_fault : List ℕ → Module → Option Fault
-form_fault file m = if is_supported m then None else Some (of_file kind.BadForm file place.Nowhere)
-
-abbrev pub whole_fault : List ℕ → Module → Option Fault
-whole_fault file m = elim (plan_fault m) [ Some k ↦ Some (of_file k (name_of m) place.Nowhere) | None ↦ form_fault file m ]
+abbrev pub whole_fault : Module → Option Fault
+whole_fault m = elim (plan_fault m) [ Some k ↦ Some (of_file k (name_of m) place.Nowhere) | None ↦ None ]
 
 -- There is one file, which holds a module within the limits; nothing is wrong with it as a whole, and every premise of Lint holds of it.
 abbrev pub Accepted : List (List ℕ) → Holding → Module → Type 0
 Accepted [] held m = ⊥
-Accepted (file ∷ []) held m = IsSomeAnd (held file) (λ bytes. ReadsTo bytes m × (whole_fault file m ≡ None) × Lints m)
+Accepted (file ∷ []) held m = IsSomeAnd (held file) (λ bytes. ReadsTo bytes m × (whole_fault m ≡ None) × Lints m)
 Accepted (file ∷ other ∷ files) held m = ⊥
 
 -- THE FIRST FAULT
@@ -51,10 +46,10 @@ abbrev pub of_module : Module → FaultKind → Option Word → List ℕ → Fau
 of_module m k def path = record { kind = k; «module» = name_of m; def = def; path = place.Parts path }
 
 -- The first fault of a module: of it as a whole, or a premise of Lint that fails.
-pub data FaultOfModule (file : List ℕ) (m : Module) (f : Fault) : Type 0 where
-  as_whole : whole_fault file m ≡ Some f → FaultOfModule file m f
-  unlinted : (k : FaultKind) (def : Option Word) (path : List ℕ) → whole_fault file m ≡ None → module_lint m ≡ Err (At k def path)
-      → f ≡ of_module m k def path → FaultOfModule file m f
+pub data FaultOfModule (m : Module) (f : Fault) : Type 0 where
+  as_whole : whole_fault m ≡ Some f → FaultOfModule m f
+  unlinted : (k : FaultKind) (def : Option Word) (path : List ℕ) → whole_fault m ≡ None → module_lint m ≡ Err (At k def path)
+      → f ≡ of_module m k def path → FaultOfModule m f
 
 -- The first fault of a file that holds these bytes: there are more than a file may have, which stands at the byte that is one too
 -- many; else they have a first fault of reading; else they are a module that has a first fault.
@@ -63,7 +58,7 @@ pub data FaultOfBytes (file bytes : List ℕ) (f : Fault) : Type 0 where
       → FaultOfBytes file bytes f
   unread : (fault : ByteFault) → length bytes ≤ standard_limits.file_bytes → FirstReadFault bytes fault
       → f ≡ of_file fault.kind file (place.Byte fault.at) → FaultOfBytes file bytes f
-  faulty : (m : Module) → ReadsTo bytes m → FaultOfModule file m f → FaultOfBytes file bytes f
+  faulty : (m : Module) → ReadsTo bytes m → FaultOfModule m f → FaultOfBytes file bytes f
 
 -- the first fault of a file, which is missing where its name holds nothing
 abbrev pub FaultOfEntry : List ℕ → Option (List ℕ) → Fault → Type 0

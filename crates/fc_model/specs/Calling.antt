@@ -3,11 +3,12 @@
 use Rattle.std.specs.Prelude.{◌≡◌, ℕ, zero, suc, ◌+◌, Bool, true, false, not, ◌&&◌, ◌||◌, nat_eq, if◌then◌else◌, List, [], ◌∷◌, ◌++◌, length, map, Option, Some, None, Result, Ok, Err}
 use Rattle.std.specs.Str.{bytes_eq}
 use Rattle.fc_syntax.specs.declared.ty.Name.{Name}
+use Rattle.fc_syntax.specs.declared.ty.Role.{Role}
 use Rattle.fc_syntax.specs.declared.fault.FaultKind.{FaultKind}
 use Rattle.fc_syntax.specs.declared.fault.FaultKind.TheVariants.{ArgType, KindMismatch, NotForall, NotFunction, UnliftedNotAtom}
 use Rattle.fc_syntax.specs.Tree.{Word, Kind}
 use Rattle.fc_model.specs.Faulting.{F, At, need}
-use Rattle.fc_model.specs.Kinding.{Modules, param_kinds, same_kind, same_type}
+use Rattle.fc_model.specs.Kinding.{Modules, param_kinds, same_kind, same_role, same_type}
 use Rattle.fc_model.specs.Nameless.{NTy, NTVar, NTCon, NTInt, NTApp, NTFun, NTForall, NTCoForall, NParam, NConDecl, NConOf, NDecl, NData, NNew, NFamily, NAxiom, NDef, NWrap}
 use Rattle.fc_model.specs.Nameless.{NBinder, NBValue, NBType, NBCo}
 use Rattle.fc_model.specs.Substituting.{instantiated, raised_type}
@@ -52,6 +53,26 @@ at_type (NTApp s t) u = None
 at_type (NTFun s t) u = None
 at_type (NTForall k t) u = Some (instantiated u t)
 at_type (NTCoForall r s t v) u = None
+
+-- what takes a coercion: the role and the ends that it asks, and the type behind it
+abbrev pub coercion_asked : NTy → Option (Role × NTy × NTy × NTy)
+coercion_asked (NTVar i) = None
+coercion_asked (NTCon n) = None
+coercion_asked NTInt = None
+coercion_asked (NTApp t u) = None
+coercion_asked (NTFun t u) = None
+coercion_asked (NTForall k t) = None
+coercion_asked (NTCoForall r t u v) = Some (r, t, u, v)
+
+-- the name of a data type, newtype or family
+abbrev pub declared_name : NTy → Option Name
+declared_name (NTVar i) = None
+declared_name (NTCon n) = Some n
+declared_name NTInt = None
+declared_name (NTApp t u) = None
+declared_name (NTFun t u) = None
+declared_name (NTForall k t) = None
+declared_name (NTCoForall r t u v) = None
 
 abbrev pub application_ends : NTy → Option (NTy × NTy)
 application_ends (NTVar i) = None
@@ -168,10 +189,11 @@ constructor_type n k = over_binders (constructor_binders k) (constructed_type n 
 
 -- ARGUMENTS
 
--- an argument: a term of a type, which may be an atom, or a type of a kind
+-- an argument: a term of a type, which may be an atom, a type of a kind, or a coercion, which proves at a role that two types are equal
 pub data Given : Type 0 where
   GivenTerm : (t : NTy) (atom : Bool) → Given
   GivenType : (t : NTy) (k : Kind) → Given
+  GivenCoercion : (r : Role) (left right : NTy) → Given
 
 -- an unlifted place takes an atom
 abbrev pub atom_fits : NTy → Bool → Bool
@@ -189,12 +211,21 @@ abbrev pub applied_to_type : Option Kind → Option NTy → Kind → Result NTy 
 applied_to_type o (Some r) k = need (has_kind o k) KindMismatch (Ok r)
 applied_to_type o None k = Err (At NotForall None [])
 
+-- what is asked of a coercion is its role and its ends
+abbrev pub is_asked : Role × NTy × NTy × NTy → Role → NTy → NTy → Bool
+is_asked (o, s, t, u) r a b = same_role o r && (same_type s a && same_type t b)
+
+abbrev pub applied_to_coercion : Option (Role × NTy × NTy × NTy) → Role → NTy → NTy → Result NTy F
+applied_to_coercion (Some p) r a b = need (is_asked p r a b) ArgType (Ok p.3)
+applied_to_coercion None r a b = Err (At NotFunction None [])
+
 -- a head of type t applied to one argument
 abbrev pub applied : NTy → Given → Result NTy F
 applied t (GivenTerm u atom) = applied_to_term (function_ends t) u atom
 applied t (GivenType u k) = applied_to_type (forall_kind t) (at_type t u) k
+applied t (GivenCoercion r a b) = applied_to_coercion (coercion_asked t) r a b
 
--- how arguments meet what is asked: whether all kinds, all types and all atoms are right, and the type of the whole
+-- how arguments meet what is asked: whether all kinds, all types and ends, and all atoms are right, and the type of the whole
 pub record Met : Type 0 where
   pub kinds : Bool
   pub types : Bool
@@ -209,17 +240,22 @@ abbrev pub and_kind : Option Kind → Kind → Option Met → Option Met
 and_kind o k (Some m) = Some (record m { kinds = has_kind o k && m.kinds })
 and_kind o k None = None
 
+abbrev pub and_coercion : Bool → Option Met → Option Met
+and_coercion same (Some m) = Some (record m { types = same && m.types })
+and_coercion same None = None
+
 -- what is of type t takes arguments one by one; nothing where one is of another sort
 abbrev pub met : NTy → List Given → Option Met
 met t [] = Some (record { kinds = true; types = true; atoms = true; whole = t })
 met t (GivenTerm u atom ∷ gs) = from_some (λ ends. and_term ends.0 u atom (met ends.1 gs)) (function_ends t)
 met t (GivenType u k ∷ gs) = from_some (λ r. and_kind (forall_kind t) k (met r gs)) (at_type t u)
+met t (GivenCoercion r a b ∷ gs) = from_some (λ p. and_coercion (is_asked p r a b) (met p.3 gs)) (coercion_asked t)
 
 abbrev pub judged_met : FaultKind → Option Met → Result NTy F
 judged_met arity (Some m) = need m.kinds KindMismatch (need m.types ArgType (need m.atoms UnliftedNotAtom (Ok m.whole)))
 judged_met arity None = Err (At arity None [])
 
--- what takes this many arguments at once: their number and sorts, else the fault of arity; then all kinds, all types and all atoms
+-- what takes this many arguments at once: their number and sorts, else the fault of arity; then all kinds, all types and ends, and all atoms
 abbrev pub called : FaultKind → ℕ → NTy → List Given → Result NTy F
 called arity n t gs = need (nat_eq (length gs) n) arity (judged_met arity (met t gs))
 
@@ -232,6 +268,7 @@ pub data Takes : NTy → List Given → NTy → Type 0 where
   takes_nothing : {t : NTy} → Takes t [] t
   takes_term : {s r t : NTy} {atom : Bool} {gs : List Given} → atom_fits s atom ≡ true → Takes r gs t → Takes (NTFun s r) (GivenTerm s atom ∷ gs) t
   takes_type : {u r t : NTy} {k : Kind} {gs : List Given} → Takes (instantiated u r) gs t → Takes (NTForall k r) (GivenType u k ∷ gs) t
+  takes_coercion : {o : Role} {a b r t : NTy} {gs : List Given} → Takes r gs t → Takes (NTCoForall o a b r) (GivenCoercion o a b ∷ gs) t
 
 -- THE BINDERS OF AN ALTERNATIVE
 
@@ -252,6 +289,6 @@ abbrev pub same_as : Option NTy → NTy → Bool
 same_as (Some t) u = same_type t u
 same_as None u = false
 
--- binders of an alternative agree with the constructor at the types of the scrutinee: in number, sort, kinds and types
+-- binders of an alternative agree with the constructor at the types of the scrutinee: in number, sort, kinds, roles and types
 abbrev pub binders_fit : Name → Constructor → NTy → List NBinder → Bool
 binders_fit n k s bs = same_as (at_types (constructor_type n k) (type_arguments s)) (binders_to bs s)

@@ -130,6 +130,28 @@ head_kind_or_fault ms ks args (NTCoForall r t u v) =
 abbrev pub kind_or_fault : Modules → List Kind → NTy → Result Kind F
 kind_or_fault ms ks t = head_kind_or_fault ms ks 0 t
 
+-- FAMILIES
+
+-- a family of that many parameters
+abbrev pub is_family_of : Option NDecl → ℕ → Bool
+is_family_of (Some (NFamily n ps k)) args = nat_eq (length ps) args
+is_family_of (Some (NData n ps cs)) args = false
+is_family_of (Some (NNew n ps t con)) args = false
+is_family_of (Some (NAxiom n ps t u)) args = false
+is_family_of (Some (NDef n t e)) args = false
+is_family_of (Some (NWrap n t e)) args = false
+is_family_of None args = false
+
+-- a type, the head of that many arguments, that makes a family applied to exactly as many types as it has parameters
+abbrev pub is_family_applied : Modules → ℕ → NTy → Bool
+is_family_applied ms args (NTVar i) = false
+is_family_applied ms args (NTCon n) = is_family_of (type_decl (ms n.module) n.text) args
+is_family_applied ms args NTInt = false
+is_family_applied ms args (NTApp t u) = is_family_applied ms (suc args) t
+is_family_applied ms args (NTFun t u) = false
+is_family_applied ms args (NTForall k t) = false
+is_family_applied ms args (NTCoForall r t u v) = false
+
 -- The same by cases: a type, the head of that many arguments, has a kind.
 pub data HasHeadKind (ms : Modules) : List Kind → ℕ → NTy → Kind → Type 0 where
   kind_variable : {ks : List Kind} {args i : ℕ} {k : Kind} → at_distance ks i ≡ Ok k → HasHeadKind ms ks args (NTVar i) k

@@ -1,7 +1,9 @@
 pub mod Acceptance
 pub mod Calling
-pub mod Supported
 pub mod Canonical
+pub mod Coercing
+pub mod CoercingRules
+pub mod CoercionLaws
 pub mod DeclaredWords
 pub mod Declaring
 pub mod Erasure

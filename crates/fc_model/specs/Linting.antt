@@ -1,5 +1,5 @@
 -- Lint of a module: every premise of names, declarations and typing, in its order; and the first that fails.
-use Rattle.std.specs.Prelude.{◌≡◌, ℕ, suc, ◌+◌, Bool, true, false, ◌&&◌, nat_eq, List, [], ◌∷◌, length, reverse, Option, Some, None, Result, Ok, Err}
+use Rattle.std.specs.Prelude.{◌≡◌, ℕ, ◌+◌, Bool, true, ◌&&◌, List, [], ◌∷◌, length, reverse, None, Result, Ok, Err}
 use Rattle.std.specs.List.{list_all}
 use Rattle.fc_syntax.specs.declared.fault.FaultKind.TheVariants.{BadForm, ExportUnknown, NotAType, FamilyArity, UnliftedVariable, RoleTooWeak, KindsDiffer, UnliftedTop, DefType}
 use Rattle.fc_syntax.specs.declared.ty.Role.{Role}
@@ -8,12 +8,12 @@ use Rattle.fc_syntax.specs.Roles.{role_below}
 use Rattle.fc_syntax.specs.Tree.{Kind, KStar, KHash, KArrow, Module}
 use Rattle.fc_model.specs.Declaring.{ndecl_word, ndeclared_words}
 use Rattle.fc_model.specs.Faulting.{F, At, need, under, within, and_then}
-use Rattle.fc_model.specs.Kinding.{Modules, decls_at, is_lifted, is_star, is_value_kind, kind_or_fault, param_kinds, same_kind, same_type, type_decl}
-use Rattle.fc_model.specs.Nameless.{NTy, NTVar, NTCon, NTInt, NTApp, NTFun, NTForall, NTCoForall, NBinder, NBValue, NBType, NBCo, NParam, NParamOf}
+use Rattle.fc_model.specs.Kinding.{Modules, decls_at, is_family_applied, is_lifted, is_star, is_value_kind, kind_or_fault, param_kinds, same_kind, same_type}
+use Rattle.fc_model.specs.Nameless.{NTy, NBinder, NBValue, NBType, NBCo, NParam, NParamOf}
 use Rattle.fc_model.specs.Nameless.{NConDecl, NConOf, NDecl, NData, NNew, NFamily, NAxiom, NDef, NWrap, NExpr, NModule, NModuleOf}
 use Rattle.fc_model.specs.Needs.{need_in, need_in_cons}
 use Rattle.fc_model.specs.Resolution.{no_word, plus_all, resolved_or_fault}
-use Rattle.fc_model.specs.Typing.{no_context, type_or_fault}
+use Rattle.fc_model.specs.Typing.{kinds_behind, no_context, type_or_fault}
 
 -- nothing but whether there is a fault
 pub data Done : Type 0 where
@@ -40,12 +40,7 @@ con_binder_judged ms ks (NBValue t) = Err (At BadForm None [])
 con_binder_judged ms ks (NBType k) = need (is_lifted k) UnliftedVariable (Ok true)
 con_binder_judged ms ks (NBCo r t u) = and_then (under 0 (kind_or_fault ms ks t)) (λ j. and_then (under 1 (kind_or_fault ms ks u)) (λ k. Ok (same_kind j k)))
 
--- the kinds in scope behind a binder, and behind several
-abbrev pub kinds_behind : NBinder → List Kind → List Kind
-kinds_behind (NBValue t) ks = ks
-kinds_behind (NBType k) ks = k ∷ ks
-kinds_behind (NBCo r t u) ks = ks
-
+-- the kinds in scope behind binders
 abbrev pub kinds_behind_all : List NBinder → List Kind → List Kind
 kinds_behind_all [] ks = ks
 kinds_behind_all (b ∷ bs) ks = kinds_behind_all bs (kinds_behind b ks)
@@ -76,26 +71,6 @@ cons_judged ms ks i all (c ∷ cs) = and_then (under i (con_judged ms ks c)) (λ
 abbrev pub roles_judged : (ℕ → Role) → ℕ → List NParam → Result Done F
 roles_judged needed i [] = Ok done
 roles_judged needed i (NParamOf k r ∷ ps) = and_then (under i (need (role_below r (needed (length ps))) RoleTooWeak (Ok done))) (λ _. roles_judged needed (i + 1) ps)
-
--- a family of that many parameters
-abbrev pub is_family_of : Option NDecl → ℕ → Bool
-is_family_of (Some (NFamily n ps k)) args = nat_eq (length ps) args
-is_family_of (Some (NData n ps cs)) args = false
-is_family_of (Some (NNew n ps t con)) args = false
-is_family_of (Some (NAxiom n ps t u)) args = false
-is_family_of (Some (NDef n t e)) args = false
-is_family_of (Some (NWrap n t e)) args = false
-is_family_of None args = false
-
--- a type, the head of that many arguments, that makes a family applied to exactly as many types as it has parameters
-abbrev pub is_family_applied : Modules → ℕ → NTy → Bool
-is_family_applied ms args (NTVar i) = false
-is_family_applied ms args (NTCon n) = is_family_of (type_decl (ms n.module) n.text) args
-is_family_applied ms args NTInt = false
-is_family_applied ms args (NTApp t u) = is_family_applied ms (suc args) t
-is_family_applied ms args (NTFun t u) = false
-is_family_applied ms args (NTForall k t) = false
-is_family_applied ms args (NTCoForall r t u v) = false
 
 -- a type declaration: its parts, and then its own premises. Of data: that its fields are of kind `*` or `#`, and its roles; of a
 -- newtype: that its type is of kind `*`, and its roles; of a family: the kind of its result; of an axiom: that its left side is a

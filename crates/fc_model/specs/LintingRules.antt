@@ -6,8 +6,7 @@ use Rattle.fc_syntax.specs.declared.ty.Role.TheVariants.{R}
 use Rattle.fc_syntax.specs.Roles.{role_below}
 use Rattle.fc_syntax.specs.Tree.{Word, Kind, KStar}
 use Rattle.fc_model.specs.Declaring.{ndeclared_words}
-use Rattle.fc_model.specs.Kinding.{Modules, HasKind, decls_at, is_lifted, is_value_kind, param_kinds}
-use Rattle.fc_model.specs.Linting.{is_family_applied}
+use Rattle.fc_model.specs.Kinding.{Modules, HasKind, decls_at, is_family_applied, is_lifted, is_value_kind, param_kinds}
 use Rattle.fc_model.specs.Nameless.{NTy, NBinder, NBType, NBCo, NParam, NParamOf, NConDecl, NConOf, NDecl, NData, NNew, NFamily, NAxiom, NDef, NWrap, NExpr, NModule, NModuleOf}
 use Rattle.fc_model.specs.Needs.{need_in, need_in_cons}
 use Rattle.fc_model.specs.Resolution.{no_word, plus_all}

@@ -1,6 +1,6 @@
 -- Types in place of the variables of a type. A type that is put in below binders keeps its own variables: they are shifted past the
 -- binders, so that none is captured.
-use Rattle.std.specs.Prelude.{ℕ, zero, suc, ◌+◌, ◌<◌, Bool, false, ◌&&◌, ◌||◌, nat_le, nat_lt}
+use Rattle.std.specs.Prelude.{ℕ, zero, suc, ◌+◌, ◌<◌, Bool, false, ◌&&◌, ◌||◌, nat_le, nat_lt, List, [], ◌∷◌}
 use Rattle.fc_model.specs.Nameless.{NTy, NTVar, NTCon, NTInt, NTApp, NTFun, NTForall, NTCoForall}
 
 -- VARIABLES IN PLACE OF VARIABLES
@@ -48,6 +48,16 @@ substituted_type s (NTCoForall o t u v) = NTCoForall o (substituted_type s t) (s
 abbrev pub type_for_innermost : NTy → ℕ → NTy
 type_for_innermost u zero = u
 type_for_innermost u (suc i) = NTVar i
+
+-- a type for the innermost variable; what stood for the others stands for them one binder further in
+abbrev pub type_before : NTy → (ℕ → NTy) → ℕ → NTy
+type_before t s zero = t
+type_before t s (suc i) = s i
+
+-- types for variables that stand together, the last one for the innermost
+abbrev pub types_before : List NTy → (ℕ → NTy) → ℕ → NTy
+types_before [] s = s
+types_before (t ∷ ts) s = types_before ts (type_before t s)
 
 -- the body of a `forall` at a type
 abbrev pub instantiated : NTy → NTy → NTy

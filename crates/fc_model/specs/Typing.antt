@@ -2,15 +2,18 @@
 use Rattle.std.specs.Prelude.{ℕ, ℤ, ◌+◌, Bool, true, false, not, ◌&&◌, nat_lt, int_lt, if◌then◌else◌, List, [], ◌∷◌, length, map, Option, Some, None, Result, Ok, Err}
 use Rattle.std.specs.Str.{bytes_eq}
 use Rattle.fc_syntax.specs.declared.ty.Name.{Name}
+use Rattle.fc_syntax.specs.declared.ty.Role.{Role}
+use Rattle.fc_syntax.specs.declared.ty.Role.TheVariants.{R}
 use Rattle.fc_syntax.specs.declared.expr.Head.{Head}
 use Rattle.fc_syntax.specs.declared.expr.Head.TheVariants as head
 use Rattle.fc_syntax.specs.declared.fault.FaultKind.{FaultKind}
-use Rattle.fc_syntax.specs.declared.fault.FaultKind.TheVariants.{BadForm, Unbound, NotAType, UnliftedVariable, UnliftedNotAtom, AltType, AltOrder, AltConstructor, ConArity, ScrutineeType, LetType, LitAlt}
+use Rattle.fc_syntax.specs.declared.fault.FaultKind.TheVariants.{CastFrom, KindsDiffer, RoleWrong, Unbound, NotAType, UnliftedVariable, UnliftedNotAtom, AltType, AltOrder, AltConstructor, ConArity, ScrutineeType, LetType, LitAlt}
 use Rattle.fc_syntax.specs.declared.fault.FaultKind.TheVariants.{EscapingType, JumpArity, JumpNotTail, PrimArity}
 use Rattle.fc_syntax.specs.Tree.{Word, Kind}
-use Rattle.fc_model.specs.Calling.{Constructor, Given, GivenTerm, GivenType, applied, at_type, atom_fits, binders_fit, binders_to, called, constructed, constructor, data_name, from_some, function_ends, is_data_of, is_int, over_binder, type_count}
+use Rattle.fc_model.specs.Calling.{Constructor, Given, GivenTerm, GivenType, GivenCoercion, applied, at_type, atom_fits, binders_fit, binders_to, called, coercion_asked, constructed, constructor, data_name, from_some, function_ends, is_data_of, is_int, over_binder, type_count}
+use Rattle.fc_model.specs.Coercing.{Ends, ends_or_fault, shifted_ends}
 use Rattle.fc_model.specs.Faulting.{F, At, at_distance, need, under, and_then}
-use Rattle.fc_model.specs.Kinding.{Modules, is_lifted, is_star, is_value_kind, kind_or_fault, same_type}
+use Rattle.fc_model.specs.Kinding.{Modules, is_lifted, is_star, is_value_kind, kind_or_fault, same_kind, same_role, same_type}
 use Rattle.fc_model.specs.Nameless.{NTy, NTCon, NTInt, NTApp, NTFun, NParam, NDecl, NData, NNew, NFamily, NAxiom, NDef, NWrap}
 use Rattle.fc_model.specs.Nameless.{NBinder, NBValue, NBType, NBCo, NArg, NATerm, NAType, NACo, NBind, NBound, NJoinBind, NJoined, NAlt, NBranch}
 use Rattle.fc_model.specs.Nameless.{NExpr, NLocal, NVar, NLit, NApp, NLam, NLet, NCase, NCast, NCon, NPrim, NFail, NJoin, NJump}
@@ -25,14 +28,16 @@ pub record JoinPoint : Type 0 where
   pub type : NTy
   pub result : NTy
 
--- the kinds of the local type variables, the types of the local variables and the join points in tail reach, the innermost first
+-- the kinds of the local type variables, what the local coercion variables prove, the types of the local variables and the join points
+-- in tail reach, the innermost first
 pub record Context : Type 0 where
   pub kinds : List Kind
+  pub coercions : List Ends
   pub values : List NTy
   pub joins : List JoinPoint
 
 abbrev pub no_context : Context
-no_context = record { kinds = []; values = []; joins = [] }
+no_context = record { kinds = []; coercions = []; values = []; joins = [] }
 
 -- where what is answered is not the answer of the whole, no join point is in tail reach
 abbrev pub without_joins : Context → Context
@@ -41,12 +46,15 @@ without_joins c = record c { joins = [] }
 abbrev pub with_value : NTy → Context → Context
 with_value t c = record c { values = t ∷ c.values }
 
+abbrev pub with_coercion : Ends → Context → Context
+with_coercion e c = record c { coercions = e ∷ c.coercions }
+
 abbrev pub shifted_join : JoinPoint → JoinPoint
 shifted_join j = record j { type = shifted_type j.type; result = shifted_type j.result }
 
 -- behind a type variable, past which all types are shifted
 abbrev pub with_type : Kind → Context → Context
-with_type k c = record { kinds = k ∷ c.kinds; values = map shifted_type c.values; joins = map shifted_join c.joins }
+with_type k c = record { kinds = k ∷ c.kinds; coercions = map shifted_ends c.coercions; values = map shifted_type c.values; joins = map shifted_join c.joins }
 
 abbrev pub with_join : JoinPoint → Context → Context
 with_join j c = record c { joins = j ∷ c.joins }
@@ -54,7 +62,7 @@ with_join j c = record c { joins = j ∷ c.joins }
 abbrev pub with_binder : NBinder → Context → Context
 with_binder (NBValue t) c = with_value t c
 with_binder (NBType k) c = with_type k c
-with_binder (NBCo r t u) c = c
+with_binder (NBCo r t u) c = with_coercion (record { role = r; left = t; right = u }) c
 
 -- behind binders that stand together, the last one innermost
 abbrev pub with_binders : List NBinder → Context → Context
@@ -113,19 +121,18 @@ kinds_behind (NBValue t) ks = ks
 kinds_behind (NBType k) ks = k ∷ ks
 kinds_behind (NBCo r t u) ks = ks
 
--- a form that is not judged yet has no type
-abbrev pub unsupported : {X : Type 0} → Result X F
-unsupported = Err (At BadForm None [])
-
 abbrev pub value_owes : Kind → Option FaultKind
 value_owes k = if is_value_kind k then None else Some NotAType
 
+abbrev pub coercion_owes : Kind → Kind → Option FaultKind
+coercion_owes j k = if same_kind j k then None else Some KindsDiffer
+
 -- The premises of a binder itself, and the fault of the one that is asked of it only behind what stands below it: a value's type is
--- of kind `*` or `#`.
+-- of kind `*` or `#`, and a coercion's ends have one kind.
 abbrev pub binder_judged : Modules → List Kind → NBinder → Result (Option FaultKind) F
 binder_judged ms ks (NBValue t) = and_then (under 0 (kind_or_fault ms ks t)) (λ k. Ok (value_owes k))
 binder_judged ms ks (NBType k) = need (is_lifted k) UnliftedVariable (Ok None)
-binder_judged ms ks (NBCo r t u) = unsupported
+binder_judged ms ks (NBCo r t u) = and_then (under 0 (kind_or_fault ms ks t)) (λ j. and_then (under 1 (kind_or_fault ms ks u)) (λ k. Ok (coercion_owes j k)))
 
 abbrev pub first_fault : Option FaultKind → Option FaultKind → Option FaultKind
 first_fault (Some f) o = Some f
@@ -215,6 +222,10 @@ primitive_type = NTFun NTInt (NTFun NTInt NTInt)
 abbrev pub operated : List Given → Result NTy F
 operated gs = called PrimArity 2 primitive_type gs
 
+-- what is of type t, cast by a coercion that proves this
+abbrev pub cast : NTy → Ends → Result NTy F
+cast t p = need (same_role p.role R) RoleWrong (need (same_type p.left t) CastFrom (Ok p.right))
+
 -- TYPES OF EXPRESSIONS
 
 abbrev pub then_given : Given → Result (List Given) F → Result (List Given) F
@@ -237,7 +248,7 @@ abbrev mutual
       and_then (under 0 (type_or_fault ms (without_joins c) e)) (λ s. and_then (under 1 (kind_or_fault ms c.kinds xt)) (λ j. and_then (under 2 (kind_or_fault ms c.kinds rt)) (λ k.
       and_then (alts_judged ms (with_value xt c) s rt 3 Start alts) (λ b.
       need (same_type xt s) ScrutineeType (need (is_value_kind k) NotAType (Ok rt))))))
-  type_or_fault ms c (NCast e g) = unsupported
+  type_or_fault ms c (NCast e g) = and_then (under 0 (type_or_fault ms (without_joins c) e)) (λ t. and_then (under 1 (ends_or_fault ms c.kinds c.coercions g)) (λ p. cast t p))
   type_or_fault ms c (NCon n args) = and_then (args_given ms (without_joins c) 0 args) (λ gs. found_constructed n (constructor ms n) gs)
   type_or_fault ms c (NPrim op es) = and_then (operands_given ms (without_joins c) 0 es) (λ gs. operated gs)
   type_or_fault ms c (NFail t) = and_then (under 0 (kind_or_fault ms c.kinds t)) (λ k. need (is_value_kind k) NotAType (Ok t))
@@ -249,7 +260,7 @@ abbrev mutual
   pub argument_given : Modules → Context → NArg → Result Given F
   argument_given ms c (NATerm a) = and_then (type_or_fault ms c a) (λ t. Ok (GivenTerm t (is_atom a)))
   argument_given ms c (NAType u) = and_then (kind_or_fault ms c.kinds u) (λ k. Ok (GivenType u k))
-  argument_given ms c (NACo g) = unsupported
+  argument_given ms c (NACo g) = and_then (ends_or_fault ms c.kinds c.coercions g) (λ p. Ok (GivenCoercion p.role p.left p.right))
 
   -- arguments from part i on
   pub args_given : Modules → Context → ℕ → NArgs → Result (List Given) F
@@ -302,6 +313,14 @@ abbrev pub second_of : {X Y : Type 0} → Option (X × Y) → Option Y
 second_of (Some (x, y)) = Some y
 second_of None = None
 
+abbrev pub behind_coercion : Option (Role × NTy × NTy × NTy) → Option NTy
+behind_coercion (Some p) = Some p.3
+behind_coercion None = None
+
+abbrev pub right_end : Option Ends → Option NTy
+right_end (Some p) = Some p.right
+right_end None = None
+
 -- a type applied to the first arguments, as many as there are parameters, where they are types
 abbrev pub applied_to_types : NTy → List NParam → NArgs → Option NTy
 applied_to_types t [] args = Some t
@@ -318,11 +337,11 @@ type_read_off ms c (NVar n) = answered (value_type ms n)
 type_read_off ms c (NLit n) = Some NTInt
 type_read_off ms c (NApp f (NATerm a)) = from_some (λ t. second_of (function_ends t)) (type_read_off ms c f)
 type_read_off ms c (NApp f (NAType u)) = from_some (λ t. at_type t u) (type_read_off ms c f)
-type_read_off ms c (NApp f (NACo g)) = None
+type_read_off ms c (NApp f (NACo g)) = from_some (λ t. behind_coercion (coercion_asked t)) (type_read_off ms c f)
 type_read_off ms c (NLam b e) = from_some (λ u. Some (over_binder b u)) (type_read_off ms (with_binder b c) e)
 type_read_off ms c (NLet r bs e) = type_read_off ms (with_binds bs c) e
 type_read_off ms c (NCase e xt rt alts) = Some rt
-type_read_off ms c (NCast e g) = None
+type_read_off ms c (NCast e g) = right_end (answered (ends_or_fault ms c.kinds c.coercions g))
 type_read_off ms c (NCon n args) = from_some (constructed_at n args) (constructor ms n)
 type_read_off ms c (NPrim op es) = Some NTInt
 type_read_off ms c (NFail t) = Some t

@@ -1,14 +1,17 @@
 -- The type of an expression by cases: one constructor for each rule.
 use Rattle.std.specs.Prelude.{◌≡◌, ℕ, ℤ, Bool, true, false, not, ◌&&◌, if◌then◌else◌, List, [], ◌∷◌, length, Some, Ok}
 use Rattle.fc_syntax.specs.declared.ty.Name.{Name}
+use Rattle.fc_syntax.specs.declared.ty.Role.{Role}
+use Rattle.fc_syntax.specs.declared.ty.Role.TheVariants.{R}
 use Rattle.fc_syntax.specs.declared.expr.Head.TheVariants as head
 use Rattle.fc_syntax.specs.declared.expr.PrimOp.{PrimOp}
 use Rattle.fc_syntax.specs.Tree.{Kind, KStar}
-use Rattle.fc_model.specs.Calling.{Constructor, Given, GivenTerm, GivenType, Takes, atom_fits, binders_fit, constructor, constructor_binders, constructor_type, is_data_of, is_int, over_binder, type_count}
+use Rattle.fc_model.specs.Calling.{Constructor, Given, GivenTerm, GivenType, GivenCoercion, Takes, atom_fits, binders_fit, constructor, constructor_binders, constructor_type, is_data_of, is_int, over_binder, type_count}
+use Rattle.fc_model.specs.CoercingRules.{Proves}
 use Rattle.fc_model.specs.Faulting.{at_distance}
-use Rattle.fc_model.specs.Kinding.{Modules, HasKind, is_lifted, is_value_kind}
-use Rattle.fc_model.specs.Nameless.{NTy, NTInt, NBinder, NBValue, NBType, NATerm, NAType, NArg, NBound, NJoined, NBranch}
-use Rattle.fc_model.specs.Nameless.{NExpr, NLocal, NVar, NLit, NApp, NLam, NLet, NCase, NCon, NPrim, NFail, NJoin, NJump}
+use Rattle.fc_model.specs.Kinding.{Modules, HasKind, is_lifted, is_value_kind, same_kind}
+use Rattle.fc_model.specs.Nameless.{NTy, NTInt, NCo, NBinder, NBValue, NBType, NBCo, NATerm, NAType, NACo, NArg, NBound, NJoined, NBranch}
+use Rattle.fc_model.specs.Nameless.{NExpr, NLocal, NVar, NLit, NApp, NLam, NLet, NCase, NCast, NCon, NPrim, NFail, NJoin, NJump}
 use Rattle.fc_model.specs.Nameless.{NArgs, NoNArgs, MoreNArgs, NoNExprs, MoreNExprs, NBinds, NoNBinds, MoreNBinds, NJoins, NoNJoins, MoreNJoins, NAlts, NoNAlts, MoreNAlts}
 use Rattle.fc_model.specs.Substituting.{raised_type}
 use Rattle.fc_model.specs.Typing.{Context, JoinPoint, kinds_behind, is_atom, value_type, with_binder, with_binders, with_binds, with_joins, with_value, without_joins}
@@ -16,10 +19,13 @@ use Rattle.fc_model.specs.Typing.{Before, Start, AfterDefault, AfterLit, AfterCo
 
 -- BINDERS
 
--- a binder of values has a type that has a kind, one of types a kind without `#`; where it binds a parameter, its type is one of values
+-- A binder of values has a type that has a kind, one of types a kind without `#`, and one of coercions two types that have kinds; where
+-- it binds a parameter, the first is a type of values, and the last have one kind.
 pub data BinderIsKinded (ms : Modules) (owes : Bool) (ks : List Kind) : NBinder → Type 0 where
   value_binder : {t : NTy} (k : Kind) → HasKind ms ks t k → (if owes then is_value_kind k else true) ≡ true → BinderIsKinded ms owes ks (NBValue t)
   type_binder : {k : Kind} → is_lifted k ≡ true → BinderIsKinded ms owes ks (NBType k)
+  coercion_binder : {r : Role} {t u : NTy} (j k : Kind) → HasKind ms ks t j → HasKind ms ks u k → (if owes then same_kind j k else true) ≡ true
+      → BinderIsKinded ms owes ks (NBCo r t u)
 
 pub data BindersAreKinded (ms : Modules) (owes : Bool) : List Kind → List NBinder → Type 0 where
   no_binders : {ks : List Kind} → BindersAreKinded ms owes ks []
@@ -30,6 +36,7 @@ pub data BindersAreKinded (ms : Modules) (owes : Bool) : List Kind → List NBin
 pub data BodyFits (ms : Modules) (ks : List Kind) : NBinder → NTy → Type 0 where
   below_value : {t u : NTy} → BodyFits ms ks (NBValue t) u
   below_type : {k : Kind} {u : NTy} → HasKind ms (k ∷ ks) u KStar → BodyFits ms ks (NBType k) u
+  below_coercion : {r : Role} {s t u : NTy} → BodyFits ms ks (NBCo r s t) u
 
 -- EXPRESSIONS
 
@@ -47,6 +54,7 @@ mutual
         → HasType ms (with_binds bs c) e t → HasType ms c (NLet r bs e) t
     typed_case : {c : Context} {e : NExpr} {s rt : NTy} {alts : NAlts} (j k : Kind) → HasType ms (without_joins c) e s → HasKind ms c.kinds s j → HasKind ms c.kinds rt k
         → AltsFit ms (with_value s c) s rt Start alts → is_value_kind k ≡ true → HasType ms c (NCase e s rt alts) rt
+    typed_cast : {c : Context} {e : NExpr} {g : NCo} {s t : NTy} → HasType ms (without_joins c) e s → Proves ms c.kinds c.coercions g R s t → HasType ms c (NCast e g) t
     typed_con : {c : Context} {n : Name} {args : NArgs} {t : NTy} (k : Constructor) (gs : List Given) → constructor ms n ≡ Some k → ArgsAreGiven ms (without_joins c) args gs
         → length gs ≡ length (constructor_binders k) → Takes (constructor_type n k) gs t → HasType ms c (NCon n args) t
     typed_prim : {c : Context} {op : PrimOp} {a b : NExpr} → HasType ms (without_joins c) a NTInt → is_atom a ≡ true → HasType ms (without_joins c) b NTInt → is_atom b ≡ true
@@ -57,10 +65,11 @@ mutual
     typed_jump : {c : Context} {i : ℕ} {args : NArgs} (j : JoinPoint) (gs : List Given) (t : NTy) → at_distance c.joins i ≡ Ok j → ArgsAreGiven ms (without_joins c) args gs
         → length gs ≡ j.arity → Takes j.type gs t → HasType ms c (NJump i args) j.result
 
-  -- an argument is a term of a type, or a type of a kind
+  -- an argument is a term of a type, a type of a kind, or a coercion
   pub data ArgIsGiven (ms : Modules) : Context → NArg → Given → Type 0 where
     given_term : {c : Context} {e : NExpr} {t : NTy} → HasType ms c e t → ArgIsGiven ms c (NATerm e) (GivenTerm t (is_atom e))
     given_type : {c : Context} {t : NTy} {k : Kind} → HasKind ms c.kinds t k → ArgIsGiven ms c (NAType t) (GivenType t k)
+    given_coercion : {c : Context} {g : NCo} {r : Role} {s t : NTy} → Proves ms c.kinds c.coercions g r s t → ArgIsGiven ms c (NACo g) (GivenCoercion r s t)
 
   pub data ArgsAreGiven (ms : Modules) : Context → NArgs → List Given → Type 0 where
     no_args : {c : Context} → ArgsAreGiven ms c NoNArgs []

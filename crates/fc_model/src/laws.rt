@@ -1,4 +1,12 @@
 //! Laws of the definitions.
+ghost use Rattle.fc_model.specs.CoercionLaws.{
+  CoercionRenamingKeepsEnds,
+  CoercionReplacementKeepsEnds,
+  EndsAreByCases,
+  EndsAreUnique,
+  EndsHaveOneKind,
+  KindedIsSaturated,
+};
 ghost use Rattle.fc_model.specs.Laws.{
   ConstructorNeedsAreLeast,
   KindsAreByCases,
@@ -33,10 +41,12 @@ ghost use Rattle.fc_model.specs.TypingLaws.{
   ReplacementKeepsTypes,
   ResolvedHaveDistinctTypes,
   TypesAmongJoins,
+  TypesAtACoercion,
   TypesAtAType,
   TypesAtAValue,
   TypesAtArguments,
   TypesHaveKinds,
+  TypesPastACoercion,
   TypesPastAJoin,
   TypesPastAType,
   TypesPastAValue,
@@ -76,17 +86,31 @@ pub fn substitution_agrees()
     ensures instantiated_kinds { InstantiatingKeepsKinds }
 {}
 
-/// Expressions in place of variables and types in place of type variables: what stands in place of a variable and is of its type keeps
-/// the type of the whole, and what has a type has one of the kind of values.
+/// What a coercion proves as a function, which gives the first fault, and as a relation by cases are the same, and a coercion proves one
+/// thing at most; the types that it relates have one kind; and other coercion variables or coercions in place of its coercion variables,
+/// with types in place of its type variables, keep what it proves.
+pub fn coercions_agree()
+    ensures ends { EndsAreByCases }
+    ensures one_ends { EndsAreUnique }
+    ensures saturated { KindedIsSaturated }
+    ensures one_kind { EndsHaveOneKind }
+    ensures renaming { CoercionRenamingKeepsEnds }
+    ensures replacement { CoercionReplacementKeepsEnds }
+{}
+
+/// Expressions in place of variables, coercions in place of coercion variables and types in place of type variables: what stands in place
+/// of a variable and is of its type, or proves what it proves, keeps the type of the whole, and what has a type has one of the kind of values.
 pub fn typing_agrees()
     ensures renaming { RenamingKeepsTypes }
     ensures replacement { ReplacementKeepsTypes }
     ensures themselves { VariablesOfExpressionsForThemselves }
     ensures past_type { TypesPastAType }
+    ensures past_coercion { TypesPastACoercion }
     ensures past_value { TypesPastAValue }
     ensures past_join { TypesPastAJoin }
     ensures among_joins { TypesAmongJoins }
     ensures at_type { TypesAtAType }
+    ensures at_coercion { TypesAtACoercion }
     ensures at_value { TypesAtAValue }
     ensures arguments { ArgumentsFit }
     ensures at_arguments { TypesAtArguments }

@@ -9,5 +9,5 @@ mod word_set;
 
 pub use declared::{Declared, Spaces, word_of, words_declared};
 pub use flaw::{Flaw, Flawed, deeper, flaw_here, in_declaration, next_part};
-pub use laws::{judgements_agree, substitution_agrees};
+pub use laws::{coercions_agree, judgements_agree, substitution_agrees, typing_agrees};
 pub use word_set::WordSet;

@@ -8,9 +8,9 @@ ghost use Rattle.fc_types.specs.ModuleViews.{modules_of};
 use fc_syntax::{NDecl, Name, Param, Role};
 use fc_types::Declarations;
 
-/// The parameters of a data type or a newtype; none of another declaration.
+/// The parameters of a data type or a newtype; none of another declaration. Takes no memory.
 #[tactic(auto, using(fc_syntax::proofs::View::view_rules))]
-fn roled_params(decl: &NDecl) -> &[Param]
+pub fn roled_params(decl: &NDecl) -> &[Param]
     ensures { param_roles (nparams_of result.now) ≡ words.declared_roles (Some (ndecl_of decl.now)) }
 {
     match decl {
@@ -23,7 +23,7 @@ fn roled_params(decl: &NDecl) -> &[Param]
     }
 }
 
-/// The parameters of the data type or newtype of a name.
+/// The parameters of the data type or newtype of a name. Takes no memory.
 pub fn params_of_name<'d>(declared: &'d Declarations, name: &Name) -> &'d [Param]
     ensures { param_roles (nparams_of result.now) ≡ name_roles (modules_of declared.now) name.now }
 {
@@ -33,7 +33,7 @@ pub fn params_of_name<'d>(declared: &'d Declarations, name: &Name) -> &'d [Param
     }
 }
 
-/// The role of the first argument, where the type takes its arguments at the roles of these parameters.
+/// The role of the first argument, where the type takes its arguments at the roles of these parameters. Takes no memory.
 pub fn next_role(params: &[Param]) -> Role
     ensures { result ≡ words.next_role (param_roles (nparams_of params.now)) }
 {
@@ -43,7 +43,7 @@ pub fn next_role(params: &[Param]) -> Role
     }
 }
 
-/// The parameters behind the first.
+/// The parameters behind the first. Takes no memory.
 pub fn later_params(params: &[Param]) -> &[Param]
     ensures { param_roles (nparams_of result.now) ≡ later_roles (param_roles (nparams_of params.now)) }
 {

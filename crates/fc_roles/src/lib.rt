@@ -6,6 +6,7 @@ mod constructors;
 mod needs;
 mod types;
 
+pub use arguments::{later_params, next_role, params_of_name, roled_params};
 pub use constructors::needs_of_constructors;
-pub use needs::Needs;
+pub use needs::{Needs, role_within};
 pub use types::needs_of_type;

@@ -14,7 +14,7 @@ fn least(left: Role, right: Role) -> Role
     if left.below(right) { left } else { right }
 }
 
-/// The role of a part that stands at the inner role in what stands at the outer one.
+/// The role of a part that stands at the inner role in what stands at the outer one. Takes no memory.
 pub fn role_within(outer: Role, inner: Role) -> Role
     ensures { result ≡ words.role_within outer inner }
 {

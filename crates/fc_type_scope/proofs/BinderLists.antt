@@ -1,14 +1,15 @@
 -- What binders bind that stand together: one more of them, behind the others or before them.
 use Rattle.std.proofs.Common.{◌≡◌, suc, ◌+◌, List, [], ◌∷◌, ◌++◌, length, map, reverse, refl, sym, ap, ◌∙◌, arith, append_assoc}
 use Rattle.std.proofs.lemmas.List.{append-nil, reverse-append}
+use Rattle.fc_syntax.specs.declared.ty.Role.{Role}
 use Rattle.fc_syntax.specs.Tree.{Kind}
 use Rattle.fc_model.specs.Calling.{type_count}
+use Rattle.fc_model.specs.Coercing.{Ends, ends}
 use Rattle.fc_model.specs.Nameless.{NTy, NBinder, NBValue, NBType, NBCo}
 use Rattle.fc_model.specs.Substituting.{raised_type}
 use Rattle.fc_model.specs.Typing.{kinds_behind}
-use Rattle.fc_type_scope.specs.Behind.{binder_kinds, binder_values, kinds_past, value_count}
-use Rattle.fc_type_scope.proofs.Raising.{raised_none}
-use Rattle.fc_type_scope.proofs.Raising.{raised_twice}
+use Rattle.fc_type_scope.specs.Behind.{binder_coercions, binder_kinds, binder_values, kinds_past, raised_ends, value_count}
+use Rattle.fc_type_scope.proofs.Raising.{raised_none, raised_twice, same_ends}
 
 -- HOW MANY
 
@@ -104,3 +105,37 @@ pub binder_values-coercion : (bs : List NBinder) (b : NBinder) → type_count (b
 binder_values-coercion bs b e n =
     binder_values-append bs (b ∷ []) ∙ ap (λ m. map (raised_type m) (binder_values bs) ++ binder_values (b ∷ [])) e ∙ ap (λ ts. map (raised_type 0) (binder_values bs) ++ ts) n
     ∙ append-nil (map (raised_type 0) (binder_values bs)) ∙ all_raised_none (binder_values bs)
+
+-- COERCIONS
+
+pub all_ends_raised_none : (es : List Ends) → map (raised_ends 0) es ≡ es
+all_ends_raised_none [] = refl
+all_ends_raised_none (e ∷ es) = ap (λ d. d ∷ map (raised_ends 0) es) (same_ends (raised_ends 0 e) e refl (raised_none e.left) (raised_none e.right)) ∙ ap (λ ds. e ∷ ds) (all_ends_raised_none es)
+
+pub binder_coercions-append : (bs cs : List NBinder) → binder_coercions (bs ++ cs) ≡ map (raised_ends (type_count cs)) (binder_coercions bs) ++ binder_coercions cs
+unfolding binder_coercions
+binder_coercions-append [] cs = refl
+binder_coercions-append (NBValue t ∷ bs) cs = binder_coercions-append bs cs
+binder_coercions-append (NBType k ∷ bs) cs = binder_coercions-append bs cs
+binder_coercions-append (NBCo r t u ∷ bs) cs =
+    let m = type_count bs in
+    let n = type_count cs in
+    let here : raised_ends (type_count (bs ++ cs)) (ends r t u) ≡ raised_ends n (raised_ends m (ends r t u)) =
+    ap (λ i. raised_ends i (ends r t u)) (type_count-append bs cs)
+    ∙ same_ends (raised_ends (m + n) (ends r t u)) (raised_ends n (raised_ends m (ends r t u))) refl (sym (raised_twice m n t)) (sym (raised_twice m n u)) in
+    ap (λ e. e ∷ binder_coercions (bs ++ cs)) here ∙ ap (λ es. raised_ends n (raised_ends m (ends r t u)) ∷ es) (binder_coercions-append bs cs)
+
+-- a binder that binds neither a type nor a coercion leaves them
+pub binder_coercions-value : (bs : List NBinder) (t : NTy) → binder_coercions (bs ++ NBValue t ∷ []) ≡ binder_coercions bs
+unfolding binder_coercions
+binder_coercions-value bs t = binder_coercions-append bs (NBValue t ∷ []) ∙ append-nil (map (raised_ends 0) (binder_coercions bs)) ∙ all_ends_raised_none (binder_coercions bs)
+
+pub binder_coercions-type : (bs : List NBinder) (k : Kind) → binder_coercions (bs ++ NBType k ∷ []) ≡ map (raised_ends 1) (binder_coercions bs)
+unfolding binder_coercions
+binder_coercions-type bs k = binder_coercions-append bs (NBType k ∷ []) ∙ append-nil (map (raised_ends 1) (binder_coercions bs))
+
+pub binder_coercions-one : (bs : List NBinder) (r : Role) (t u : NTy) → binder_coercions (bs ++ NBCo r t u ∷ []) ≡ binder_coercions bs ++ ends r t u ∷ []
+unfolding binder_coercions
+binder_coercions-one bs r t u =
+    binder_coercions-append bs (NBCo r t u ∷ []) ∙ ap (λ es. es ++ raised_ends 0 (ends r t u) ∷ []) (all_ends_raised_none (binder_coercions bs))
+    ∙ ap (λ e. binder_coercions bs ++ e ∷ []) (same_ends (raised_ends 0 (ends r t u)) (ends r t u) refl (raised_none t) (raised_none u))

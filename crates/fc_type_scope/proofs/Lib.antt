@@ -1,10 +1,12 @@
 pub mod Backwards
 pub mod BinderLists
 pub mod Growing
+pub mod Items
 pub mod Leaving
 pub mod Numbers
 pub mod OneMore
 pub mod Owing
 pub mod Past
 pub mod PastBinders
+pub mod Proven
 pub mod Raising

@@ -4,20 +4,21 @@ use Rattle.std.proofs.lemmas.Grind.{reverse_onto}
 use Rattle.std.proofs.lemmas.List.{length-reverse}
 use Rattle.fc_syntax.specs.Tree.{Kind}
 use Rattle.fc_model.specs.Calling.{type_count}
+use Rattle.fc_model.specs.Coercing.{Ends, ends, shifted_ends}
 use Rattle.fc_model.specs.Nameless.{NTy, NBinder, NBValue, NBType, NBCo}
 use Rattle.fc_model.specs.Substituting.{raised_type, shifted_type}
-use Rattle.fc_model.specs.Typing.{Context, JoinPoint, shifted_join, with_binders, with_type, with_value}
+use Rattle.fc_model.specs.Typing.{Context, JoinPoint, shifted_join, with_binders, with_coercion, with_type, with_value}
 use Rattle.fc_types.specs.KindViews.{kinds_of, own_kinds}
 use Rattle.fc_type_table.specs.TypeTables.{IsType, shown}
 use Rattle.fc_type_table.specs.TypeTables.{nodes_of}
 use Rattle.fc_type_table.specs.declared.node.Node.{Node}
 use Rattle.fc_type_table.specs.declared.node.TypeId.{TypeId}
 use Rattle.fc_type_table.specs.declared.table.TypeTable.{TypeTable}
-use Rattle.fc_type_scope.specs.Behind.{IsEntered, binder_kinds, binder_values, context_past, kinds_past, raised_join}
+use Rattle.fc_type_scope.specs.Behind.{IsEntered, binder_coercions, binder_kinds, binder_values, context_past, kinds_past, raised_ends, raised_join}
 use Rattle.fc_type_scope.specs.Scopes.{AreTypes, scope_in, shown_all}
 use Rattle.fc_type_scope.specs.declared.entering.Entered as code
 use Rattle.fc_type_scope.specs.declared.scope.TypeScope as scopes
-use Rattle.fc_type_scope.proofs.BinderLists.{all_raised_none, kinds_past-first, kinds_past-none, length-binder_kinds}
+use Rattle.fc_type_scope.proofs.BinderLists.{all_ends_raised_none, all_raised_none, kinds_past-first, kinds_past-none, length-binder_kinds}
 use Rattle.fc_type_scope.proofs.Numbers.{AreTypesAt-behind, AreTypesAt-past, shown_all-behind, shown_all-past}
 use Rattle.fc_type_scope.proofs.Past.{IsTypeAt-past, shown_at-past}
 use Rattle.fc_type_scope.proofs.Raising.{raised_none}
@@ -78,12 +79,18 @@ same_join : (j k : JoinPoint) → j.arity ≡ k.arity → j.type ≡ k.type → 
 unfolding joined
 same_join j k n t u = ap (λ m. joined m j.type j.result) n ∙ ap (λ v. joined k.arity v j.result) t ∙ ap (λ v. joined k.arity k.type v) u
 
-context_of : List Kind → List NTy → List JoinPoint → Context
-context_of ks ts js = record { kinds = ks; values = ts; joins = js }
+context_of : List Kind → List Ends → List NTy → List JoinPoint → Context
+context_of ks es ts js = record { kinds = ks; coercions = es; values = ts; joins = js }
 
-same_context : (c d : Context) → c.kinds ≡ d.kinds → c.values ≡ d.values → c.joins ≡ d.joins → c ≡ d
+pub same_context : (c d : Context) → c.kinds ≡ d.kinds → c.coercions ≡ d.coercions → c.values ≡ d.values → c.joins ≡ d.joins → c ≡ d
 unfolding context_of
-same_context c d k v j = ap (λ ks. context_of ks c.values c.joins) k ∙ ap (λ ts. context_of d.kinds ts c.joins) v ∙ ap (λ js. context_of d.kinds d.values js) j
+same_context c d k p v j =
+    ap (λ ks. context_of ks c.coercions c.values c.joins) k ∙ ap (λ es. context_of d.kinds es c.values c.joins) p ∙ ap (λ ts. context_of d.kinds d.coercions ts c.joins) v
+    ∙ ap (λ js. context_of d.kinds d.coercions d.values js) j
+
+all_ends_raised_shifted : (m : ℕ) (es : List Ends) → map (raised_ends m) (map shifted_ends es) ≡ map (raised_ends (suc m)) es
+all_ends_raised_shifted m [] = refl
+all_ends_raised_shifted m (e ∷ es) = cc (raised_shifted m e.left, raised_shifted m e.right, all_ends_raised_shifted m es)
 
 all_joins_raised_none : (js : List JoinPoint) → map (raised_join 0) js ≡ js
 all_joins_raised_none [] = refl
@@ -100,18 +107,24 @@ all_joins_raised_shifted m (j ∷ js) =
 
 -- what binders bring to a context, all at once
 pub with_binders-is : (bs : List NBinder) (c : Context) → with_binders bs c ≡ context_past bs c
-unfolding context_past binder_values
-with_binders-is [] c = same_context _ _ (sym (kinds_past-none c.kinds)) (sym (all_raised_none c.values)) (sym (all_joins_raised_none c.joins))
+unfolding context_past binder_values binder_coercions
+with_binders-is [] c =
+    same_context _ _ (sym (kinds_past-none c.kinds)) (sym (all_ends_raised_none c.coercions)) (sym (all_raised_none c.values)) (sym (all_joins_raised_none c.joins))
 with_binders-is (NBValue t ∷ bs) c =
     let m = type_count bs in
     with_binders-is bs (with_value t c)
-    ∙ same_context _ _ (sym (kinds_past-first (NBValue t) bs c.kinds))
+    ∙ same_context _ _ (sym (kinds_past-first (NBValue t) bs c.kinds)) refl
     (sym (ap (λ ts. ts ++ map (raised_type m) c.values) (reverse_onto (binder_values bs) (raised_type m t) []) ∙ append_assoc (reverse (binder_values bs)) (raised_type m t ∷ []) (map (raised_type m) c.values))) refl
 with_binders-is (NBType k ∷ bs) c =
     let m = type_count bs in
     with_binders-is bs (with_type k c)
-    ∙ same_context _ _ (sym (kinds_past-first (NBType k) bs c.kinds)) (ap (λ ts. reverse (binder_values bs) ++ ts) (all_raised_shifted m c.values)) (all_joins_raised_shifted m c.joins)
-with_binders-is (NBCo r t u ∷ bs) c = with_binders-is bs c ∙ same_context _ _ (sym (kinds_past-first (NBCo r t u) bs c.kinds)) refl refl
+    ∙ same_context _ _ (sym (kinds_past-first (NBType k) bs c.kinds)) (ap (λ es. reverse (binder_coercions bs) ++ es) (all_ends_raised_shifted m c.coercions)) (ap (λ ts. reverse (binder_values bs) ++ ts) (all_raised_shifted m c.values)) (all_joins_raised_shifted m c.joins)
+with_binders-is (NBCo r t u ∷ bs) c =
+    let m = type_count bs in
+    let e = ends r (raised_type m t) (raised_type m u) in
+    with_binders-is bs (with_coercion (ends r t u) c)
+    ∙ same_context _ _ (sym (kinds_past-first (NBCo r t u) bs c.kinds))
+    (sym (ap (λ es. es ++ map (raised_ends m) c.coercions) (reverse_onto (binder_coercions bs) e []) ∙ append_assoc (reverse (binder_coercions bs)) (e ∷ []) (map (raised_ends m) c.coercions))) refl refl
 
 -- the parts of a context behind binders
 pub kinds_behind_binders : (bs : List NBinder) (c : Context) → (with_binders bs c).kinds ≡ kinds_past bs c.kinds
@@ -122,9 +135,13 @@ pub values_behind_binders : (bs : List NBinder) (c : Context) → (with_binders 
 unfolding context_past
 values_behind_binders bs c = ap (λ (d : Context). d.values) (with_binders-is bs c)
 
+pub coercions_behind_binders : (bs : List NBinder) (c : Context) → (with_binders bs c).coercions ≡ reverse (binder_coercions bs) ++ map (raised_ends (type_count bs)) c.coercions
+unfolding context_past
+coercions_behind_binders bs c = ap (λ (d : Context). d.coercions) (with_binders-is bs c)
+
 pub joins_behind_binders : (bs : List NBinder) (c : Context) → (with_binders bs c).joins ≡ map (raised_join (type_count bs)) c.joins
 unfolding context_past
 joins_behind_binders bs c = ap (λ (d : Context). d.joins) (with_binders-is bs c)
 
 -- what a caller needs that goes behind binders
-pub ruleset entry_rules = (scope_in-is, entered_kinds, length-binder_kinds, IsType-behind, shown-behind, AreTypes-behind, shown_all-raised, entered_valid, entered_shown, kinds_behind_binders, values_behind_binders, joins_behind_binders)
+pub ruleset entry_rules = (scope_in-is, entered_kinds, length-binder_kinds, IsType-behind, shown-behind, AreTypes-behind, shown_all-raised, entered_valid, entered_shown, kinds_behind_binders, coercions_behind_binders, values_behind_binders, joins_behind_binders)

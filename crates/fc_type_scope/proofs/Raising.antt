@@ -1,5 +1,6 @@
 -- Types past type variables, one after the other and back.
 use Rattle.std.proofs.Common.{◌≡◌, ℕ, zero, suc, ◌+◌, ◌-◌, List, [], ◌∷◌, map, refl, sym, ap, ◌∙◌, arith}
+use Rattle.fc_model.specs.Coercing.{Ends, ends}
 use Rattle.fc_model.specs.Nameless.{NTy, NTVar, NTCon, NTInt, NTApp, NTFun, NTForall, NTCoForall}
 use Rattle.fc_model.specs.Substituting.{raised_type, renamed_type, renaming_below, shifted_type}
 
@@ -69,3 +70,7 @@ raised_apart m s t e = sym (raised_back m s) ∙ ap (renamed_type (λ i. i - m))
 pub all_raised_twice : (m n : ℕ) (ts : List NTy) → map (raised_type n) (map (raised_type m) ts) ≡ map (raised_type (m + n)) ts
 all_raised_twice m n [] = refl
 all_raised_twice m n (t ∷ ts) = cc (raised_twice m n t, all_raised_twice m n ts)
+
+-- what is proved, by its parts
+pub same_ends : (d e : Ends) → d.role ≡ e.role → d.left ≡ e.left → d.right ≡ e.right → d ≡ e
+same_ends d e r t u = ap (λ o. ends o d.left d.right) r ∙ ap (λ v. ends e.role v d.right) t ∙ ap (λ v. ends e.role e.left v) u

@@ -13,7 +13,7 @@ ghost use Rattle.fc_type_scope.specs.Scopes.{scope_in};
 use crate::scope::TypeScope;
 use fc_model::{Flawed, deeper, flaw_here, next_part};
 use fc_syntax::{FaultKind, Memory, NBinder, Seq};
-use fc_types::{Declarations, Kinds, LocalKind, is_lifted, is_value_kind, kind_of_part};
+use fc_types::{Declarations, Kinds, LocalKind, is_lifted, is_value_kind, kind_of_part, same_kind};
 use std::alloc::Global;
 
 /// Puts the kind of a binder's type variable, if it binds one, behind others.
@@ -64,7 +64,15 @@ fn premises_of<'x>(
                 Err(flaw_here(alloc, FaultKind::UnliftedVariable))
             }
         }
-        NBinder::OfCo(_, _, _, _) => Err(flaw_here(alloc, FaultKind::BadForm)),
+        NBinder::OfCo(_, _, left, right) => {
+            let left = kind_of_part(alloc, left, declared, &*kinds, 0)?;
+            let right = kind_of_part(alloc, right, declared, &*kinds, 1)?;
+            if same_kind(&left, &right) {
+                Ok(None)
+            } else {
+                Ok(Some(FaultKind::KindsDiffer))
+            }
+        }
     }
 }
 

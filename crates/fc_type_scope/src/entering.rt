@@ -11,6 +11,7 @@ ghost use Rattle.fc_type_scope.specs.Scopes.{scope_in};
 ghost use Rattle.fc_type_table.specs.TypeTables.{Grows, IsType, nodes_of, shown};
 
 use crate::binders::add_kind;
+use crate::ends::Ends;
 use crate::scope::TypeScope;
 use fc_syntax::{Memory, NBinder, NTy, Role, Seq};
 use fc_type_table::{TypeId, TypeTable};
@@ -22,6 +23,8 @@ use std::alloc::Global;
 pub struct Entered<'a> {
     /// The kinds of their type variables, in their order.
     pub kinds: Seq<LocalKind<'a>>,
+    /// What their coercion variables prove, in their order.
+    pub coercions: Seq<Ends>,
     /// The types of their values, in their order.
     pub values: Seq<TypeId>,
 }
@@ -75,7 +78,11 @@ impl<'x> TypeScope<'x> {
                 entered.values.push(id)
             }
             NBinder::OfType(_, _) => add_kind(&mut entered.kinds, binder),
-            NBinder::OfCo(_, _, _, _) => Ok(()),
+            NBinder::OfCo(_, role, left, right) => {
+                let kinds = entered.kinds_behind(self.kinds);
+                let ends = TypeScope { kinds: &kinds }.read_ends(*role, left, right, types)?;
+                entered.coercions.push(ends)
+            }
         }
     }
 
@@ -91,6 +98,7 @@ impl<'x> TypeScope<'x> {
     {
         let mut entered = Entered {
             kinds: Seq::new(alloc),
+            coercions: Seq::new(alloc),
             values: Seq::new(alloc),
         };
         for binder in binders {
@@ -111,6 +119,7 @@ impl<'x> TypeScope<'x> {
     {
         let mut entered = Entered {
             kinds: Seq::new(alloc),
+            coercions: Seq::new(alloc),
             values: Seq::new(alloc),
         };
         self.enter_binder(&mut entered, binder, types)?;

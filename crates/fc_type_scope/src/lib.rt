@@ -2,9 +2,11 @@
 #![tactic(auto)]
 
 mod binders;
+mod ends;
 mod entering;
 mod scope;
 mod scoped;
 
+pub use ends::Ends;
 pub use entering::Entered;
 pub use scope::TypeScope;

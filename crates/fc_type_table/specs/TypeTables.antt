@@ -1,8 +1,9 @@
 -- What the contracts of a table of types speak of.
-use Rattle.std.specs.Prelude.{◌≡◌, ℕ, ◌+◌, ◌<◌, List, length}
+use Rattle.std.specs.Prelude.{◌≡◌, ℕ, ◌+◌, ◌<◌, List, length, Option}
+use Rattle.fc_syntax.specs.declared.ty.Name.{Name}
 use Rattle.fc_syntax.specs.Tree.{Kind}
-use Rattle.fc_model.specs.Kinding.{Modules}
-use Rattle.fc_model.specs.Nameless.{NTy}
+use Rattle.fc_model.specs.Kinding.{Modules, type_decl}
+use Rattle.fc_model.specs.Nameless.{NDecl, NTy}
 use Rattle.fc_model.specs.Substituting.{renamed_type}
 use Rattle.fc_types.specs.ModuleViews.{modules_of}
 use Rattle.fc_type_table.specs.Nodes.{Extends, IsKindAt, kind_at}
@@ -47,3 +48,7 @@ pub record Grows (old new : TypeTable) : Type 0 where
 -- a type past more type variables of the context, all of them further in
 abbrev pub past : ℕ → NTy → NTy
 past more t = renamed_type (λ i. i + more) t
+
+-- the declaration of the type of a name
+abbrev pub declaration_in : Modules → Name → Option NDecl
+declaration_in ms n = type_decl (ms n.module) n.text

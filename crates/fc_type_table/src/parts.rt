@@ -1,15 +1,17 @@
 //! What a type in a table is.
 ghost use Rattle.std.specs.Prelude.{◌≡◌, List, ◌++◌, length, Bool, true, false, IfSome};
-ghost use Rattle.std.specs.Option.{option_map};
+ghost use Rattle.std.specs.Option.{option_and_then, option_map};
 ghost use Rattle.fc_syntax.specs.Tree as trees;
 ghost use Rattle.fc_model.specs.Nameless as types;
 ghost use Rattle.fc_model.specs.Kinding.{same_type};
 ghost use Rattle.fc_model.specs.Calling.{is_int};
-ghost use Rattle.fc_model.specs.Calling.{application_ends, forall_kind, function_ends};
-ghost use Rattle.fc_type_table.specs.TypeTables.{IsKindId, IsNumber, IsType, kind_shown, past, shown};
+ghost use Rattle.fc_model.specs.NamelessView.{ndecl_of};
+ghost use Rattle.fc_model.specs.Calling.{application_ends, coercion_asked, declared_name, forall_kind, function_ends};
+ghost use Rattle.fc_type_table.specs.TypeTables.{IsKindId, IsNumber, IsType, declaration_in, kind_shown, modules_in, past, shown};
 
 use crate::node::{Piece, TypeId};
 use crate::table::TypeTable;
+use fc_syntax::{NDecl, Role};
 
 impl<'a> TypeTable<'a> {
     /// Whether two types are the same. Takes no memory, and no time that grows with the types.
@@ -105,6 +107,50 @@ impl<'a> TypeTable<'a> {
             Piece::App(_, _) => None,
             Piece::Fun(_, _) => None,
             Piece::Forall(kind, _) => Some(kind),
+            Piece::CoForall(_, _, _, _) => None,
+        }
+    }
+
+    /// What takes a coercion: the role and the ends that it asks, and the type behind it, if the type is one. Takes no memory.
+    #[tactic(auto, unfolding(crate::specs::Scopes::shown_at, crate::specs::Scopes::indexed))]
+    pub fn coercion_asked(&self, id: TypeId) -> Option<(Role, TypeId, TypeId, TypeId)>
+        requires { IsNumber self.now id }
+        ensures numbers { IfSome result (λ p. IsNumber self.now p.1 × IsNumber self.now p.2 × IsNumber self.now p.3) }
+        ensures valid { IfSome result (λ p. (ks : List trees.Kind) → IsType self.now ks id → IsType self.now ks p.1 × IsType self.now ks p.2 × IsType self.now ks p.3) }
+        ensures view { (ks : List trees.Kind) → option_map (λ p. (p.0, shown self.now ks p.1, shown self.now ks p.2, shown self.now ks p.3)) result ≡ coercion_asked (shown self.now ks id) }
+    {
+        match self.piece(id) {
+            Piece::Star => None,
+            Piece::Hash => None,
+            Piece::Arrow(_, _) => None,
+            Piece::Bound(_, _) => None,
+            Piece::Free(_, _) => None,
+            Piece::Con(_) => None,
+            Piece::IntHash => None,
+            Piece::App(_, _) => None,
+            Piece::Fun(_, _) => None,
+            Piece::Forall(_, _) => None,
+            Piece::CoForall(role, left, right, body) => Some((role, left, right, body)),
+        }
+    }
+
+    /// The declaration of a data type, newtype or family, if the type is the name of one. Takes no memory.
+    #[tactic(auto, unfolding(crate::specs::Scopes::shown_at, crate::specs::Scopes::indexed))]
+    pub fn declaration(&self, id: TypeId) -> Option<&NDecl>
+        requires { IsNumber self.now id }
+        ensures { (ks : List trees.Kind) → option_map (λ d. ndecl_of d.now) result ≡ option_and_then (declaration_in (modules_in self.now)) (declared_name (shown self.now ks id)) }
+    {
+        match self.piece(id) {
+            Piece::Star => None,
+            Piece::Hash => None,
+            Piece::Arrow(_, _) => None,
+            Piece::Bound(_, _) => None,
+            Piece::Free(_, _) => None,
+            Piece::Con(name) => self.declarations().type_at(name.module, name.text),
+            Piece::IntHash => None,
+            Piece::App(_, _) => None,
+            Piece::Fun(_, _) => None,
+            Piece::Forall(_, _) => None,
             Piece::CoForall(_, _, _, _) => None,
         }
     }

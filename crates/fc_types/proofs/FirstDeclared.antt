@@ -1,6 +1,6 @@
 -- The first declaration of a word in src means the first declaration of the word.
-use Rattle.std.proofs.Common.{◌≡◌, refl, ap, ℕ, ◌+◌, true, false, List, [], ◌∷◌, Option, Some, None, Ok, if◌then◌else◌}
-use Rattle.std.specs.Option.{option_map}
+use Rattle.std.proofs.Common.{◌≡◌, refl, ap, ℕ, ◌+◌, Bool, true, false, List, [], ◌∷◌, Option, Some, None, Ok, if◌then◌else◌}
+use Rattle.std.specs.Option.{option_and_then, option_map}
 use Rattle.std.specs.Str.{bytes_eq}
 use Rattle.fc_syntax.specs.Tree.{Word}
 use Rattle.fc_syntax.specs.declared.module.ConDecl.{ConDecl}
@@ -13,10 +13,11 @@ use Rattle.fc_model.specs.Kinding.{type_decl}
 use Rattle.fc_model.specs.Nameless as pure
 use Rattle.fc_model.specs.NamelessView.{ncons_of, ndecl_of, ndecls_of, nparams_of, nty_of}
 use Rattle.fc_model.specs.Calling.{con_among, con_decl, first_of}
+use Rattle.fc_model.specs.Coercing.{axiom_decl}
 use Rattle.fc_model.specs.Typing.{def_type}
-use Rattle.fc_types.specs.FirstDeclared.{first_constructor, first_definition, first_type_decl, numbered_among}
+use Rattle.fc_types.specs.FirstDeclared.{first_axiom, first_constructor, first_definition, first_type_decl, numbered_among}
 use Rattle.fc_types.specs.Tables.{at, found}
-use Rattle.fc_types.specs.TableViews.{HasConstructors, HasDefinitions, HasTypes, constructor_at, constructor_of, numbered}
+use Rattle.fc_types.specs.TableViews.{HasAxioms, HasConstructors, HasDefinitions, HasTypes, axiom_of, constructor_at, constructor_of, numbered}
 use Rattle.fc_types.specs.declared.tables.DeclaredCon.{DeclaredCon}
 use Rattle.indexmap.specs.IndexMap.{IndexMap}
 use denote.Ref.{Bor}
@@ -33,6 +34,20 @@ types_view (D.Family n ps k ∷ ds) w = elim (bytes_eq n w) as (λ b. option_map
 types_view (D.Axiom n ps t u ∷ ds) w = types_view ds w
 types_view (D.Def n t e ∷ ds) w = types_view ds w
 types_view (D.Wrap n t e ∷ ds) w = types_view ds w
+
+-- the first axiom is that of the first declaration that has one
+axiom_found_first : (m : Option Word) (d : Decl ℕ Ref) (b : Bool) (o : Option (Decl ℕ Ref)) → option_and_then (axiom_of m) (option_map ndecl_of (if b then Some d else o)) ≡ (if b then axiom_of m (ndecl_of d) else option_and_then (axiom_of m) (option_map ndecl_of o))
+axiom_found_first m d true o = refl
+axiom_found_first m d false o = refl
+
+axioms_view : (m : Option Word) (ds : List (Decl ℕ Ref)) (w : Word) → option_and_then (axiom_of m) (option_map ndecl_of (first_axiom ds w)) ≡ axiom_decl m (ndecls_of ds) w
+axioms_view m [] w = refl
+axioms_view m (D.DataType n ps cs ∷ ds) w = axioms_view m ds w
+axioms_view m (D.NewType n ps t con ∷ ds) w = rw (axiom_found_first m (D.NewType n ps t con) (bytes_eq con w) (first_axiom ds w), axioms_view m ds w) refl
+axioms_view m (D.Family n ps k ∷ ds) w = axioms_view m ds w
+axioms_view m (D.Axiom n ps t u ∷ ds) w = rw (axiom_found_first m (D.Axiom n ps t u) (bytes_eq n w) (first_axiom ds w), axioms_view m ds w) refl
+axioms_view m (D.Def n t e ∷ ds) w = axioms_view m ds w
+axioms_view m (D.Wrap n t e ∷ ds) w = axioms_view m ds w
 
 pub definitions_view : (ds : List (Decl ℕ Ref)) (w : Word) → found (option_map nty_of (first_definition ds w)) ≡ def_type (ndecls_of ds) w
 definitions_view [] w = refl
@@ -64,6 +79,11 @@ constructors_view (D.Wrap n t e ∷ ds) w = constructors_view ds w
 pub type_found : {S : Type 0} (table : IndexMap (Bor (List ℕ)) (Bor (Decl ℕ Ref)) S) (ds : List (Decl ℕ Ref)) (p : List pure.NDecl) (w v : Word) (o : Option (Bor (Decl ℕ Ref)))
     → o ≡ at table v → v ≡ w → HasTypes ds table → p ≡ ndecls_of ds → option_map (λ d. ndecl_of d.now) o ≡ type_decl p w
 type_found table ds p w v o found_at same has e = rw (e, found_at, same, ← types_view ds w, ← has w) (mapped (λ d. d.now) ndecl_of (at table w))
+
+pub axiom_found : {S : Type 0} (table : IndexMap (Bor (List ℕ)) (Bor (Decl ℕ Ref)) S) (ds : List (Decl ℕ Ref)) (p : List pure.NDecl) (m : Option Word) (w v : Word) (o : Option (Bor (Decl ℕ Ref)))
+    → o ≡ at table v → v ≡ w → HasAxioms ds table → p ≡ ndecls_of ds → option_and_then (axiom_of m) (option_map (λ d. ndecl_of d.now) o) ≡ axiom_decl m p w
+axiom_found table ds p m w v o found_at same has e =
+    rw (e, found_at, same, ← axioms_view m ds w, ← has w) (ap (option_and_then (axiom_of m)) (mapped (λ d. d.now) ndecl_of (at table w)))
 
 pub definition_found : {S : Type 0} (table : IndexMap (Bor (List ℕ)) (Bor (Ty ℕ)) S) (ds : List (Decl ℕ Ref)) (p : List pure.NDecl) (w v : Word) (o : Option (Bor (Ty ℕ)))
     → o ≡ at table v → v ≡ w → HasDefinitions ds table → p ≡ ndecls_of ds → found (option_map (λ t. nty_of t.now) o) ≡ def_type p w

@@ -23,6 +23,19 @@ abbrev pub first_type_decl : List (Decl ℕ Ref) → Word → Option (Decl ℕ R
 first_type_decl [] w = None
 first_type_decl (d ∷ ds) w = if is_type_of d w then Some d else first_type_decl ds w
 
+-- whether a declaration has the axiom of a word
+abbrev pub has_axiom : Decl ℕ Ref → Word → Bool
+has_axiom (D.DataType n ps cs) w = false
+has_axiom (D.NewType n ps t con) w = bytes_eq con w
+has_axiom (D.Family n ps k) w = false
+has_axiom (D.Axiom n ps t u) w = bytes_eq n w
+has_axiom (D.Def n t e) w = false
+has_axiom (D.Wrap n t e) w = false
+
+abbrev pub first_axiom : List (Decl ℕ Ref) → Word → Option (Decl ℕ Ref)
+first_axiom [] w = None
+first_axiom (d ∷ ds) w = if has_axiom d w then Some d else first_axiom ds w
+
 abbrev pub first_definition : List (Decl ℕ Ref) → Word → Option (Ty ℕ)
 first_definition [] w = None
 first_definition (D.DataType n ps cs ∷ ds) w = first_definition ds w

@@ -1,4 +1,5 @@
 pub mod Codes
+pub mod Families
 pub mod FirstDeclared
 pub mod KindViews
 pub mod Listed

@@ -1,8 +1,8 @@
--- The definitions and the constructors of a module in the order of the first declarations of their words.
+-- The definitions, the axioms and the constructors of a module in the order of the first declarations of their words.
 use Rattle.std.specs.Prelude.{◌≡◌, List, map, Some, Ok}
 use Rattle.fc_model.specs.Kinding.{Modules}
-use Rattle.fc_model.specs.Nameless.{NTy}
-use Rattle.fc_model.specs.NamelessView.{nty_of}
+use Rattle.fc_model.specs.Nameless.{NDecl, NTy}
+use Rattle.fc_model.specs.NamelessView.{ndecl_of, nty_of}
 use Rattle.fc_model.specs.Calling.{Constructor, constructor}
 use Rattle.fc_model.specs.Typing.{value_type}
 use Rattle.fc_syntax.specs.declared.ty.Name.{Name}
@@ -13,6 +13,10 @@ use Rattle.indexmap.specs.IndexMap.{values}
 -- the types of the definitions
 unfoldable pub definition_types : Declarations → List NTy
 definition_types d = map (λ t. nty_of t.now) (values d.definitions)
+
+-- the declarations of the axioms
+unfoldable pub axioms_in : Declarations → List NDecl
+axioms_in d = map (λ d. ndecl_of d.now) (values d.axioms)
 
 -- the constructors
 unfoldable pub constructors_in : Declarations → List Constructor

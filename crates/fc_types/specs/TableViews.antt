@@ -1,5 +1,5 @@
 -- What the tables of a module's declarations say.
-use Rattle.std.specs.Prelude.{◌≡◌, ℕ, List, Option}
+use Rattle.std.specs.Prelude.{◌≡◌, ℕ, List, Option, Some, None}
 use Rattle.std.specs.Option.{option_map}
 use Rattle.indexmap.specs.IndexMap.{IndexMap}
 use Rattle.fc_syntax.specs.Tree.{Word}
@@ -8,7 +8,9 @@ use Rattle.fc_syntax.specs.declared.ty.Ref.{Ref}
 use Rattle.fc_syntax.specs.declared.ty.Ty.{Ty}
 use Rattle.fc_model.specs.NamelessView.{nbinders_of, nparams_of, ntys_of}
 use Rattle.fc_model.specs.Calling.{Constructor}
-use Rattle.fc_types.specs.FirstDeclared.{Numbered, first_constructor, first_definition, first_type_decl}
+use Rattle.fc_model.specs.Coercing.{Axiom, family_axiom, newtype_axiom}
+use Rattle.fc_model.specs.Nameless.{NDecl, NData, NNew, NFamily, NAxiom, NDef, NWrap}
+use Rattle.fc_types.specs.FirstDeclared.{Numbered, first_axiom, first_constructor, first_definition, first_type_decl}
 use Rattle.fc_types.specs.Tables.{at}
 use Rattle.fc_types.specs.declared.tables.DeclaredCon.{DeclaredCon}
 use denote.Ref.{Bor}
@@ -24,8 +26,17 @@ numbered c = record { data_word = c.data_word.now; params = c.params.now; number
 abbrev pub constructor_of : DeclaredCon → Constructor
 constructor_of c = constructor_at (numbered c)
 
-abbrev pub type_decl_at : {S : Type 0} → IndexMap (Bor (List ℕ)) (Bor (Decl ℕ Ref)) S → Word → Option (Decl ℕ Ref)
-type_decl_at table w = option_map (λ d. d.now) (at table w)
+-- the axiom that a declaration of a module has
+abbrev pub axiom_of : Option Word → NDecl → Option Axiom
+axiom_of m (NData n ps cs) = None
+axiom_of m (NNew n ps t con) = Some (newtype_axiom m n ps t)
+axiom_of m (NFamily n ps k) = None
+axiom_of m (NAxiom n ps t u) = Some (family_axiom ps t u)
+axiom_of m (NDef n t e) = None
+axiom_of m (NWrap n t e) = None
+
+abbrev pub decl_at : {S : Type 0} → IndexMap (Bor (List ℕ)) (Bor (Decl ℕ Ref)) S → Word → Option (Decl ℕ Ref)
+decl_at table w = option_map (λ d. d.now) (at table w)
 
 abbrev pub definition_at : {S : Type 0} → IndexMap (Bor (List ℕ)) (Bor (Ty ℕ)) S → Word → Option (Ty ℕ)
 definition_at table w = option_map (λ t. t.now) (at table w)
@@ -35,7 +46,11 @@ numbered_at table w = option_map numbered (at table w)
 
 -- the table has the first type of each word
 abbrev pub HasTypes : {S : Type 0} → List (Decl ℕ Ref) → IndexMap (Bor (List ℕ)) (Bor (Decl ℕ Ref)) S → Type 0
-HasTypes ds table = (w : Word) → type_decl_at table w ≡ first_type_decl ds w
+HasTypes ds table = (w : Word) → decl_at table w ≡ first_type_decl ds w
+
+-- the table has the declaration of the first axiom of each word
+abbrev pub HasAxioms : {S : Type 0} → List (Decl ℕ Ref) → IndexMap (Bor (List ℕ)) (Bor (Decl ℕ Ref)) S → Type 0
+HasAxioms ds table = (w : Word) → decl_at table w ≡ first_axiom ds w
 
 -- the table has the type of the first definition of each word
 abbrev pub HasDefinitions : {S : Type 0} → List (Decl ℕ Ref) → IndexMap (Bor (List ℕ)) (Bor (Ty ℕ)) S → Type 0

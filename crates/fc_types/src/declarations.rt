@@ -4,12 +4,15 @@ ghost use Rattle.std.specs.Option.{option_and_then, option_map};
 ghost use Rattle.fc_model.specs.Kinding.{decls_at, type_decl};
 ghost use Rattle.fc_model.specs.NamelessView.{ndecl_of, ndecls_of, nmodule_of, nty_of};
 ghost use Rattle.fc_model.specs.Calling.{constructor};
+ghost use Rattle.fc_model.specs.Coercing.{axiom_named};
 ghost use Rattle.fc_model.specs.Typing.{value_type};
 ghost use Rattle.fc_types.specs.Codes.{has_constructors_prop};
 ghost use Rattle.fc_types.specs.Tables.{found};
-ghost use Rattle.fc_types.specs.TableViews.{HasConstructors, HasDefinitions, HasTypes, constructor_of};
+ghost use Rattle.fc_types.specs.TableViews.{HasAxioms, HasConstructors, HasDefinitions, HasTypes, axiom_of, constructor_of};
 
-use crate::tables::{DeclaredCon, constructors_by_word, definitions_by_word, types_by_word};
+use crate::tables::{
+    DeclaredCon, axioms_by_word, constructors_by_word, definitions_by_word, types_by_word,
+};
 use fc_syntax::{Memory, NDecl, NModule, NTy, Name, Text};
 use indexmap::IndexMap;
 use std::alloc::Global;
@@ -19,15 +22,17 @@ use std::alloc::Global;
 pub struct Declarations<'a> {
     module: &'a NModule,
     types: IndexMap<&'a str, &'a NDecl>,
+    axioms: IndexMap<&'a str, &'a NDecl>,
     definitions: IndexMap<&'a str, &'a NTy>,
     constructors: IndexMap<&'a str, DeclaredCon<'a>>,
     ghost types_are: { HasTypes module.now.decls types },
+    ghost axioms_are: { HasAxioms module.now.decls axioms },
     ghost definitions_are: { HasDefinitions module.now.decls definitions },
     ghost constructors_are: { HasConstructors module.now.decls constructors } by { has_constructors_prop module.now.decls constructors },
 }
 
 impl<'a> Declarations<'a> {
-    ghost use Rattle.fc_types.specs.Listed.{IsConstructor, IsDefinitionType, constructors_in, definition_types};
+    ghost use Rattle.fc_types.specs.Listed.{IsConstructor, IsDefinitionType, axioms_in, constructors_in, definition_types};
     ghost use Rattle.fc_types.specs.ModuleViews.{module_word_of, modules_of};
 
     /// The declarations of a module. Fails only where memory runs out.
@@ -37,11 +42,13 @@ impl<'a> Declarations<'a> {
     {
         let decls = m.decls.as_slice();
         let types = types_by_word(alloc, decls)?;
+        let axioms = axioms_by_word(alloc, decls)?;
         let definitions = definitions_by_word(alloc, decls)?;
         let constructors = constructors_by_word(alloc, decls)?;
         Ok(Declarations {
             module: m,
             types,
+            axioms,
             definitions,
             constructors,
         })
@@ -127,6 +134,7 @@ impl<'a> Declarations<'a> {
             Some(con) => Some(*con),
         }
     }
+
     /// How many words have a definition. Takes no memory.
     #[tactic(auto, unfolding(crate::specs::Listed::definition_types))]
     pub fn definition_count(&self) -> usize
@@ -183,5 +191,34 @@ impl<'a> Declarations<'a> {
             return None;
         }
         self.constructors.get_index_of(name.text.as_str())
+    }
+
+    /// How many words have an axiom. Takes no memory.
+    #[tactic(auto, unfolding(crate::specs::Listed::axioms_in))]
+    pub fn axiom_count(&self) -> usize
+        ensures { result ≡ length (axioms_in self.now) }
+    {
+        self.axioms.len()
+    }
+
+    /// The newtype or the equation of a family that has an axiom, by the axiom's number below `axiom_count`: words are numbered in the
+    /// order of their first axioms.
+    pub fn axiom_at(&self, number: usize) -> Option<&'a NDecl>
+        ensures { option_map (λ d. ndecl_of d.now) result ≡ slice_get (axioms_in self.now) number }
+    {
+        match self.axioms.get_index(number) {
+            None => None,
+            Some((_, decl)) => Some(*decl),
+        }
+    }
+
+    /// The number of the axiom of a name. Takes no memory.
+    pub fn axiom_number(&self, name: &Name) -> Option<usize>
+        ensures { option_and_then (axiom_of name.now.module) (option_and_then (λ i. slice_get (axioms_in self.now) i) result) ≡ axiom_named (modules_of self.now) name.now }
+    {
+        if !self.has_module_of(name) {
+            return None;
+        }
+        self.axioms.get_index_of(name.text.as_str())
     }
 }

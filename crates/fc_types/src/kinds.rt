@@ -5,7 +5,7 @@ ghost use Rattle.fc_syntax.specs.declared.fault.FaultKind.TheVariants.{KindsDiff
 ghost use Rattle.fc_syntax.specs.View.{kind_of};
 ghost use Rattle.fc_model.specs.Faulting.{need, under};
 ghost use Rattle.fc_model.specs.Kinding as words;
-ghost use Rattle.fc_model.specs.Kinding.{head_kind_or_fault, kind_or_fault};
+ghost use Rattle.fc_model.specs.Kinding.{head_kind_or_fault, kind_or_fault, name_kind};
 ghost use Rattle.fc_model.specs.NamelessView.{nty_of};
 ghost use Rattle.fc_model.specs.Says.{Says};
 ghost use Rattle.fc_types.specs.KindViews.{kinds_of};
@@ -16,7 +16,7 @@ use crate::declared_kinds::kind_of_declaration;
 use crate::kind_scope::{Kinds, local_kind};
 use crate::sameness::same_kind;
 use fc_model::{Flawed, deeper, flaw_here};
-use fc_syntax::{FaultKind, Kind, NTy};
+use fc_syntax::{FaultKind, Kind, NTy, Name};
 use std::alloc::Global;
 
 /// Whether a kind is `*` or `#`, the kinds of the types of values. Takes no memory.
@@ -113,6 +113,21 @@ fn coforall_kind(alloc: Global, left: &Kind, right: &Kind, body: &Kind) -> Resul
     Ok(Kind::Star)
 }
 
+/// The kind of a name, as the head of this number of arguments: `Unbound` for a name without a declaration, and `FamilyArity`.
+pub fn kind_of_name(
+    alloc: Global,
+    name: &Name,
+    declared: &Declarations,
+    args: usize,
+) -> Result<Kind, Flawed>
+    ensures { Says kind_of result (name_kind (modules_of declared.now) name.now args) }
+{
+    match declared.type_named(name) {
+        Some(decl) => kind_of_declaration(alloc, decl, args),
+        None => Err(flaw_here(alloc, FaultKind::Unbound)),
+    }
+}
+
 /// One argument more, where the number can be told.
 fn one_more(args: usize) -> Result<usize, Flawed>
     ensures { Says (λ n. n) result (Ok (args + 1)) }
@@ -170,10 +185,7 @@ fn head_kind<'x>(
 {
     match t {
         NTy::Var(distance) => local_kind(alloc, kinds, *distance),
-        NTy::Con(name) => match declared.type_named(name) {
-            Some(decl) => kind_of_declaration(alloc, decl, args),
-            None => Err(flaw_here(alloc, FaultKind::Unbound)),
-        },
+        NTy::Con(name) => kind_of_name(alloc, name, declared, args),
         NTy::IntHash => Ok(Kind::Hash),
         NTy::App(head, argument) => {
             let more = one_more(args)?;

@@ -38,8 +38,8 @@ pub fn same_kind(left: &Kind, right: &Kind) -> bool
     }
 }
 
-/// Whether two roles are the same.
-fn same_role(left: Role, right: Role) -> bool
+/// Whether two roles are the same. Takes no memory.
+pub fn same_role(left: Role, right: Role) -> bool
     ensures { result ≡ words.same_role left right }
 {
     left.below(right) && right.below(left)

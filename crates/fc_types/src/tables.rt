@@ -5,9 +5,9 @@ ghost use Rattle.fc_syntax.specs.Tree.{Word};
 ghost use Rattle.fc_syntax.specs.declared.module.Decl.{Decl};
 ghost use Rattle.fc_syntax.specs.declared.ty.Ref.{Ref};
 ghost use Rattle.fc_model.specs.Calling.{constructor_binders, first_of};
-ghost use Rattle.fc_types.specs.FirstDeclared.{Numbered, first_constructor, first_definition, first_type_decl, numbered_among};
+ghost use Rattle.fc_types.specs.FirstDeclared.{Numbered, first_axiom, first_constructor, first_definition, first_type_decl, numbered_among};
 ghost use Rattle.fc_types.specs.Tables.{at};
-ghost use Rattle.fc_types.specs.TableViews.{HasConstructors, HasDefinitions, HasTypes, definition_at, numbered_at, type_decl_at};
+ghost use Rattle.fc_types.specs.TableViews.{HasAxioms, HasConstructors, HasDefinitions, HasTypes, decl_at, definition_at, numbered_at};
 
 use fc_syntax::{Memory, NConDecl, NDecl, NTy, Param, Seq, Text};
 use indexmap::IndexMap;
@@ -64,7 +64,7 @@ fn put_first<'a, V: Drop>(
 /// Puts a declaration in, where it is the first type of its word.
 #[tactic(auto, using(crate::proofs::FirstPuts::put_seen))]
 fn add_type<'a>(types: &mut IndexMap<&'a str, &'a NDecl>, decl: &'a NDecl) -> Result<(), Memory>
-    ensures { OnOk result ((w : Word) (rest : List (Decl ℕ Ref)) → first_of (type_decl_at types.new w) (first_type_decl rest w) ≡ first_of (type_decl_at types.old w) (first_type_decl (decl.now ∷ rest) w)) }
+    ensures { OnOk result ((w : Word) (rest : List (Decl ℕ Ref)) → first_of (decl_at types.new w) (first_type_decl rest w) ≡ first_of (decl_at types.old w) (first_type_decl (decl.now ∷ rest) w)) }
 {
     match decl {
         NDecl::DataType(word, _, _) => put_first(types, word.as_str(), decl),
@@ -88,6 +88,35 @@ pub fn types_by_word<'a>(
         add_type(&mut types, decl)?;
     }
     Ok(types)
+}
+
+/// Puts a declaration in, where it has the first axiom of its word.
+#[tactic(auto, using(crate::proofs::FirstPuts::put_seen))]
+fn add_axiom<'a>(axioms: &mut IndexMap<&'a str, &'a NDecl>, decl: &'a NDecl) -> Result<(), Memory>
+    ensures { OnOk result ((w : Word) (rest : List (Decl ℕ Ref)) → first_of (decl_at axioms.new w) (first_axiom rest w) ≡ first_of (decl_at axioms.old w) (first_axiom (decl.now ∷ rest) w)) }
+{
+    match decl {
+        NDecl::DataType(_, _, _) => Ok(()),
+        NDecl::NewType(_, _, _, word) => put_first(axioms, word.as_str(), decl),
+        NDecl::Family(_, _, _) => Ok(()),
+        NDecl::Axiom(word, _, _, _) => put_first(axioms, word.as_str(), decl),
+        NDecl::Def(_, _, _) => Ok(()),
+        NDecl::Wrap(_, _, _) => Ok(()),
+    }
+}
+
+/// The newtypes and the equations of families of a module by the words of their axioms.
+pub fn axioms_by_word<'a>(
+    alloc: Global,
+    decls: &'a [NDecl],
+) -> Result<IndexMap<&'a str, &'a NDecl>, Memory>
+    ensures { IfOk result (λ table. HasAxioms decls.now table) }
+{
+    let mut axioms = IndexMap::new(alloc);
+    for decl in decls {
+        add_axiom(&mut axioms, decl)?;
+    }
+    Ok(axioms)
 }
 
 /// Puts a definition in, where it is the first of its word.

@@ -3,6 +3,7 @@ use Rattle.fc_lint_expr.proofs.+lint.Goals as goal
 use Rattle.fc_model.specs.Typing as words
 use Rattle.fc_syntax.specs.declared.expr.Alt as A
 use Rattle.fc_syntax.specs.declared.expr.JoinBind as J
+use Rattle.fc_type_scope.specs.declared.ends.Ends as proven
 use Rattle.fc_lint_calls.proofs.Givens.{AreGivenAt-push, givens-push}
 use Rattle.fc_lint_calls.specs.AltViews.{before_of}
 use Rattle.fc_lint_calls.specs.GivenViews.{given_at, given_in, givens_at, givens_in}
@@ -15,21 +16,22 @@ use Rattle.fc_lint_expr.proofs.+lint.Goals.{lets::bind_fits-else-not-recursive, 
 use Rattle.fc_lint_expr.proofs.Alternatives.{alt_binders_refused, alt_body_refused, alt_head_refused, alt_later, alt_says, case_alternatives_refused, case_answer_refused, case_kind_refused, case_says, context_stays, join_binders_refused, join_body_refused, join_later, join_paid_refused, join_says, joined_body_refused, joined_kind_refused, joined_points_refused, joined_says, over_is, refuses_is, refuses_then}
 use Rattle.fc_lint_expr.proofs.Bindings.{below_is, below_refused, bind_takes_it, bind_unkinded, bind_untyped, binds_refused, context_after, entered_after, lambda_refused, lambda_typed, lambda_unowed, let_refused, let_typed, rhs_smaller, says_err}
 use Rattle.fc_lint_expr.proofs.Judging.{modules-grow}
-use Rattle.fc_lint_expr.proofs.Pieces.{args_end, args_fail, args_more, argument_applied, argument_then, constructor_called, constructor_judged, constructor_unbound, context-on, deeper_says, flaw_says, given_none, given_start, head_then, inner_type, jump_answered, jump_called, jump_judged, jump_outside, operand_is, operand_ok, operands_end, operands_fail, operands_more, primitive_judged, primitive_operated, same_says, scrutinee_then, type_given, type_judged}
+use Rattle.fc_lint_expr.proofs.Pieces.{args_end, args_fail, args_more, argument_applied, argument_then, cast_then, coercion_judged, constructor_called, constructor_judged, constructor_unbound, context-on, deeper_says, flaw_says, given_none, given_start, head_then, inner_type, jump_answered, jump_called, jump_judged, jump_outside, operand_is, operand_ok, operands_end, operands_fail, operands_more, primitive_judged, primitive_operated, same_says, scrutinee_then, type_given, type_judged}
 use Rattle.fc_lint_expr.proofs.Turns.{alts_more, alts_step, binds_more, err_of, err_says, joins_more, joins_step}
 use Rattle.fc_lint_expr.specs.Cases.{case_judged}
 use Rattle.fc_lint_expr.specs.Lists.{args_from, operand_given, operands_from}
-use Rattle.fc_model.specs.Calling.{Given, GivenTerm, GivenType, applied, called, constructor, over_binder}
+use Rattle.fc_model.specs.Calling.{Given, GivenCoercion, GivenTerm, GivenType, applied, called, constructor, over_binder}
+use Rattle.fc_model.specs.Coercing.{Ends, ends_or_fault}
 use Rattle.fc_model.specs.Faulting.{F, and_then, at_distance, need, under}
 use Rattle.fc_model.specs.Kinding.{Modules, kind_or_fault}
-use Rattle.fc_model.specs.Nameless.{NAType, NApp, NBranch, NCase, NCast, NCon, NFail, NJoin, NJoined, NJump, NLam, NLet, NLit, NLocal, NPrim, NTy, NVar}
+use Rattle.fc_model.specs.Nameless.{NACo, NAType, NApp, NBranch, NCase, NCast, NCon, NFail, NJoin, NJoined, NJump, NLam, NLet, NLit, NLocal, NPrim, NTy, NVar}
 use Rattle.fc_model.specs.NamelessView.{nalt_of, nalts_of, narg_of, nargs_of, nbind_of, nbinder_of, nbinders_of, nbinds_of, nco_of, nexpr_of, nexprs_of, njoin_of, njoins_of, nty_of}
 use Rattle.fc_model.specs.Says.{Refuses, Says}
-use Rattle.fc_model.specs.Typing.{Context, Start, alt_judged, alts_judged, argument_given, bind_judged, found_constructed, is_atom, join_judged, joins_judged, jumped, kinds_behind, operated, type_or_fault, with_binder, without_joins}
+use Rattle.fc_model.specs.Typing.{Context, Start, alt_judged, alts_judged, argument_given, bind_judged, cast, found_constructed, is_atom, join_judged, joins_judged, jumped, kinds_behind, operated, type_or_fault, with_binder, without_joins}
 use Rattle.fc_syntax.proofs.View.{view_rules}
 use Rattle.fc_syntax.specs.View.{kind_of}
 use Rattle.fc_syntax.specs.declared.expr.Binder.{Binder}
-use Rattle.fc_syntax.specs.declared.fault.FaultKind.TheVariants.{BadForm, ConArity, JumpArity, JumpNotTail, NotAType, Unbound}
+use Rattle.fc_syntax.specs.declared.fault.FaultKind.TheVariants.{ConArity, JumpArity, JumpNotTail, NotAType, Unbound}
 use Rattle.fc_syntax.specs.declared.ty.Ref.{Ref}
 use Rattle.fc_type_scope.proofs.BinderLists.{kinds_past-one}
 use Rattle.fc_type_scope.proofs.Growing.{IsType-grows, shown-grows}
@@ -37,6 +39,7 @@ use Rattle.fc_type_scope.proofs.Numbers.{AreTypesAt-grows, shown_all-grows}
 use Rattle.fc_type_scope.proofs.OneMore.{entered_grows}
 use Rattle.fc_type_scope.proofs.PastBinders.{IsType-behind}
 use Rattle.fc_type_scope.specs.Behind.{IsEntered, kinds_past}
+use Rattle.fc_type_scope.specs.EndViews.{shown_ends}
 use Rattle.fc_type_scope.specs.Scopes.{AreTypesAt, scope_in, shown_all_at}
 use Rattle.fc_type_table.proofs.Numbers.{Extends-further, Grows-further, Grows-refl, shown_at-grows}
 use Rattle.fc_type_table.specs.Scopes.{shown_at}
@@ -80,6 +83,36 @@ pub arguments::argument-returns-in_ok-ty-in-OfType-clause-context :
     goal.arguments::argument-returns-in_ok-ty-in-OfType-clause-context
 arguments::argument-returns-in_ok-ty-in-OfType-clause-context t c =
     IsContextAt-grows (nodes_of c.args.types.now) (nodes_of c.read.new.types) c.args.context.now c.in_ok-ty-in-OfType.ensures.grows.nodes c.requires.context
+
+pub arguments::argument-returns-in_err-ends-in-OfCo-clause-says :
+    goal.arguments::argument-returns-in_err-ends-in-OfCo-clause-says
+arguments::argument-returns-in_err-ends-in-OfCo-clause-says t c =
+    let ctx = c.args.context.now in
+    let ks = scope_in ctx.scope in
+    let ms = modules_of_context ctx in
+    let old = context_in c.args.types.now ctx in
+    let co = nco_of c.in-OfCo.g in
+    let here : narg_of c.args.arg.now ≡ NACo co = search (rules, view_rules) in
+    let whole = coercion_judged ms old (narg_of c.args.arg.now) co ks here (context_kinds (nodes_of c.args.types.now) ctx) in
+    let view = λ (g : arguments.Given). given_in c.ends_of.new.types ks g in
+    let e = c.in_err-ends-in-OfCo.field-0.0 in
+    let judged = ends_or_fault ms ks old.coercions co in
+    let seen = λ (p : proven.Ends). shown_ends c.ends_of.new.types ks p in
+    let refused : Says view (Err e) (argument_given ms old (narg_of c.args.arg.now)) =
+    err_of view e (and_then judged (λ p. Ok (GivenCoercion p.role p.left p.right))) _ whole (err_says seen view e judged (λ p. Ok (GivenCoercion p.role p.left p.right)) c.in_err-ends-in-OfCo.ensures.says) in
+    search rules
+
+pub arguments::argument-returns-in_ok-ends-in-OfCo-clause-says :
+    goal.arguments::argument-returns-in_ok-ends-in-OfCo-clause-says
+arguments::argument-returns-in_ok-ends-in-OfCo-clause-says t c =
+    let ctx = c.args.context.now in
+    let ks = scope_in ctx.scope in
+    let ms = modules_of_context ctx in
+    let old = context_in c.args.types.now ctx in
+    let co = nco_of c.in-OfCo.g in
+    let here : narg_of c.args.arg.now ≡ NACo co = search (rules, view_rules) in
+    let whole = coercion_judged ms old (narg_of c.args.arg.now) co ks here (context_kinds (nodes_of c.args.types.now) ctx) in
+    whole ∙ ap (λ (r : Result Ends F). and_then {X = Ends} {Y = Given} r (λ p. Ok (GivenCoercion p.role p.left p.right))) c.in_ok-ends-in-OfCo.ensures.says
 
 -- src/arguments.rt:90:5
 pub arguments::arguments-loop-arg-init : goal.arguments::arguments-loop-arg-init
@@ -521,6 +554,29 @@ cases::alternative_fits-returns-clause-says t c =
     (before_of c.in_ok-next.next) c.in_ok-next.ensures.says (Ok (tt {0})) c.in_ok-leaves_as.ensures in
     subst (λ xs. judged xs ≡ Ok (before_of c.in_ok-next.next)) c.as_slice-binders.ensures said
 
+pub cases::alternative_fits-leaves_as-requires-clause-outer_in :
+    goal.cases::alternative_fits-leaves_as-requires-clause-outer_in
+cases::alternative_fits-leaves_as-requires-clause-outer_in t c =
+    let k0 = c.args.types.now in
+    let k1 = c.enter.new.types in
+    let k2 = c.type_behind.new.types in
+    let g2 = Grows-further k0 k1 k2 c.in_ok-entered.ensures.grows c.in_ok-body.ensures.grows in
+    let k3 = c.function_over.new.types in
+    let g3 = Grows-further k0 k2 k3 g2 c.in_ok-over.ensures.grows in
+    let g4 = Grows-further k0 k3 c.head_goes.new.types g3 c.in_ok-next.ensures.grows in
+    IsType-grows k0 c.head_goes.new.types (scope_in c.args.context.now.scope) c.args.wanted.answer g4 c.requires.answer_in
+
+pub cases::alternative_fits-returns-clause-grows :
+    goal.cases::alternative_fits-returns-clause-grows
+cases::alternative_fits-returns-clause-grows t c =
+    let k0 = c.args.types.now in
+    let k1 = c.enter.new.types in
+    let k2 = c.type_behind.new.types in
+    let g2 = Grows-further k0 k1 k2 c.in_ok-entered.ensures.grows c.in_ok-body.ensures.grows in
+    let k3 = c.function_over.new.types in
+    let g3 = Grows-further k0 k2 k3 g2 c.in_ok-over.ensures.grows in
+    Grows-further k0 k3 c.head_goes.new.types g3 c.in_ok-next.ensures.grows
+
 -- src/cases.rt:165:1
 pub cases::alternatives_fit-returns-clause-context :
     goal.cases::alternatives_fit-returns-clause-context
@@ -714,14 +770,6 @@ expressions::type_of-returns-in-Let-clause-says t c =
     let ctx = c.args.context.now in
     let here : nexpr_of c.args.e.now ≡ NLet c.in-Let.recursive (nbinds_of c.as_slice.result.now) (nexpr_of c.deref-in-Let.result.now) = search (rules, view_rules) in
     same_says (λ (id : TypeId). shown c.type_of_let.new.types (scope_in ctx.scope) id) c.type_of_let.result _ _ (ap (type_or_fault (modules_of_context ctx) (context_in c.args.types.now ctx)) here) c.type_of_let.ensures.says
-
--- src/expressions.rt:189:1
-pub expressions::type_of-returns-in-Cast-clause-says :
-    goal.expressions::type_of-returns-in-Cast-clause-says
-expressions::type_of-returns-in-Cast-clause-says t c =
-    let ctx = c.args.context.now in
-    let here : nexpr_of c.args.e.now ≡ NCast (nexpr_of c.in-Cast.field-0.value) (nco_of c.in-Cast.field-1) = search (rules, view_rules) in
-    flaw_says (λ (id : TypeId). shown c.args.types.now (scope_in ctx.scope) id) BadForm c.flaw_here.result _ c.flaw_here.ensures (ap (type_or_fault (modules_of_context ctx) (context_in c.args.types.now ctx)) here)
 
 -- src/expressions.rt:189:1
 pub expressions::type_of-returns-in-Con-clause-says :
@@ -1108,6 +1156,40 @@ expressions::type_of-returns-in_ok-t-in-App-clause-says t c =
     let grown : context_at k1 ctx ≡ old = context_at-grows k0 k1 ctx c.in_ok-t-in-App.ensures.grows.nodes c.requires.context in
     let whole = ap (type_or_fault ms old) here ∙ head_then ms old (context_at k1 ctx) f (narg_of c.deref-in-App.result.now) (shown_at k1 ks c.in_ok-t-in-App.t.0) grown c.in_ok-t-in-App.ensures.says in
     same_says (λ (id : TypeId). shown c.type_of_applied.new.types ks id) c.type_of_applied.result _ _ whole c.type_of_applied.ensures.says
+
+pub expressions::type_of-returns-in_err-found-in-Cast-clause-says :
+    goal.expressions::type_of-returns-in_err-found-in-Cast-clause-says
+expressions::type_of-returns-in_err-found-in-Cast-clause-says t c =
+    let ctx = c.args.context.now in
+    let ms = modules_of_context ctx in
+    let ks = scope_in ctx.scope in
+    let k0 = nodes_of c.args.types.now in
+    let old = context_at k0 ctx in
+    let f = nexpr_of c.deref-in-Cast.result.now in
+    let co = nco_of c.in-Cast.g in
+    let here : nexpr_of c.args.e.now ≡ NCast f co = search (rules, view_rules) in
+    let view = λ (id : TypeId). shown c.type_of_first-in-Cast.new.types ks id in
+    let e = c.in_err-found-in-Cast.field-0.0 in
+    let r = under 0 (type_or_fault ms (without_joins old) f) in
+    let g : NTy → Result NTy F = λ u. and_then (under 1 (ends_or_fault ms old.kinds old.coercions co)) (λ p. cast u p) in
+    let refused : Says view (Err e) (type_or_fault ms old (nexpr_of c.args.e.now)) = err_of view e (and_then r g) _ (ap (type_or_fault ms old) here) (err_says view view e r g c.in_err-found-in-Cast.ensures.says) in
+    search rules
+
+pub expressions::type_of-returns-in_ok-found-in-Cast-clause-says :
+    goal.expressions::type_of-returns-in_ok-found-in-Cast-clause-says
+expressions::type_of-returns-in_ok-found-in-Cast-clause-says t c =
+    let ctx = c.args.context.now in
+    let ms = modules_of_context ctx in
+    let ks = scope_in ctx.scope in
+    let k0 = nodes_of c.args.types.now in
+    let old = context_at k0 ctx in
+    let k1 = nodes_of c.type_of_first-in-Cast.new.types in
+    let f = nexpr_of c.deref-in-Cast.result.now in
+    let co = nco_of c.in-Cast.g in
+    let here : nexpr_of c.args.e.now ≡ NCast f co = search (rules, view_rules) in
+    let grown : context_at k1 ctx ≡ old = context_at-grows k0 k1 ctx c.in_ok-found-in-Cast.ensures.grows.nodes c.requires.context in
+    let whole = ap (type_or_fault ms old) here ∙ cast_then ms old (context_at k1 ctx) f co ks (shown_at k1 ks c.in_ok-found-in-Cast.found.0) grown (context_kinds k0 ctx) c.in_ok-found-in-Cast.ensures.says in
+    same_says (λ (id : TypeId). shown c.type_of_cast.new.types ks id) c.type_of_cast.result _ _ whole c.type_of_cast.ensures.says
 
 pub expressions::type_of-returns-in_err-found-in-Case-clause-says :
     goal.expressions::type_of-returns-in_err-found-in-Case-clause-says

@@ -1,6 +1,7 @@
 use Rattle.std.proofs.Common.{◌≡◌, ◌+◌, Ok, drop, ap, sym, ◌∙◌, arith}
 use Rattle.fc_model.specs.Faulting.{under}
-use Rattle.fc_model.specs.Linting.{con_binder_judged, con_binders_judged, kinds_behind, kinds_behind_all}
+use Rattle.fc_model.specs.Linting.{con_binder_judged, con_binders_judged, kinds_behind_all}
+use Rattle.fc_model.specs.Typing.{kinds_behind}
 use Rattle.fc_model.specs.NamelessView.{nbinder_of, nbinders_of}
 use Rattle.fc_model.proofs.Lists.{drop_item}
 use Rattle.fc_types.specs.KindViews.{behind_group, kinds_of, own_kinds}

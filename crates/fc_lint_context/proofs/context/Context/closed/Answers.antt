@@ -6,4 +6,4 @@ pub returns-clause-scope : goal.returns-clause-scope
 returns-clause-scope c = scope_is _ ∙ c.requires
 
 pub returns-clause-view : goal.returns-clause-view
-returns-clause-view c = λ ns. closed_view ns _ (scope_is _ ∙ c.requires) refl refl
+returns-clause-view c = λ ns. closed_view ns _ (scope_is _ ∙ c.requires) refl refl refl

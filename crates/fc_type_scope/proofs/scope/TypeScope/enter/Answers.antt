@@ -7,7 +7,7 @@ use Rattle.fc_type_scope.proofs.scope.TypeScope.enter.Goals as goal
 
 pub loop-binder-init : goal.loop-binder-init
 loop-binder-init c =
-    let e : Entered = record { kinds = c.new.result; values = c.new-2.result } in record {
-      entered = entered_none (nodes_of c.args.types.now) (scope_in c.args.self.now) e c.new.ensures c.new-2.ensures;
+    let e : Entered = record { kinds = c.new.result; coercions = c.new-2.result; values = c.new-3.result } in record {
+      entered = entered_none (nodes_of c.args.types.now) (scope_in c.args.self.now) e c.new.ensures c.new-2.ensures c.new-3.ensures;
       grows = Grows-refl c.args.types.now;
     }

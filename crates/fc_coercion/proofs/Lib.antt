@@ -1,0 +1,6 @@
+pub mod Alone
+pub mod AxiomEnds
+pub mod AxiomSides
+pub mod Beside
+pub mod Growing
+pub mod Quantified

@@ -1,0 +1,11 @@
+pub mod BothSides
+pub mod Ends
+pub mod Families
+pub mod Fitting
+pub mod Groups
+pub mod Kinded
+pub mod Named
+pub mod Numbered
+pub mod Pairing
+pub mod Shapes
+pub mod Splits

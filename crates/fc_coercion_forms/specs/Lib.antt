@@ -1,0 +1,5 @@
+pub mod Axioms
+pub mod Foralls
+pub mod Kinded
+pub mod Parts
+pub mod Splits

@@ -1,0 +1,99 @@
+//! Declared types at what coercions relate.
+ghost use Rattle.std.specs.Prelude.{◌≡◌, IfOk, OnOk};
+ghost use Rattle.fc_model.specs.Coercing as words;
+ghost use Rattle.fc_model.specs.Kinding.{name_kind};
+ghost use Rattle.fc_model.specs.Nameless.{NTCon};
+ghost use Rattle.fc_model.specs.Says.{Says};
+ghost use Rattle.fc_coercion_forms.specs.Kinded.{takes_or_fault};
+ghost use Rattle.fc_syntax.specs.Tree.{KStar};
+ghost use Rattle.fc_types.specs.ModuleViews.{modules_of};
+ghost use Rattle.fc_type_scope.specs.EndViews.{AreEndsAt, IsEnds, shown_all_ends_at, shown_ends};
+ghost use Rattle.fc_type_scope.specs.Scopes.{scope_in};
+ghost use Rattle.fc_type_table.specs.TypeTables.{Grows, IsType, modules_in, nodes_of, shown};
+
+use crate::forms::{applied_once, kinded};
+use crate::roles::are_at_roles;
+use fc_model::{Flawed, flaw_here};
+use fc_roles::params_of_name;
+use fc_syntax::{FaultKind, Memory, Name, Role};
+use fc_type_scope::{Ends, TypeScope};
+use fc_type_table::{TypeId, TypeTable};
+use fc_types::{Declarations, kind_of_name};
+use std::alloc::Global;
+
+/// A type applied to the left ends of coercions, and to their right ends.
+fn applied_to<'a>(
+    role: Role,
+    head: TypeId,
+    group: &[Ends],
+    types: &mut TypeTable<'a>,
+    scope: &TypeScope<'_>,
+) -> Result<Ends, Memory>
+    requires head_in { IsType types.old (scope_in scope.now) head }
+    requires group_in { AreEndsAt (nodes_of types.old) (scope_in scope.now) group.now }
+    ensures valid { IfOk result (λ e. IsEnds types.new (scope_in scope.now) e) }
+    ensures view { IfOk result (λ e. shown_ends types.new (scope_in scope.now) e ≡ words.ends role (words.applied_to (shown types.old (scope_in scope.now) head) (words.lefts (shown_all_ends_at (nodes_of types.old) (scope_in scope.now) group.now))) (words.applied_to (shown types.old (scope_in scope.now) head) (words.rights (shown_all_ends_at (nodes_of types.old) (scope_in scope.now) group.now)))) }
+    ensures grows { OnOk result (Grows types.old types.new) }
+{
+    let mut so_far = Ends {
+        role,
+        left: head,
+        right: head,
+    };
+    for ends in group {
+        so_far = applied_once(so_far, *ends, types, scope)?;
+    }
+    Ok(so_far)
+}
+
+/// A declared type at what coercions relate, whatever the kinds.
+#[tactic(auto, using(fc_lint_calls::proofs::Givens::given_rules))]
+fn named<'a>(
+    role: Role,
+    name: &'a Name,
+    group: &[Ends],
+    types: &mut TypeTable<'a>,
+    scope: &TypeScope<'_>,
+) -> Result<Ends, Memory>
+    requires { AreEndsAt (nodes_of types.old) (scope_in scope.now) group.now }
+    ensures valid { IfOk result (λ e. IsEnds types.new (scope_in scope.now) e) }
+    ensures view { IfOk result (λ e. shown_ends types.new (scope_in scope.now) e ≡ words.ends role (words.applied_to (NTCon name.now) (words.lefts (shown_all_ends_at (nodes_of types.old) (scope_in scope.now) group.now))) (words.applied_to (NTCon name.now) (words.rights (shown_all_ends_at (nodes_of types.old) (scope_in scope.now) group.now)))) }
+    ensures grows { OnOk result (Grows types.old types.new) }
+{
+    let head = scope.constructor(name.module.as_ref(), &name.text, types)?;
+    applied_to(role, head, group, types, scope)
+}
+
+/// Whether a name takes this many arguments: the fault of its kind.
+fn takes(alloc: Global, name: &Name, count: usize, declared: &Declarations) -> Result<(), Flawed>
+    ensures { Says (λ _. KStar) result (takes_or_fault (name_kind (modules_of declared.now) name.now count)) }
+{
+    kind_of_name(alloc, name, declared, count)?;
+    Ok(())
+}
+
+/// A declared type at what coercions relate: `RoleWrong` where one is not at the role of its parameter, then the fault of a name that takes
+/// more arguments, and `KindMismatch` where one of the types has no kind.
+#[tactic(auto, using(fc_lint_calls::proofs::Givens::given_rules))]
+pub fn constructed<'a>(
+    alloc: Global,
+    role: Role,
+    name: &'a Name,
+    group: &[Ends],
+    types: &mut TypeTable<'a>,
+    declared: &Declarations<'a>,
+    scope: &TypeScope<'_>,
+) -> Result<Ends, Flawed>
+    requires group_in { AreEndsAt (nodes_of types.old) (scope_in scope.now) group.now }
+    requires modules { modules_in types.old ≡ modules_of declared.now }
+    ensures valid { IfOk result (λ e. IsEnds types.new (scope_in scope.now) e) }
+    ensures says { Says (λ e. shown_ends types.new (scope_in scope.now) e) result (words.constructed_ends (modules_of declared.now) (scope_in scope.now) role name.now (shown_all_ends_at (nodes_of types.old) (scope_in scope.now) group.now)) }
+    ensures grows { OnOk result (Grows types.old types.new) }
+{
+    if !are_at_roles(role, params_of_name(declared, name), group) {
+        return Err(flaw_here(alloc, FaultKind::RoleWrong));
+    }
+    takes(alloc, name, group.len(), declared)?;
+    let ends = named(role, name, group, types, scope)?;
+    kinded(alloc, ends, types, scope)
+}

@@ -1,0 +1,164 @@
+//! The sides of the axioms of a module as `forall`s over their parameters, in a table.
+ghost use Rattle.std.specs.Prelude.{◌≡◌, [], length, Some, IfOk, OnOk};
+ghost use Rattle.fc_model.specs.Calling.{applied_to_variables};
+ghost use Rattle.fc_model.specs.Kinding as words;
+ghost use Rattle.fc_model.specs.Nameless.{NTCon, NTInt};
+ghost use Rattle.fc_model.specs.NamelessView.{ndecl_of, nparams_of, nplains_of, nty_of};
+ghost use Rattle.fc_type_table.specs.TypeTables.{Grows, IsType, shown};
+ghost use Rattle.fc_types.specs.KindViews.{own_kinds};
+ghost use Rattle.fc_types.specs.TableViews.{axiom_of};
+ghost use Rattle.fc_lint_context.specs.DeclaredViews.{left_side, name_in, over_kinds, right_side};
+
+use crate::constructors::{applied_to_params, over_params, param_kinds};
+use fc_syntax::{Memory, NDecl, NTy, Param, Plain, Seq, Text};
+use fc_type_scope::TypeScope;
+use fc_type_table::{TypeId, TypeTable};
+use fc_types::{Kinds, LocalKind};
+use std::alloc::Global;
+
+/// The sides of an axiom.
+#[derive(Clone, Copy)]
+pub(crate) struct Sides {
+    /// What it goes from.
+    pub left: TypeId,
+    /// What it goes to.
+    pub right: TypeId,
+}
+
+/// The kinds of the parameters of an equation, in their order. Fails only where memory runs out.
+#[tactic(auto, using(crate::proofs::Foralls::plain_rules))]
+pub fn plain_kinds<'a>(alloc: Global, params: &'a [Plain]) -> Result<Seq<LocalKind<'a>>, Memory>
+    ensures { IfOk result (λ kinds. own_kinds kinds ≡ nplains_of params.now) }
+{
+    let mut kinds = Seq::new(alloc);
+    for param in params {
+        kinds.push(LocalKind { kind: &param.kind })?;
+    }
+    Ok(kinds)
+}
+
+/// A written type as a `forall` over variables of these kinds.
+#[tactic(auto, using(crate::proofs::Contexts::context_rules), unfolding(fc_type_scope::specs::Scopes::scope_in))]
+fn closed_over<'a>(
+    alloc: Global,
+    kinds: &[LocalKind<'a>],
+    t: &'a NTy,
+    types: &mut TypeTable<'a>,
+) -> Result<TypeId, Memory>
+    ensures valid { IfOk result (λ id. IsType types.new [] id) }
+    ensures view { IfOk result (λ id. shown types.new [] id ≡ over_kinds (own_kinds kinds.now) (nty_of t.now)) }
+    ensures grows { OnOk result (Grows types.old types.new) }
+{
+    let group = Kinds::Group(&*kinds, &Kinds::End);
+    let scope = TypeScope { kinds: &group };
+    let body = scope.read(t, types)?;
+    over_params(alloc, kinds, body, types)
+}
+
+/// A newtype at its parameters as a `forall` over them, by the words of its module and its own.
+#[tactic(auto, using(crate::proofs::Contexts::context_rules), unfolding(fc_type_scope::specs::Scopes::scope_in))]
+fn closed_newtype<'a>(
+    alloc: Global,
+    kinds: &[LocalKind<'a>],
+    word: &'a Text,
+    own_word: &'a Text,
+    types: &mut TypeTable<'a>,
+) -> Result<TypeId, Memory>
+    ensures valid { IfOk result (λ id. IsType types.new [] id) }
+    ensures view { IfOk result (λ id. shown types.new [] id ≡ over_kinds (own_kinds kinds.now) (applied_to_variables (NTCon (name_in word.now own_word.now)) (length kinds.now) 0)) }
+    ensures grows { OnOk result (Grows types.old types.new) }
+{
+    let group = Kinds::Group(&*kinds, &Kinds::End);
+    let scope = TypeScope { kinds: &group };
+    let head = scope.constructor(Some(word), own_word, types)?;
+    let body = applied_to_params(&scope, head, kinds.len(), 0, types)?;
+    over_params(alloc, kinds, body, types)
+}
+
+/// The sides of the axiom of a newtype: it at its parameters, and what it holds.
+#[tactic(auto, using(crate::proofs::Contexts::context_rules, crate::proofs::Foralls::kinds_count))]
+fn newtype_sides<'a>(
+    alloc: Global,
+    params: &'a [Param],
+    t: &'a NTy,
+    word: &'a Text,
+    own_word: &'a Text,
+    types: &mut TypeTable<'a>,
+) -> Result<Sides, Memory>
+    ensures left_in { IfOk result (λ s. IsType types.new [] s.left) }
+    ensures right_in { IfOk result (λ s. IsType types.new [] s.right) }
+    ensures left { IfOk result (λ s. shown types.new [] s.left ≡ over_kinds (words.param_kinds (nparams_of params.now)) (applied_to_variables (NTCon (name_in word.now own_word.now)) (length (nparams_of params.now)) 0)) }
+    ensures right { IfOk result (λ s. shown types.new [] s.right ≡ over_kinds (words.param_kinds (nparams_of params.now)) (nty_of t.now)) }
+    ensures grows { OnOk result (Grows types.old types.new) }
+{
+    let kinds = param_kinds(alloc, params)?;
+    let left = closed_newtype(alloc, kinds.as_slice(), word, own_word, types)?;
+    let right = closed_over(alloc, kinds.as_slice(), t, types)?;
+    Ok(Sides { left, right })
+}
+
+/// The sides of an equation of a family.
+#[tactic(auto, using(crate::proofs::Contexts::context_rules))]
+fn equation_sides<'a>(
+    alloc: Global,
+    params: &'a [Plain],
+    left: &'a NTy,
+    right: &'a NTy,
+    types: &mut TypeTable<'a>,
+) -> Result<Sides, Memory>
+    ensures left_in { IfOk result (λ s. IsType types.new [] s.left) }
+    ensures right_in { IfOk result (λ s. IsType types.new [] s.right) }
+    ensures left { IfOk result (λ s. shown types.new [] s.left ≡ over_kinds (nplains_of params.now) (nty_of left.now)) }
+    ensures right { IfOk result (λ s. shown types.new [] s.right ≡ over_kinds (nplains_of params.now) (nty_of right.now)) }
+    ensures grows { OnOk result (Grows types.old types.new) }
+{
+    let kinds = plain_kinds(alloc, params)?;
+    let left = closed_over(alloc, kinds.as_slice(), left, types)?;
+    let right = closed_over(alloc, kinds.as_slice(), right, types)?;
+    Ok(Sides { left, right })
+}
+
+/// `Int#` on both sides, of a declaration that has no axiom.
+#[tactic(auto, using(crate::proofs::Contexts::context_rules), unfolding(fc_type_scope::specs::Scopes::scope_in))]
+fn no_sides<'a>(types: &mut TypeTable<'a>) -> Result<Sides, Memory>
+    ensures left_in { IfOk result (λ s. IsType types.new [] s.left) }
+    ensures right_in { IfOk result (λ s. IsType types.new [] s.right) }
+    ensures left { IfOk result (λ s. shown types.new [] s.left ≡ NTInt) }
+    ensures right { IfOk result (λ s. shown types.new [] s.right ≡ NTInt) }
+    ensures grows { OnOk result (Grows types.old types.new) }
+{
+    let scope = TypeScope { kinds: &Kinds::End };
+    let int = scope.int_hash(types)?;
+    Ok(Sides {
+        left: int,
+        right: int,
+    })
+}
+
+/// The sides of the axiom that a declaration of the module of this word has; `Int#` for both where it has none.
+#[tactic(auto, using(fc_syntax::proofs::View::view_rules))]
+pub(crate) fn axiom_sides<'a>(
+    alloc: Global,
+    decl: &'a NDecl,
+    word: &'a Text,
+    types: &mut TypeTable<'a>,
+) -> Result<Sides, Memory>
+    ensures left_in { IfOk result (λ s. IsType types.new [] s.left) }
+    ensures right_in { IfOk result (λ s. IsType types.new [] s.right) }
+    ensures left { IfOk result (λ s. shown types.new [] s.left ≡ left_side (axiom_of (Some word.now) (ndecl_of decl.now))) }
+    ensures right { IfOk result (λ s. shown types.new [] s.right ≡ right_side (axiom_of (Some word.now) (ndecl_of decl.now))) }
+    ensures grows { OnOk result (Grows types.old types.new) }
+{
+    match decl {
+        NDecl::DataType(_, _, _) => no_sides(types),
+        NDecl::NewType(own_word, params, t, _) => {
+            newtype_sides(alloc, params.as_slice(), t, word, own_word, types)
+        }
+        NDecl::Family(_, _, _) => no_sides(types),
+        NDecl::Axiom(_, params, left, right) => {
+            equation_sides(alloc, params.as_slice(), left, right, types)
+        }
+        NDecl::Def(_, _, _) => no_sides(types),
+        NDecl::Wrap(_, _, _) => no_sides(types),
+    }
+}
