@@ -1,0 +1,4 @@
+pub mod Needed
+pub mod Numbered
+pub mod Planned
+pub mod Turned

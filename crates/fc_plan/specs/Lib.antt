@@ -1,0 +1,5 @@
+pub mod Modules
+pub mod Numbering
+pub mod Planning
+pub mod Refusing
+pub mod Turning
