@@ -1,49 +1,62 @@
 -- What the parts of a judgement come to.
-use Rattle.std.proofs.Common.{◌≡◌, ◌≤◌, ℕ, List, None, Some, Result, Ok, Err, IfOk, IfErr, length, reverse, sym, subst}
+use Rattle.std.proofs.Common.{◌≡◌, ◌≤◌, ℕ, List, None, Some, Option, Result, Ok, Err, IfOk, IfErr, IfSome, length, reverse, slice_get, sym, subst, refl}
+use Rattle.fc_files.specs.Outside.{FileMap}
 use Rattle.fc_syntax.specs.Limits.{standard_limits}
-use Rattle.fc_syntax.specs.Tree.{Module}
+use Rattle.fc_syntax.specs.Tree.{Word, Module}
 use Rattle.fc_syntax.specs.declared.fault.Fault.{Fault}
-use Rattle.fc_syntax.specs.declared.fault.Place.TheVariants as place
+use Rattle.fc_syntax.specs.declared.fault.FaultKind.TheVariants as kind
 use Rattle.fc_syntax.specs.declared.fault.Memory.{Memory}
+use Rattle.fc_syntax.specs.declared.fault.Place.TheVariants as place
 use Rattle.fc_syntax.specs.declared.fault.Refusal.{Refusal}
 use Rattle.fc_syntax.specs.declared.fault.Refusal.TheVariants as refusal
-use Rattle.fc_model.specs.Acceptance.{FaultOfBytes, faulty, plan_fault, unlinted, unread, whole_fault}
-use Rattle.fc_model.specs.Acceptance.{of_file as fault_of_file, of_module as fault_of_module}
-use Rattle.fc_model.specs.Headers.{name_of}
-use Rattle.fc_model.specs.Linting.{Lints, module_lint}
-use Rattle.fc_model.specs.ReadFaults.{ReadsTo}
+use Rattle.fc_model.specs.Linting.{In, SetLints, set_judged}
+use Rattle.fc_model.specs.Planning.{PlanFault, build_order, of_file, plan_fault}
 use Rattle.fc_model.specs.Says.{fault_of}
 use Rattle.fc_model.specs.declared.flaw.Flaw.{Flaw}
-use Rattle.fc_reader.specs.Refusals.{IsFaultOf, IsReadRefusal}
-use Rattle.fc_build.specs.Judging.{JudgesBytes, JudgesModule}
+use Rattle.fc_plan.specs.Refusing.{Tells}
+use Rattle.fc_load.specs.Loading.{AllReadTo, nothing_read}
+use Rattle.fc_build.specs.Acceptance.{FaultOfSet, faulty, of_module as fault_of_module, too_many, unlinted, unplanned}
+use Rattle.fc_build.specs.Judging.{Judges, JudgesSet}
 use Rattle.fc_build.specs.declared.judge.Judged.{Judged}
 use Rattle.fc_build.specs.declared.judge.Judged.TheVariants as judged
 
--- what the reader refuses has a first fault of reading
-pub unread_by : (file bytes : List ℕ) (f : Fault) → length bytes ≤ standard_limits.file_bytes → IsFaultOf file bytes f → FaultOfBytes file bytes f
-unread_by file bytes f short fault =
-    unread (record { kind = f.kind; at = fault.at }) short fault.first
-    (λ i. record { kind = f.kind; «module» = fault.of_file i; def = fault.of_no_declaration i; path = fault.at_byte i })
+-- what stands against a set as a whole is its first fault
+pub unplanned_as : (ms : List Module) (r : Refusal) (f : Fault) → r ≡ refusal.Fault f → Tells (plan_fault ms) r → FaultOfSet ms f
+unplanned_as ms r f e tells = by_fault (plan_fault ms) refl (subst (Tells (plan_fault ms)) e tells)
+  where
+    by_fault : (o : Option PlanFault) → plan_fault ms ≡ o → Tells o (refusal.Fault f) → FaultOfSet ms f
+    by_fault None is t = absurd t
+    by_fault (Some p) is t = unplanned p is t
 
--- what the reader answers, where it is a fault
-pub unread_as : (file bytes : List ℕ) (r : Refusal) (f : Fault) → r ≡ refusal.Fault f → length bytes ≤ standard_limits.file_bytes → IsReadRefusal file bytes r → FaultOfBytes file bytes f
-unread_as file bytes r f e short refused = unread_by file bytes f short (subst (IsReadRefusal file bytes) e refused)
+-- a set that stands as a whole, with a premise of Lint that fails, and what is answered then
+pub unlinted_as : (ms : List Module) (name : Word) (f : Flaw) (r : Result Fault Memory) (j : Judged) → plan_fault ms ≡ None
+    → set_judged (build_order ms) ≡ Err (In name (fault_of f)) → IfOk r (λ e. e ≡ fault_of_module name f.kind f.def (reverse f.path))
+    → IfOk r (λ e. j ≡ judged.Refused e) → IfErr r (λ x. j ≡ judged.Memory) → JudgesSet ms j
+unlinted_as ms name f (Ok e) j planned lints is told untold = subst (JudgesSet ms) (sym told) (unlinted name f.kind f.def (reverse f.path) planned lints is)
+unlinted_as ms name f (Err x) j planned lints is told untold = subst (JudgesSet ms) (sym untold) tt
 
--- the judgement of the module that the bytes spell is one of the bytes
-pub judged_bytes : (file bytes : List ℕ) (m : Module) (j : Judged) → ReadsTo bytes m → JudgesModule m j → JudgesBytes file bytes j
-judged_bytes file bytes m (judged.Accepted n nameless) reads judges =
-    (subst (ReadsTo bytes) (sym judges.0) reads, subst (λ k. whole_fault k ≡ None) (sym judges.0) judges.1, subst Lints (sym judges.0) judges.2)
-judged_bytes file bytes m (judged.Refused f) reads judges = faulty m reads judges
-judged_bytes file bytes m judged.ReadFault reads judges = judges
-judged_bytes file bytes m judged.Memory reads judges = tt
+-- the judgement of the modules that files hold is one of the files
+pub judged_files : (files : List (List ℕ)) (held : FileMap) (ms : List Module) (j : Judged) → length files ≤ standard_limits.modules → AllReadTo held nothing_read files ms → JudgesSet ms j
+    → Judges files held j
+judged_files files held ms (judged.Accepted s) few read judges = record {
+  few = few;
+  read = subst (AllReadTo held nothing_read files) (sym judges.0) read;
+  planned = subst (λ ns. plan_fault ns ≡ None) (sym judges.0) judges.1;
+  lints = subst (λ ns. SetLints (build_order ns)) (sym judges.0) judges.2;
+}
+judged_files files held ms (judged.Refused f) few read judges = faulty ms few read judges
+judged_files files held ms (judged.ReadFault name) few read judges = absurd judges
+judged_files files held ms judged.Memory few read judges = tt
 
--- a module that stands as a whole, with a premise of Lint that fails, and what is answered then
-pub unlinted_as : (m : Module) (f : Flaw) (r : Result Fault Memory) (j : Judged) → whole_fault m ≡ None
-    → module_lint m ≡ Err (fault_of f) → IfOk r (λ e. e ≡ fault_of_module m f.kind f.def (reverse f.path))
-    → IfOk r (λ e. j ≡ judged.Refused e) → IfErr r (λ x. j ≡ judged.Memory) → JudgesModule m j
-unlinted_as m f (Ok e) j whole lints is told untold = subst (JudgesModule m) (sym told) (unlinted f.kind f.def (reverse f.path) whole lints is)
-unlinted_as m f (Err x) j whole lints is told untold = subst (JudgesModule m) (sym untold) tt
+-- the same where files may not tell what they hold
+pub judged_all : (held : Option FileMap) (files : List (List ℕ)) (ms : List Module) (j : Judged) → length files ≤ standard_limits.modules
+    → IfSome held (λ m. AllReadTo m nothing_read files ms) → JudgesSet ms j → IfSome held (λ m. Judges files m j)
+judged_all None files ms j few read judges = tt
+judged_all (Some m) files ms j few read judges = judged_files files m ms j few read judges
 
--- a module whose imports stand stands as a whole
-pub nothing_wrong : (m : Module) → plan_fault m ≡ None → whole_fault m ≡ None
-nothing_wrong m planned = subst (λ p. elim p [ Some k ↦ Some (fault_of_file k (name_of m) place.Nowhere) | None ↦ None ] ≡ None) (sym planned) (λ i. None)
+-- a file too many, and what is answered then
+pub too_many_as : (held : Option FileMap) (files : List (List ℕ)) (name : List ℕ) (r : Result Fault Memory) (j : Judged) → slice_get files standard_limits.modules ≡ Some name
+    → IfOk r (λ f. f ≡ of_file kind.TooManyModules name place.Nowhere) → IfOk r (λ f. j ≡ judged.Refused f) → IfErr r (λ x. j ≡ judged.Memory) → IfSome held (λ m. Judges files m j)
+too_many_as None files name r j at is told untold = tt
+too_many_as (Some m) files name (Ok f) j at is told untold = subst (Judges files m) (sym told) (too_many name at is)
+too_many_as (Some m) files name (Err x) j at is told untold = subst (Judges files m) (sym untold) tt

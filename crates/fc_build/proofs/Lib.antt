@@ -1,4 +1,7 @@
+pub mod Delivered
 pub mod JudgeLemmas
 pub mod LineLemmas
 pub mod MeaningLemmas
+pub mod Ordered
+pub mod Products
 pub mod RunLemmas

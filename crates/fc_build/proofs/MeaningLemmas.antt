@@ -1,110 +1,130 @@
--- What was written means what was read: its header alone has changed.
-use Rattle.std.proofs.Common.{◌≡◌, ◌≢◌, ◌∙◌, ℕ, true, false, bytes_eq, List, [], ◌∷◌, ◌++◌, codes, length, length-append, Option, Some, None, Ok, refl, sym, ap, subst, arith}
-use Rattle.std.specs.List.{list_any}
+-- What was written means what was read: headers alone have changed.
+use Rattle.std.proofs.Common.{◌≡◌, ◌≢◌, ◌∙◌, ℕ, false, bytes_eq, All, List, [], ◌∷◌, ◌++◌, codes, map, reverse, Option, Some, refl, sym, ap, subst, arith}
+use Rattle.std.proofs.lemmas.List.{append_cancel_left, append_cancel_right, reverse-append}
+use Rattle.std.proofs.lemmas.List.Elements.{All-nil, All-cons, All-head, All-tail}
 use Rattle.std.proofs.lemmas.Slice.Eq.{bytes_eq-Decides}
-use Rattle.fc_files.specs.Outside.{FileMap}
-use Rattle.fc_syntax.specs.declared.ty.Name.{Name}
-use Rattle.fc_syntax.specs.Tree.{Word, Module, ModuleOf}
-use Rattle.fc_model.specs.Canonical.{canonical}
-use Rattle.fc_model.specs.Declaring.{declared_words}
-use Rattle.fc_model.specs.Faulting.{and_then}
-use Rattle.fc_model.specs.Headers.{name_of, others, written_of}
-use Rattle.fc_model.specs.Kinding.{decls_at}
-use Rattle.fc_model.specs.Linting.{Lints, done, lint_or_fault}
-use Rattle.fc_model.specs.Nameless.{NDecl, NModuleOf}
-use Rattle.fc_model.specs.Observing.{Sees}
-use Rattle.fc_model.specs.Programs.{AllMention, AltsMention, IsExported, IsMainExpression, Mentions, exports_at, program_of, right_side}
-use Rattle.fc_model.specs.Resolution.{no_word, no_words, plus_all, resolved_decls, resolved_or_fault, top_of}
-use Rattle.fc_model.specs.Terms.{Term, Lit, Var, Global, Fail, App, Lam, Let, Rec, Case, Con, Prim, Terms, Nil, Cons, Alts, NoAlt, Alt}
+use Rattle.fc_files.specs.Outside.{FileMap, put}
+use Rattle.fc_syntax.specs.Tree.{Module, ModuleOf}
+use Rattle.fc_model.specs.Canonical.{canonical, interface_text}
+use Rattle.fc_model.specs.Formed.{IsFormed}
+use Rattle.fc_model.specs.Headers.{decls_in, exports_of, name_of, set_written, written_of}
+use Rattle.fc_model.specs.Linting.{SetLints, nameless_forms}
 use Rattle.fc_model.specs.Texts.{Spells}
-use Rattle.fc_model.proofs.Parts.{and_then_inv}
-use Rattle.fc_model.proofs.ResolvedModulesAre.{resolved_module_is}
 use Rattle.fc_model.proofs.Sameness.{bytes_eq_refl}
-use Rattle.fc_words.specs.Asking.{Building}
+use Rattle.fc_model.proofs.SetWritten.{all_written_alone, set_written_lints}
+use Rattle.fc_model.proofs.UnderHeader.{written_is_formed}
+use Rattle.fc_meaning.proofs.WrittenMeans.{written_means_the_same}
+use Rattle.fc_printer.proofs.ReadBack.{canonical_spells}
+use Rattle.fc_words.specs.Asking.{Building, Linting}
 use Rattle.fc_words.specs.declared.Tuning.{Tuning}
-use Rattle.fc_build.specs.Meaning.{KeepsMeaning, ShowsTheSame}
-use Rattle.fc_build.specs.Product.{core_name, interface_name, outputs_of, put_all}
-
--- NAMES
-
-module _ (N M : Name → Type 0) (more : (x : Name) → N x → M x) where
-  mutual
-    mentions_more : (t : Term) → Mentions N t → Mentions M t
-    mentions_more (Lit z) h = h
-    mentions_more (Var n) h = h
-    mentions_more (Global x) h = more x h
-    mentions_more Fail h = h
-    mentions_more (App s f a) h = (mentions_more f h.0, mentions_more a h.1)
-    mentions_more (Lam s b) h = mentions_more b h
-    mentions_more (Let s e b) h = (mentions_more e h.0, mentions_more b h.1)
-    mentions_more (Rec ts b) h = (all_mention_more ts h.0, mentions_more b h.1)
-    mentions_more (Case s e alts) h = (mentions_more e h.0, alts_mention_more alts h.1)
-    mentions_more (Con c ss ts) h = all_mention_more ts h
-    mentions_more (Prim o a b) h = (mentions_more a h.0, mentions_more b h.1)
-
-    all_mention_more : (ts : Terms) → AllMention N ts → AllMention M ts
-    all_mention_more Nil h = h
-    all_mention_more (Cons t ts) h = (mentions_more t h.0, all_mention_more ts h.1)
-
-    alts_mention_more : (alts : Alts) → AltsMention N alts → AltsMention M alts
-    alts_mention_more NoAlt h = h
-    alts_mention_more (Alt k b alts) h = (mentions_more b h.0, alts_mention_more alts h.1)
+use Rattle.fc_build.specs.Meaning.{AllSpell, KeepsMeaning, none_spell, one_spells}
+use Rattle.fc_build.specs.Product.{Output, all_files, core_name, interface_name, put_all, step_of, steps_of}
+use Rattle.fc_build.specs.Run.{AreFaithful}
+use Rattle.fc_build.proofs.Ordered.{AreDistinctWords}
 
 -- HEADERS
 
-module _ (m : Word) (imports exports h g : List Word) (ds : List NDecl) where
-  exports_same : (o : Option Word) → exports_at (NModuleOf m imports exports h ds ∷ []) o ≡ exports_at (NModuleOf m imports exports g ds ∷ []) o
-  exports_same None = refl
-  exports_same (Some w) = refl
+-- what is written of a set that lints is each module as it is written alone
+pub written_alone : (ms : List Module) → SetLints ms → set_written ms ≡ map written_of ms
+written_alone ms lint = all_written_alone (map name_of ms) (nameless_forms ms) ms lint
 
-  -- other hidden words leave the declarations as they are
-  declarations_same : (o : Option Word) → decls_at (NModuleOf m imports exports h ds ∷ []) o ≡ decls_at (NModuleOf m imports exports g ds ∷ []) o
-  declarations_same None = refl
-  declarations_same (Some w) = refl
+same_name : (m : Module) → name_of (written_of m) ≡ name_of m
+same_name (ModuleOf m imports exports hidden ds) = refl
 
-  -- and make no other program
-  program_same : program_of (NModuleOf m imports exports h ds ∷ []) ≡ program_of (NModuleOf m imports exports g ds ∷ [])
-  program_same i n = right_side (declarations_same n.module i) n.text
+same_exports : (m : Module) → exports_of (written_of m) ≡ exports_of m
+same_exports (ModuleOf m imports exports hidden ds) = refl
 
-  exported_same : (n : Name) → IsExported (NModuleOf m imports exports h ds ∷ []) n → IsExported (NModuleOf m imports exports g ds ∷ []) n
-  exported_same n e =
-      (subst (λ ws. list_any (λ w. bytes_eq w n.text) ws ≡ true) (exports_same n.module) e.0, e.1, subst (λ P. P n ≡ Some e.1) program_same e.2)
+same_declarations : (m : Module) → decls_in (written_of m) ≡ decls_in m
+same_declarations (ModuleOf m imports exports hidden ds) = refl
 
-  shows_same : (t : Term) → ShowsTheSame (NModuleOf m imports exports h ds) (NModuleOf m imports exports g ds) t
-  shows_same t o = (λ s. subst (λ P. Sees P t o) program_same s, λ s. subst (λ P. Sees P t o) (sym program_same) s)
+-- what a header leaves as it is, it leaves so in all modules
+map_written : {X : Type 0} (f : Module → X) → ((m : Module) → f (written_of m) ≡ f m) → (ms : List Module) → map f (map written_of ms) ≡ map f ms
+map_written f same [] = refl
+map_written f same (m ∷ ms) = ap (λ x. x ∷ map f (map written_of ms)) (same m) ∙ ap (λ xs. f m ∷ xs) (map_written f same ms)
 
-  main_same : (t : Term) → IsMainExpression (NModuleOf m imports exports h ds ∷ []) t → IsMainExpression (NModuleOf m imports exports g ds ∷ []) t
-  main_same t main = record { sorted = main.sorted; exported = mentions_more _ _ exported_same t main.exported }
+-- what is done for a module by Lint is the same under its written header
+same_step : (m : Module) → step_of Linting (written_of m) ≡ step_of Linting m
+same_step (ModuleOf m imports exports hidden ds) = refl
+
+pub same_steps : (ms : List Module) → map (step_of Linting) ms ≡ map (step_of Linting) (map written_of ms)
+same_steps ms = sym (map_written (step_of Linting) same_step ms)
+
+written_spell : (ms : List Module) → All IsFormed ms → All (λ m. Spells (canonical m) m) (map written_of ms)
+written_spell [] formed = All-nil (λ m. Spells (canonical m) m)
+written_spell (m ∷ ms) formed =
+    All-cons (λ k. Spells (canonical k) k) (written_of m) (map written_of ms) (canonical_spells (written_of m) (written_is_formed m (All-head IsFormed m ms formed))) (written_spell ms (All-tail IsFormed m ms formed))
+
+-- a set that lints is written faithfully
+pub faithful : (ms : List Module) → All IsFormed ms → SetLints ms → AreFaithful ms
+faithful ms formed lint =
+    let alone = written_alone ms lint in
+    record {
+      spell = subst (All (λ m. Spells (canonical m) m)) (sym alone) (written_spell ms formed);
+      lint = set_written_lints ms lint;
+      names = ap (map name_of) alone ∙ map_written name_of same_name ms;
+      exports = ap (map exports_of) alone ∙ map_written exports_of same_exports ms;
+      declarations = ap (map decls_in) alone ∙ map_written decls_in same_declarations ms;
+    }
 
 -- FILES
 
-other_length : (p q : List ℕ) → length p ≢ length q → bytes_eq p q ≡ false
-other_length p q differ = grind (arith, bytes_eq-Decides p q)
+differ : (p q : List ℕ) → p ≢ q → bytes_eq p q ≡ false
+differ p q apart = grind (arith, bytes_eq-Decides p q)
 
--- the interface does not stand where the core does
-names_differ : (prefix : List ℕ) (m : Module) → bytes_eq (interface_name prefix m) (core_name prefix m) ≡ false
-names_differ prefix m = other_length (interface_name prefix m) (core_name prefix m) (λ e. omega (arith, length-append prefix (name_of m ++ codes ".fci"), length-append (name_of m) (codes ".fci"), length-append prefix (name_of m ++ codes ".opt.fc"), length-append (name_of m) (codes ".opt.fc"), e))
+false_differ : (p q : List ℕ) → bytes_eq p q ≡ false → p ≢ q
+false_differ p q e same = grind (arith, bytes_eq-Decides p q)
 
-core_is_held : (tuning : Tuning) (prefix : List ℕ) (m : Module) (old new : FileMap) → new ≡ put_all (outputs_of (Building tuning prefix) m) old
-    → new (core_name prefix (written_of m)) ≡ Some (canonical (written_of m))
-core_is_held tuning prefix m old new e =
-    ap (λ (f : FileMap). f (core_name prefix (written_of m))) e ∙ rw (names_differ prefix (written_of m), bytes_eq_refl (core_name prefix (written_of m))) refl
+abbrev first_of : List ℕ → ℕ
+first_of [] = 0
+first_of (n ∷ ns) = n
 
-pub keeps_meaning : (tuning : Tuning) (prefix : List ℕ) (m : Module) → Lints m → Spells (canonical (written_of m)) (written_of m) → (old new : FileMap)
-    → new ≡ put_all (outputs_of (Building tuning prefix) m) old → KeepsMeaning m (new (core_name prefix (written_of m)))
-keeps_meaning tuning prefix (ModuleOf m imports exports hidden ds) lint spells old new e =
-    let read = ModuleOf m imports exports hidden ds in
-    let p = and_then_inv (resolved_or_fault read) (λ n. lint_or_fault n) done lint in
-    let q = and_then_inv (resolved_decls (top_of read) no_words ds) _ p.0 p.1 in
-    let more = hidden ++ others (plus_all hidden (plus_all exports no_word)) (declared_words ds) in
-    record {
-      bytes = canonical (written_of read);
-      holds = core_is_held tuning prefix read old new e;
-      written = written_of read;
-      spells = spells;
-      before = NModuleOf m imports exports hidden q.0;
-      after = NModuleOf m imports exports more q.0;
-      read_resolves = resolved_module_is read (NModuleOf m imports exports hidden q.0) (ap (λ r. and_then r (λ cs. Ok (NModuleOf m imports exports hidden cs))) q.1);
-      written_resolves = resolved_module_is (written_of read) (NModuleOf m imports exports more q.0) (ap (λ r. and_then r (λ cs. Ok (NModuleOf m imports exports more cs))) q.1);
-      same = λ t main. (main_same m imports exports hidden more q.0 t main, shows_same m imports exports hidden more q.0 t);
-    }
+-- the endings of two names of files have different last letters
+last_letters : (v w : List ℕ) → reverse (codes ".fci") ++ v ≢ reverse (codes ".opt.fc") ++ w
+last_letters v w e = let letters : 105 ≡ 99 = ap first_of e in omega (arith, letters)
+
+-- an interface never stands where a core does
+interface_apart : (prefix : List ℕ) (m n : Module) → bytes_eq (interface_name prefix m) (core_name prefix n) ≡ false
+interface_apart prefix m n =
+    differ (interface_name prefix m) (core_name prefix n) (λ e.
+    let ends : name_of m ++ codes ".fci" ≡ name_of n ++ codes ".opt.fc" = append_cancel_left prefix (name_of m ++ codes ".fci") (name_of n ++ codes ".opt.fc") e in
+    last_letters (reverse (name_of m)) (reverse (name_of n))
+    (sym (reverse-append (name_of m) (codes ".fci")) ∙ ap reverse ends ∙ reverse-append (name_of n) (codes ".opt.fc")))
+
+-- nor the core of another module
+core_apart : (prefix : List ℕ) (m n : Module) → bytes_eq (name_of m) (name_of n) ≡ false → bytes_eq (core_name prefix n) (core_name prefix m) ≡ false
+core_apart prefix m n apart =
+    differ (core_name prefix n) (core_name prefix m) (λ e.
+    let ends : name_of n ++ codes ".opt.fc" ≡ name_of m ++ codes ".opt.fc" = append_cancel_left prefix (name_of n ++ codes ".opt.fc") (name_of m ++ codes ".opt.fc") e in
+    false_differ (name_of m) (name_of n) apart (sym (append_cancel_right (name_of n) (name_of m) (codes ".opt.fc") ends)))
+
+module _ (tuning : Tuning) (prefix : List ℕ) where
+  abbrev files_of : List Module → List Output
+  files_of ms = all_files (map (step_of (Building tuning prefix)) ms)
+
+  -- files of modules of other names leave a core as it is
+  core_kept : (m : Module) (ms : List Module) (old : FileMap) → All (λ v. bytes_eq (name_of m) v ≡ false) (map name_of ms) → put_all (files_of ms) old (core_name prefix m) ≡ old (core_name prefix m)
+  core_kept m [] old apart = refl
+  core_kept m (n ∷ ms) old apart =
+      core_kept m ms _ (All-tail (λ v. bytes_eq (name_of m) v ≡ false) (name_of n) (map name_of ms) apart)
+      ∙ rw (interface_apart prefix n m, core_apart prefix m n (All-head (λ v. bytes_eq (name_of m) v ≡ false) (name_of n) (map name_of ms) apart)) refl
+
+  core_is_put : (m : Module) (old : FileMap) → put (interface_name prefix m) (interface_text m) (put (core_name prefix m) (canonical m) old) (core_name prefix m) ≡ Some (canonical m)
+  core_is_put m old = rw (interface_apart prefix m m, bytes_eq_refl (core_name prefix m)) refl
+
+  -- each core stands in the end
+  cores_stand : (ms : List Module) → AreDistinctWords (map name_of ms) → All (λ m. Spells (canonical m) m) ms → (old new : FileMap) → new ≡ put_all (files_of ms) old
+      → AllSpell (map (λ m. new (core_name prefix m)) ms) ms
+  cores_stand [] distinct spell old new e = none_spell
+  cores_stand (m ∷ ms) distinct spell old new e =
+      let held : new (core_name prefix m) ≡ Some (canonical m) = ap (λ (f : FileMap). f (core_name prefix m)) e ∙ core_kept m ms _ distinct.0 ∙ core_is_put m old in
+      subst (λ (entry : Option (List ℕ)). AllSpell (entry ∷ map (λ n. new (core_name prefix n)) ms) (m ∷ ms)) (sym held)
+      (one_spells (All-head (λ k. Spells (canonical k) k) m ms spell) (cores_stand ms distinct.1 (All-tail (λ k. Spells (canonical k) k) m ms spell) _ new e))
+
+  -- what stands at the names of the cores means what was read
+  pub keeps_meaning : (ms : List Module) → SetLints ms → AreFaithful ms → AreDistinctWords (map name_of ms) → (old new : FileMap)
+      → new ≡ put_all (all_files (steps_of (Building tuning prefix) ms)) old → KeepsMeaning ms (map (λ m. new (core_name prefix m)) (set_written ms))
+  keeps_meaning ms lint faithful distinct old new e = record {
+    written = set_written ms;
+    spell = cores_stand (set_written ms) (subst AreDistinctWords (sym faithful.names) distinct) faithful.spell old new e;
+    same = λ t main. written_means_the_same ms lint t main;
+  }

@@ -1,60 +1,57 @@
 -- What the judge of a list of files answers.
-use Rattle.std.specs.Prelude.{◌≡◌, ℕ, ⊤, List, Option, None, IsSomeAnd, Ok}
+use Rattle.std.specs.Prelude.{◌≡◌, ⊤, ℕ, List, map, slice_get, Some, None}
+use Rattle.std.specs.List.{All}
 use Rattle.fc_files.specs.Outside.{FileMap}
-use Rattle.fc_syntax.specs.View.{module_of}
 use Rattle.fc_syntax.specs.Tree.{Module}
-use Rattle.fc_model.specs.Acceptance.{Accepted, FaultOfBytes, FaultOfEntry, FaultOfModule, FirstFault, whole_fault}
-use Rattle.fc_model.specs.ReadFaults.{ReadsTo}
+use Rattle.fc_syntax.specs.View.{module_of}
 use Rattle.fc_model.specs.Formed.{IsFormed}
-use Rattle.fc_model.specs.Linting.{Lints}
-use Rattle.fc_model.specs.NamelessView.{nmodule_of}
-use Rattle.fc_model.specs.Resolution.{resolved_or_fault}
+use Rattle.fc_model.specs.Linting.{SetLints, nameless_forms}
+use Rattle.fc_model.specs.NamelessView.{nmodules_of}
+use Rattle.fc_model.specs.Planning.{build_order, plan_fault}
+use Rattle.fc_load.specs.Answers.{IsReached}
+use Rattle.fc_build.specs.Acceptance.{Accepted, FaultOfSet, FirstFault}
 use Rattle.fc_build.specs.declared.judge.Judged.{Judged}
 use Rattle.fc_build.specs.declared.judge.Judged.TheVariants as judged
+use Rattle.fc_build.specs.declared.judge.Set.{Set}
 
--- what the answer says of a module
-abbrev pub JudgesModule : Module → Judged → Type 0
-JudgesModule m (judged.Accepted n nameless) = (module_of n ≡ m) × (whole_fault m ≡ None) × Lints m
-JudgesModule m (judged.Refused f) = FaultOfModule m f
-JudgesModule m judged.ReadFault = ⊥
-JudgesModule m judged.Memory = ⊤
+-- the modules of an accepted set, in the order of the files
+abbrev pub modules_in : Set → List Module
+modules_in s = map module_of s.modules.items
 
--- of the bytes of a file
-abbrev pub JudgesBytes : List ℕ → List ℕ → Judged → Type 0
-JudgesBytes file bytes (judged.Accepted m nameless) = ReadsTo bytes (module_of m) × (whole_fault (module_of m) ≡ None) × Lints (module_of m)
-JudgesBytes file bytes (judged.Refused f) = FaultOfBytes file bytes f
-JudgesBytes file bytes judged.ReadFault = ⊥
-JudgesBytes file bytes judged.Memory = ⊤
-
--- of what the name of a file holds
-abbrev pub JudgesEntry : List ℕ → Option (List ℕ) → Judged → Type 0
-JudgesEntry file entry (judged.Accepted m nameless) = IsSomeAnd entry (λ bytes. ReadsTo bytes (module_of m) × (whole_fault (module_of m) ≡ None) × Lints (module_of m))
-JudgesEntry file entry (judged.Refused f) = FaultOfEntry file entry f
-JudgesEntry file entry judged.ReadFault = ⊤
-JudgesEntry file entry judged.Memory = ⊤
+-- what the answer says of modules that were read
+abbrev pub JudgesSet : List Module → Judged → Type 0
+JudgesSet ms (judged.Accepted s) = (modules_in s ≡ ms) × (plan_fault ms ≡ None) × SetLints (build_order ms)
+JudgesSet ms (judged.Refused f) = FaultOfSet ms f
+JudgesSet ms (judged.ReadFault name) = ⊥
+JudgesSet ms judged.Memory = ⊤
 
 -- of what the names of a list of files hold
 abbrev pub Judges : List (List ℕ) → FileMap → Judged → Type 0
-Judges files held (judged.Accepted m nameless) = Accepted files held (module_of m)
+Judges files held (judged.Accepted s) = Accepted files held (modules_in s)
 Judges files held (judged.Refused f) = FirstFault files held f
-Judges files held judged.ReadFault = ⊤
+Judges files held (judged.ReadFault name) = IsReached held files name.now
 Judges files held judged.Memory = ⊤
 
--- the module has words of their forms, and lints
-pub record IsReady (m : Module) : Type 0 where
-  pub formed : IsFormed m
-  pub lints : Lints m
+-- the modules of a set have words of their forms, and lint in the order in which they are built
+pub record IsReady (ms : List Module) : Type 0 where
+  pub formed : All IsFormed ms
+  pub lints : SetLints (build_order ms)
 
--- an accepted module is ready
+-- an accepted set is ready, its order is the one in which its modules are built, and its nameless forms are those of the modules in that order
+pub record IsReadySet (s : Set) : Type 0 where
+  pub ready : IsReady (modules_in s)
+  pub order : map (slice_get (modules_in s)) s.order ≡ map Some (build_order (modules_in s))
+  pub forms : nmodules_of s.forms.items ≡ nameless_forms (build_order (modules_in s))
+
 abbrev pub IsReadyAnswer : Judged → Type 0
-IsReadyAnswer (judged.Accepted m nameless) = IsReady (module_of m)
+IsReadyAnswer (judged.Accepted s) = IsReadySet s
 IsReadyAnswer (judged.Refused f) = ⊤
-IsReadyAnswer judged.ReadFault = ⊤
+IsReadyAnswer (judged.ReadFault name) = ⊤
 IsReadyAnswer judged.Memory = ⊤
 
--- an accepted module comes with its nameless form
-abbrev pub HasNameless : Judged → Type 0
-HasNameless (judged.Accepted m nameless) = resolved_or_fault (module_of m) ≡ Ok (nmodule_of nameless)
-HasNameless (judged.Refused f) = ⊤
-HasNameless judged.ReadFault = ⊤
-HasNameless judged.Memory = ⊤
+-- the read of a file failed
+abbrev pub IsReadFault : Judged → Type 0
+IsReadFault (judged.Accepted s) = ⊥
+IsReadFault (judged.Refused f) = ⊥
+IsReadFault (judged.ReadFault name) = ⊤
+IsReadFault judged.Memory = ⊥

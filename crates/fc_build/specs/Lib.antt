@@ -1,3 +1,4 @@
+pub mod Acceptance
 pub mod Delivering
 pub mod Ending
 pub mod Judging

@@ -1,26 +1,22 @@
 -- The main theorem.
-use Rattle.std.specs.Prelude.{◌≡◌, ◌↔◌, ℕ, List, [], ◌∷◌, Option, Some}
+use Rattle.std.specs.Prelude.{ℕ, List, [], ◌∷◌, Option, Some}
 use Rattle.fc_syntax.specs.Tree.{Module}
-use Rattle.fc_model.specs.Nameless.{NModule}
-use Rattle.fc_model.specs.Observing.{Observation, Sees}
-use Rattle.fc_model.specs.Programs.{IsMainExpression, program_of}
-use Rattle.fc_model.specs.ResolutionRules.{Resolves}
+use Rattle.fc_model.specs.Linting.{nameless_forms}
+use Rattle.fc_model.specs.Programs.{IsMainExpression}
 use Rattle.fc_model.specs.Terms.{Term}
 use Rattle.fc_model.specs.Texts.{Spells}
+use Rattle.fc_meaning.specs.Laws.{ShowsTheSame}
 
--- two programs show the same of a term
-abbrev pub ShowsTheSame : NModule → NModule → Term → Type 0
-ShowsTheSame m n t = (o : Observation) → Sees (program_of (m ∷ [])) t o ↔ Sees (program_of (n ∷ [])) t o
+-- what names hold spells modules, one after the other
+pub data AllSpell : List (Option (List ℕ)) → List Module → Type 0 where
+  none_spell : AllSpell [] []
+  one_spells : {bytes : List ℕ} {entries : List (Option (List ℕ))} {m : Module} {ms : List Module} → Spells bytes m → AllSpell entries ms
+      → AllSpell (Some bytes ∷ entries) (m ∷ ms)
 
--- What a name holds spells a module, and each main expression over the exports of the module that was read is one over the exports
--- of this module, and shows exactly the same in the programs of both.
-pub record KeepsMeaning (read : Module) (entry : Option (List ℕ)) : Type 0 where
-  pub bytes : List ℕ
-  pub holds : entry ≡ Some bytes
-  pub written : Module
-  pub spells : Spells bytes written
-  pub before : NModule
-  pub after : NModule
-  pub read_resolves : Resolves read before
-  pub written_resolves : Resolves written after
-  pub same : (t : Term) → IsMainExpression (before ∷ []) t → IsMainExpression (after ∷ []) t × ShowsTheSame before after t
+-- What the names hold spells the modules of a set, and each main expression over the exports of the set that was read is one over the exports of
+-- this set, and shows exactly the same in the programs of both.
+pub record KeepsMeaning (read : List Module) (entries : List (Option (List ℕ))) : Type 0 where
+  pub written : List Module
+  pub spell : AllSpell entries written
+  pub same : (t : Term) → IsMainExpression (nameless_forms read) t
+      → IsMainExpression (nameless_forms written) t × ShowsTheSame (nameless_forms read) (nameless_forms written) t

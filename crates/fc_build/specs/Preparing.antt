@@ -1,34 +1,37 @@
 -- What comes of the words and the files before anything is written.
-use Rattle.std.specs.Prelude.{◌≡◌, ⊤, ℕ, List, [], ◌∷◌, Option, Some, None, IfSome, Result, Ok, Err}
+use Rattle.std.specs.Prelude.{◌≡◌, ⊤, ℕ, List, ◌∷◌, Option, Some, None, IfSome, Result, Ok, Err, Vec}
+use Rattle.std.specs.declared.alloc.Global.{Global}
 use Rattle.fc_files.specs.Outside.{FileMap, Rose}
 use Rattle.fc_syntax.specs.Tree.{Module}
 use Rattle.fc_syntax.specs.declared.fault.Fault.{Fault}
-use Rattle.fc_model.specs.Acceptance.{Accepted, FirstFault}
+use Rattle.fc_build.specs.Acceptance.{Accepted, FirstFault}
+use Rattle.fc_model.specs.Planning.{build_order}
 use Rattle.fc_words.specs.Asking.{Asked, asked}
 use Rattle.fc_build.specs.declared.prepare.Stop.{Stop}
 use Rattle.fc_build.specs.declared.prepare.Stop.TheVariants as stop
-use Rattle.fc_build.specs.declared.product.Product.{Product}
+use Rattle.fc_build.specs.declared.product.Step.{Step}
+use Rattle.fc_load.specs.Answers.{IsReached}
 use Rattle.fc_build.specs.Judging.{IsReady}
 use Rattle.fc_build.specs.Lines.{refusal_line}
-use Rattle.fc_build.specs.Product.{done_line, outputs, outputs_of}
+use Rattle.fc_build.specs.Product.{steps_of}
+use Rattle.fc_build.specs.Delivering.{steps_in}
 
 -- the files that the words ask for
 abbrev pub files_in : Asked → List (List ℕ)
 files_in a = a.file ∷ a.others
 
--- the words ask for something, and the set is accepted
-pub record IsAccepted (words : List (List ℕ)) (held : Option FileMap) (a : Asked) (unit : Module) : Type 0 where
+-- the words ask for something, and the set is accepted; these are its modules, in the order of the files
+pub record IsAccepted (words : List (List ℕ)) (held : Option FileMap) (a : Asked) (set : List Module) : Type 0 where
   pub asks : asked words ≡ Some a
-  pub accepted : IfSome held (λ m. Accepted (files_in a) m unit)
-  pub ready : IsReady unit
+  pub accepted : IfSome held (λ m. Accepted (files_in a) m set)
+  pub ready : IsReady set
 
--- what is to be written and to be put for an accepted set
-pub record IsProduct (words : List (List ℕ)) (held : Option FileMap) (p : Product) : Type 0 where
+-- what is to be done for an accepted set
+pub record IsProduct (words : List (List ℕ)) (held : Option FileMap) (made : List Step) : Type 0 where
   pub request : Asked
-  pub unit : Module
-  pub input : IsAccepted words held request unit
-  pub files : outputs p.list.items ≡ outputs_of request.order unit
-  pub line : p.line.items ≡ done_line request.order unit
+  pub set : List Module
+  pub input : IsAccepted words held request set
+  pub steps : steps_in made ≡ steps_of request.order (build_order set)
 
 -- the words ask for something, and this is the first fault of the set
 pub record HasFault (words : List (List ℕ)) (held : Option FileMap) (f : Fault) : Type 0 where
@@ -42,11 +45,11 @@ pub record IsRefusalLine (words : List (List ℕ)) (held : Option FileMap) (line
   pub first : HasFault words held fault
   pub tells : line ≡ refusal_line fault
 
--- the read of the only file failed, and was counted
-pub record FailsToRead (words : List (List ℕ)) (reads reads' : ℕ) (name : List ℕ) : Type 0 where
+-- the read of a file failed, and was counted; the files before it hold modules
+pub record FailsToRead (words : List (List ℕ)) (held : Option FileMap) (reads reads' : ℕ) (name : List ℕ) : Type 0 where
   pub request : Asked
   pub asks : asked words ≡ Some request
-  pub file : files_in request ≡ name ∷ []
+  pub reached : IfSome held (λ m. IsReached m (files_in request) name)
   pub rose : Rose reads reads'
 
 -- the stop at a fault: its line, or memory ran out
@@ -60,9 +63,9 @@ StopsAtFault f stop.Memory = ⊤
 abbrev pub Stops : List (List ℕ) → Option FileMap → ℕ → ℕ → Stop → Type 0
 Stops words held reads reads' (stop.Refused line) = IsRefusalLine words held line.items
 Stops words held reads reads' stop.Usage = asked words ≡ None
-Stops words held reads reads' (stop.ReadFault name) = FailsToRead words reads reads' name.now
+Stops words held reads reads' (stop.ReadFault name) = FailsToRead words held reads reads' name.now
 Stops words held reads reads' stop.Memory = ⊤
 
-abbrev pub Prepares : List (List ℕ) → Option FileMap → ℕ → ℕ → Result Product Stop → Type 0
-Prepares words held reads reads' (Ok p) = IsProduct words held p
+abbrev pub Prepares : List (List ℕ) → Option FileMap → ℕ → ℕ → Result (Vec Step Global) Stop → Type 0
+Prepares words held reads reads' (Ok steps) = IsProduct words held steps.items
 Prepares words held reads reads' (Err s) = Stops words held reads reads' s

@@ -1,11 +1,13 @@
--- The files of a module, in the order in which they are written, and the line for it on the output.
+-- What is done for each module of a set, in the order in which the modules are built: its files, and then its line on the output.
 use Rattle.std.specs.Prelude.{◌≡◌, ◌⊎◌, ◌≤◌, ℕ, List, [], ◌∷◌, ◌++◌, codes, length, map, take, string_bytes}
 use Rattle.fc_files.specs.Outside.{FileMap, SameBut, put}
 use Rattle.fc_syntax.specs.Tree.{Module}
 use Rattle.fc_model.specs.Canonical.{canonical, interface_text}
-use Rattle.fc_model.specs.Headers.{name_of, written_of}
+use Rattle.fc_model.specs.Headers.{name_of, set_written}
 use Rattle.fc_words.specs.Asking.{Order, Building, Linting}
 use Rattle.fc_build.specs.declared.product.File.{File}
+
+-- FILES
 
 -- a file to be written
 pub record Output : Type 0 where
@@ -36,15 +38,35 @@ core_output prefix m = record { name = core_name prefix m; text = canonical m }
 abbrev pub interface_output : List ℕ → Module → Output
 interface_output prefix m = record { name = interface_name prefix m; text = interface_text m }
 
--- what is written of a module that was read: a build writes both, of the module under the written header; Lint writes nothing
-abbrev pub outputs_of : Order → Module → List Output
-outputs_of (Building tuning prefix) m = core_output prefix (written_of m) ∷ interface_output prefix (written_of m) ∷ []
-outputs_of Linting m = []
+-- THE STEPS OF A SET
 
--- what is put for it
-abbrev pub done_line : Order → Module → List ℕ
-done_line (Building tuning prefix) m = codes "built " ++ name_of m ++ 10 ∷ []
-done_line Linting m = codes "ok " ++ name_of m ++ 10 ∷ []
+-- what is done for a module
+pub record Step : Type 0 where
+  pub files : List Output
+  pub line : List ℕ
+
+-- of a module under the header that is written: a build writes both its files; Lint writes nothing
+abbrev pub step_of : Order → Module → Step
+step_of (Building tuning prefix) m = record {
+  files = core_output prefix m ∷ interface_output prefix m ∷ [];
+  line = codes "built " ++ (name_of m ++ 10 ∷ []);
+}
+step_of Linting m = record { files = []; line = codes "ok " ++ (name_of m ++ 10 ∷ []) }
+
+-- for the modules of a set, in the order in which they are built
+abbrev pub steps_of : Order → List Module → List Step
+steps_of order ms = map (step_of order) (set_written ms)
+
+-- the files of steps, one after the other, and their lines
+abbrev pub all_files : List Step → List Output
+all_files [] = []
+all_files (s ∷ ss) = s.files ++ all_files ss
+
+abbrev pub all_lines : List Step → List ℕ
+all_lines [] = []
+all_lines (s ∷ ss) = s.line ++ all_lines ss
+
+-- WHAT STANDS
 
 -- the map with each of the files put in, in order
 abbrev pub put_all : List Output → FileMap → FileMap
@@ -70,3 +92,10 @@ WritesSome (o ∷ os) old new = SameBut o.name old new ⊎ WritesSome os (put o.
 -- the stream took a prefix of the text
 abbrev pub TakesSome : List ℕ → List ℕ → List ℕ → Type 0
 TakesSome text old new = (n : ℕ) × (n ≤ length text) × (new ≡ old ++ take n text)
+
+-- where a set stops: these steps are done, this one is not, and these are not begun
+pub record Stopped (steps : List Step) : Type 0 where
+  pub before : List Step
+  pub step : Step
+  pub rest : List Step
+  pub is : steps ≡ before ++ (step ∷ rest)

@@ -1,15 +1,15 @@
 //! From the words and the files to what is to be written.
-ghost use Rattle.std.specs.Prelude.{◌≡◌, ◌≤◌};
+ghost use Rattle.std.specs.Prelude.{◌≡◌, ◌≤◌, ◌∷◌, IfOk, map};
 ghost use Rattle.fc_words.specs.Asking.{texts};
 ghost use Rattle.fc_build.specs.Preparing.{Prepares, StopsAtFault};
 
 use crate::judge::{Judged, judge};
-use crate::product::{Product, product_of};
+use crate::product::{Step, steps_for};
 use crate::refusal::refusal_line;
 use fc_files::Files;
 use fc_syntax::Fault;
 use fc_words::{Unasked, request_of};
-use std::alloc::Global;
+use std::alloc::{AllocError, Global};
 
 /// Why nothing is to be written.
 #[derive(Debug, Drop)]
@@ -34,12 +34,26 @@ fn stop_at<'a>(alloc: Global, fault: &Fault) -> Stop<'a>
     }
 }
 
-/// What is to be written and to be put, by the words and what the files hold; or why nothing is. Writes nothing.
+/// The names of all files, in the order of the words.
+fn names_of<'a>(
+    alloc: Global,
+    file: &'a str,
+    others: &[&'a str],
+) -> Result<Vec<&'a str>, AllocError>
+    ensures { IfOk result (λ names. map (λ s. s.now) names.items ≡ file.now ∷ map (λ s. s.now) others.now) }
+{
+    let mut names = Vec::new(alloc);
+    names.push(file)?;
+    names.extend_from_slice(others)?;
+    Ok(names)
+}
+
+/// What is to be done, by the words and what the files hold; or why nothing is. Writes nothing.
 pub(crate) fn prepare<'a, F: Files>(
     alloc: Global,
     words: &'a [String],
     files: &mut F,
-) -> Result<Product, Stop<'a>>
+) -> Result<Vec<Step>, Stop<'a>>
     ensures held { F.held files.new ≡ F.held files.old }
     ensures writes { F.write_faults files.new ≡ F.write_faults files.old }
     ensures reads { F.read_faults files.old ≤ F.read_faults files.new }
@@ -50,15 +64,16 @@ pub(crate) fn prepare<'a, F: Files>(
         Err(Unasked::Usage) => return Err(Stop::Usage),
         Err(Unasked::Memory) => return Err(Stop::Memory),
     };
-    match judge(alloc, files, request.file, request.others.as_slice()) {
-        Judged::Accepted(unit, nameless) => {
-            match product_of(alloc, request.command, unit, nameless) {
-                Ok(product) => Ok(product),
-                Err(_) => Err(Stop::Memory),
-            }
-        }
+    let Ok(names) = names_of(alloc, request.file, request.others.as_slice()) else {
+        return Err(Stop::Memory);
+    };
+    match judge(alloc, files, names.as_slice()) {
+        Judged::Accepted(set) => match steps_for(alloc, request.command, set) {
+            Ok(steps) => Ok(steps),
+            Err(_) => Err(Stop::Memory),
+        },
         Judged::Refused(fault) => Err(stop_at(alloc, &fault)),
-        Judged::ReadFault => Err(Stop::ReadFault(request.file)),
+        Judged::ReadFault(name) => Err(Stop::ReadFault(name)),
         Judged::Memory => Err(Stop::Memory),
     }
 }

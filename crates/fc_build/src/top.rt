@@ -1,9 +1,9 @@
 //! The top call.
-ghost use Rattle.std.specs.Prelude.{◌≡◌, ◌≤◌, ◌⊎◌, Some, None, IfSome};
+ghost use Rattle.std.specs.Prelude.{◌≡◌, ◌≤◌, ◌⊎◌, List, Some, None, IfSome};
 ghost use Rattle.fc_files.specs.Outside.{Rose};
 ghost use Rattle.fc_syntax.specs.Tree.{Module as ModuleTree};
 ghost use Rattle.fc_syntax.specs.declared.fault.Fault.{Fault};
-ghost use Rattle.fc_model.specs.Acceptance.{Accepted, FirstFault};
+ghost use Rattle.fc_build.specs.Acceptance.{Accepted, FirstFault};
 ghost use Rattle.fc_words.specs.Asking.{Asked, Linting, asked, texts};
 ghost use Rattle.fc_words.specs.Plain.{IsPlain};
 ghost use Rattle.fc_build.specs.Delivering.{IsSameDevice};
@@ -19,10 +19,10 @@ use std::alloc::Global;
 
 /// Does what the words of a command line ask, over any files and streams, and answers the status of the program.
 ///
-/// `build` reads one module, judges it, and only then writes its canonical text and its interface and puts `built` with its name on
-/// `out`. `lint` reads and judges alike, writes nothing, and puts `ok` with the name. The statuses are 0 done, 1 refused, 2 usage, 3
-/// a read failed, 4 a write or a put on `out` failed, 5 out of memory; each but 0 puts one line on `err`, or a prefix of it where a
-/// put there fails, and 0 puts nothing there.
+/// `build` reads all modules of a set, in the order of the words, judges them, and only then writes the canonical text and the interface of
+/// each, in the order in which they are built, and puts `built` with its name on `out` behind its files. `lint` reads and judges alike, writes
+/// nothing, and puts `ok` with the name of each. The statuses are 0 done, 1 refused, 2 usage, 3 a read failed, 4 a write or a put on
+/// `out` failed, 5 out of memory; each but 0 puts one line on `err`, or a prefix of it where a put there fails, and 0 puts nothing there.
 pub fn run<F: Files, O: Sink, E: Sink>(
     alloc: Global,
     words: &[String],
@@ -32,7 +32,7 @@ pub fn run<F: Files, O: Sink, E: Sink>(
 ) -> u8
     ensures known { result ≤ 5 }
 
-    // 0: the set is accepted, the files are those before with the outputs put in, and the line is put
+    // 0: the set is accepted, the files are those before with the files of all modules put in, and the lines are put
     ensures done { result ≡ 0 → IsDone (texts words.now) (F.held files.old) (F.held files.new) (O.taken out.old) (O.taken out.new) }
     ensures silent { result ≡ 0 → IsSilent (E.taken err.old) (E.taken err.new) (E.faults err.old) (E.faults err.new) }
 
@@ -46,7 +46,7 @@ pub fn run<F: Files, O: Sink, E: Sink>(
     ensures usage_says { result ≡ 2 → Gets usage_line (E.faults err.old) (E.faults err.new) (E.taken err.old) (E.taken err.new) }
 
     // 3: only where the count of failed reads rose
-    ensures read_fault { result ≡ 3 → IsReadFault (texts words.now) (F.read_faults files.old) (F.read_faults files.new) (E.taken err.old) (E.taken err.new) (E.faults err.old) (E.faults err.new) }
+    ensures read_fault { result ≡ 3 → IsReadFault (texts words.now) (F.held files.old) (F.read_faults files.old) (F.read_faults files.new) (E.taken err.old) (E.taken err.new) (E.faults err.old) (E.faults err.new) }
 
     // 4: only where the count of failed writes, or of failed puts, rose; a prefix of the work stands
     ensures write_fault { result ≡ 4 → IsWriteFault (texts words.now) (F.held files.old) (F.held files.new) (F.write_faults files.old) (F.write_faults files.new) (O.taken out.old) (O.taken out.new) (O.faults out.old) (O.faults out.new) (E.taken err.old) (E.taken err.new) (E.faults err.old) (E.faults err.new) }
@@ -68,17 +68,17 @@ pub fn run<F: Files, O: Sink, E: Sink>(
     // an accepted set is done, where no count rose
     ensures complete { (a : Asked) → asked (texts words.now) ≡ Some a → (Rose (F.read_faults files.old) (F.read_faults files.new) → ⊥)
         → (Rose (F.write_faults files.old) (F.write_faults files.new) → ⊥) → (Rose (O.faults out.old) (O.faults out.new) → ⊥)
-        → IfSome (F.held files.old) (λ m. (unit : ModuleTree) → Accepted (files_in a) m unit → (result ≡ 0) ⊎ (result ≡ 5)) }
+        → IfSome (F.held files.old) (λ m. (set : List ModuleTree) → Accepted (files_in a) m set → (result ≡ 0) ⊎ (result ≡ 5)) }
 
     ensures reads_later { F.read_faults files.old ≤ F.read_faults files.new }
     ensures writes_later { F.write_faults files.old ≤ F.write_faults files.new }
     ensures puts_later { O.faults out.old ≤ O.faults out.new }
     ensures err_later { E.faults err.old ≤ E.faults err.new }
 {
-    let product = match prepare(alloc, words, files) {
-        Ok(product) => product,
+    let steps = match prepare(alloc, words, files) {
+        Ok(steps) => steps,
         Err(stop) => return tell_stop(err, &stop),
     };
-    let delivery = deliver(alloc, files, out, &product);
+    let delivery = deliver(alloc, files, out, steps.as_slice());
     tell_delivery(err, delivery)
 }

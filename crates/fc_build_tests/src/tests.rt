@@ -2,7 +2,9 @@
 ghost use Rattle.std.specs.Prelude.{None};
 
 mod failures;
+mod many;
 mod out_of_memory;
+mod sets;
 
 use fc_build::run;
 use fc_files::{Files, MemFiles, MemSink, ReadAnswer, WriteAnswer, has_distinct_names};
@@ -41,12 +43,15 @@ const SOUND: Devices<'static> = Devices {
     err_room: 100,
 };
 
-/// Runs the words over the file `M.fc`.
-fn run_over(
+/// A file of a run: its name and its text.
+type Entry<'a> = (&'a str, &'a [u8]);
+
+/// Runs the words over these files.
+fn run_set(
     rt: &impl Abort,
     alloc: Global,
     words: &[&str],
-    text: &[u8],
+    texts: &[Entry<'_>],
     devices: &Devices<'_>,
 ) -> Result<Ran, Fail> {
     let mut given = Vec::new(alloc);
@@ -54,7 +59,9 @@ fn run_over(
         given.push(String::from_str(alloc, *word)?)?;
     }
     let mut entries = Vec::new(alloc);
-    entries.push((String::from_str(alloc, "M.fc")?, text.to_vec(alloc)?))?;
+    for (name, text) in texts {
+        entries.push((String::from_str(alloc, *name)?, text.to_vec(alloc)?))?;
+    }
     assert!(rt; has_distinct_names(&entries));
     let mut files = MemFiles::new(entries, devices.calls.to_vec(alloc)?);
     let out_room = vec![in alloc; 0; devices.out_room]?;
@@ -68,6 +75,17 @@ fn run_over(
         err,
         files,
     })
+}
+
+/// Runs the words over the file `M.fc`.
+fn run_over(
+    rt: &impl Abort,
+    alloc: Global,
+    words: &[&str],
+    text: &[u8],
+    devices: &Devices<'_>,
+) -> Result<Ran, Fail> {
+    run_set(rt, alloc, words, &[("M.fc", text)], devices)
 }
 
 /// A run over the file `M.fc`: the words, the text, the status, and what the two streams take.
@@ -112,11 +130,11 @@ fn each_status_has_its_line(rt: HostRuntime) -> Result<(), Fail> {
             b"refused 10 Missing C.fc - -\n",
         ),
         (
-            &["build", "C.fc", "M.fc"],
+            &["build", "M.fc", "C.fc"],
             HEADER,
             1,
             b"",
-            b"refused 14 TooManyModules M.fc - -\n",
+            b"refused 10 Missing C.fc - -\n",
         ),
         (&["build"], HEADER, 2, b"", usage),
         (&["build", "-M.fc"], HEADER, 2, b"", usage),

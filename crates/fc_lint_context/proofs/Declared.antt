@@ -1,23 +1,20 @@
 -- The types of what is declared: put into a table in turn, found there, and kept while it grows.
-use Rattle.std.proofs.Common.{◌≡◌, ℕ, zero, suc, ◌+◌, ◌≤◌, Bool, true, false, List, [], ◌∷◌, ◌++◌, length, map, slice_get, take, Option, Some, None, IfSome, Result, Ok, Err, OnOk, if◌then◌else◌, refl, sym, ap, subst, ◌∙◌, arith}
+use Rattle.std.proofs.Common.{◌≡◌, ℕ, zero, suc, ◌+◌, ◌≤◌, List, [], ◌∷◌, ◌++◌, length, map, slice_get, take, Option, Some, None, IfSome, Result, Ok, Err, OnOk, refl, sym, ap, subst, ◌∙◌, arith}
 use Rattle.std.proofs.lemmas.List.{length-map, take_more}
 use Rattle.std.proofs.lemmas.Option.{get_or_from_slice_get, slice_get-map, slice_get_within}
-use Rattle.std.specs.Option.{option_and_then, option_map}
-use Rattle.std.specs.Str.{bytes_eq}
+use Rattle.std.specs.Option.{option_map}
 use Rattle.fc_syntax.specs.Tree.{Kind, Word}
 use Rattle.fc_syntax.specs.declared.ty.Name.{Name}
 use Rattle.fc_syntax.specs.declared.fault.FaultKind.TheVariants.{Unbound}
-use Rattle.fc_model.proofs.Sameness.{bytes_eq_eq}
-use Rattle.fc_model.specs.Calling.{Constructor, con_decl, constructor, constructor_type}
-use Rattle.fc_model.specs.Coercing.{Axiom, axiom_decl, axiom_named}
+use Rattle.fc_model.specs.Calling.{Constructor, constructor_type}
+use Rattle.fc_model.specs.Coercing.{Axiom}
 use Rattle.fc_model.specs.Faulting.{F}
 use Rattle.fc_model.specs.Nameless.{NTy, NDecl}
-use Rattle.fc_model.specs.NamelessView.{ndecls_of}
 use Rattle.fc_model.specs.Says.{IsFlaw, Refuses}
 use Rattle.fc_model.specs.declared.flaw.Flawed.{Flawed}
 use Rattle.fc_model.specs.declared.flaw.Flawed.TheVariants.{Memory, Flaw as OfFlaw}
-use Rattle.fc_types.specs.Listed.{axioms_in, constructors_in}
-use Rattle.fc_types.specs.ModuleViews.{modules_of, module_word_of}
+use Rattle.fc_types.proofs.ByNumber.{axioms_in-own, constructors_in-own}
+use Rattle.fc_types.specs.Listed.{axioms_in, constructors_in, own_axioms, own_constructors}
 use Rattle.fc_types.specs.TableViews.{axiom_of}
 use Rattle.fc_types.specs.Tables.{found}
 use Rattle.fc_types.specs.declared.declarations.Declarations.{Declarations}
@@ -28,7 +25,7 @@ use Rattle.fc_type_table.specs.Scopes.{IsTypeAt, shown_at}
 use Rattle.fc_type_table.specs.declared.node.Node.{Node}
 use Rattle.fc_type_table.specs.declared.node.TypeId.{TypeId}
 use Rattle.fc_lint_context.proofs.Closed.{IsTypeAt-closed, shown_at-closed}
-use Rattle.fc_lint_context.specs.DeclaredViews.{AreRead, AreSidesAt, ShowSides, axiom_lefts, axiom_rights, constructor_types, left_side, name_in, own_constructor_type, right_side}
+use Rattle.fc_lint_context.specs.DeclaredViews.{AreRead, AreSidesAt, ShowSides, axiom_left, axiom_lefts, axiom_right, axiom_rights, constructor_types, left_side, name_in, own_constructor_type, right_side}
 use Rattle.fc_lint_context.specs.declared.declared_types.DeclaredTypes.{DeclaredTypes}
 use Rattle.fc_lint_context.specs.declared.declared_types.TypedAxiom.{TypedAxiom}
 
@@ -109,68 +106,64 @@ made_all f xs n ts e far = e ∙ take_far (map f xs) n (omega (arith, length-map
 
 -- ---- constructors
 
+abbrev type_of : Word × Constructor → NTy
+type_of k = own_constructor_type k.0 k.1
+
+-- where no pair stands, nothing stands in what is made of the pairs
+no_part : {X Y : Type 0} (xs : List (X × Y)) (ys : List Y) (i : ℕ) → ys ≡ map (λ p. p.1) xs → slice_get xs i ≡ None → slice_get ys i ≡ None
+no_part xs ys i e none = ap (λ zs. slice_get zs i) e ∙ slice_get-map (λ p. p.1) xs i ∙ ap (option_map (λ p. p.1)) none
+
+-- as many pairs as parts
+far_part : {X Y : Type 0} (xs : List (X × Y)) (ys : List Y) (n : ℕ) → ys ≡ map (λ p. p.1) xs → length ys ≤ n → length xs ≤ n
+far_part {X} {Y} xs ys n e far =
+    let count : length (map (λ (p : X × Y). p.1) xs) ≡ length xs = length-map xs (λ p. p.1) in
+    let same : length ys ≡ length (map (λ (p : X × Y). p.1) xs) = ap length e in omega arith
+
 pub constructor_none : (ns : List Node) (d : DeclaredTypes) (i : ℕ) → AreRead ns d → None ≡ slice_get d.constructor_types i → slice_get (constructors_in d.declared.now) i ≡ None
 unfolding constructor_types
-constructor_none ns d i r e = made_none (own_constructor_type (module_word_of d.declared.now)) (constructors_in d.declared.now) ns d.constructor_types i r.constructors e
+constructor_none ns d i r e =
+    let ks = own_constructors d.declared.now in
+    no_part ks (constructors_in d.declared.now) i (constructors_in-own d.declared.now) (made_none type_of ks ns d.constructor_types i r.constructors e)
 
 pub constructor_valid : (ns : List Node) (ks : List Kind) (d : DeclaredTypes) (i : ℕ) (id : TypeId) → AreRead ns d → slice_get d.constructor_types i ≡ Some id → IsTypeAt ns ks id.0
 constructor_valid ns ks d i id r e = IsTypeAt-closed ns ks id.0 (valid_at ns d.constructor_types i id e r.constructors_in)
-
--- what is found is the module's own
-found_in : {X : Type 0} (find : List NDecl → Option X) (m : Word) (ds : List NDecl) (v : Word) (x : X) → find [] ≡ None → find (if bytes_eq m v then ds else []) ≡ Some x → m ≡ v
-found_in find m ds v x none e = by (bytes_eq m v) refl e
-  where
-    by : (b : Bool) → bytes_eq m v ≡ b → find (if b then ds else []) ≡ Some x → m ≡ v
-    by true same e = bytes_eq_eq m v same
-    by false same e = cc
-
-own_module : (d : Declarations) (n : Name) (k : Constructor) → constructor (modules_of d) n ≡ Some k → n.module ≡ Some (module_word_of d)
-unfolding modules_of
-own_module d n k e = by n.module e
-  where
-    by : (o : Option Word) → constructor (modules_of d) (record { «module» = o; text = n.text }) ≡ Some k → o ≡ Some (module_word_of d)
-    by None e = cc
-    by (Some v) e = ap Some (sym (found_in (λ ds. con_decl ds n.text) d.module.now.name (ndecls_of d.module.now.decls) v k refl e))
 
 -- of its name, only the module counts
 alike : (m n : Name) (k : Constructor) → m.module ≡ n.module → constructor_type m k ≡ constructor_type n k
 alike m n k e = let f : Option Word → NTy = λ o. constructor_type (record { «module» = o; text = n.text }) k in ap f e
 
-pub constructor_shown : (ns : List Node) (ks : List Kind) (d : DeclaredTypes) (i : ℕ) (id : TypeId) (n : Name) (k : Constructor) → AreRead ns d → slice_get d.constructor_types i ≡ Some id → slice_get (constructors_in d.declared.now) i ≡ Some k
-    → slice_get (constructors_in d.declared.now) i ≡ constructor (modules_of d.declared.now) n → shown_at ns ks id.0 ≡ constructor_type n k
+pub constructor_shown : (ns : List Node) (ks : List Kind) (d : DeclaredTypes) (i : ℕ) (id : TypeId) (n : Name) (k : Word × Constructor) → AreRead ns d → slice_get d.constructor_types i ≡ Some id
+    → Some k ≡ slice_get (own_constructors d.declared.now) i → option_map (λ k. k.0) (slice_get (own_constructors d.declared.now) i) ≡ n.module → shown_at ns ks id.0 ≡ constructor_type n k.1
 unfolding constructor_types
-constructor_shown ns ks d i id n k r at here named =
-    let m = module_word_of d.declared.now in
-    made_shown (own_constructor_type m) (constructors_in d.declared.now) ns ks d.constructor_types i id k r.constructors_in r.constructors at here
-    ∙ alike (name_in m k.data_word) n k (sym (own_module d.declared.now n k (sym named ∙ here)))
+constructor_shown ns ks d i id n k r at here own =
+    made_shown type_of (own_constructors d.declared.now) ns ks d.constructor_types i id k r.constructors_in r.constructors at (sym here)
+    ∙ alike (name_in k.0 k.1.data_word) n k.1 (ap (option_map (λ k. k.0)) here ∙ own)
 
 -- one type more, where there was memory for it
-pub constructor_pushed : {T E : Type 0} (r : Result T E) (old new : List Node) (d : Declarations) (i : ℕ) (ids pushed : List TypeId) (id : TypeId) (k : Constructor) (word : Word) → word ≡ module_word_of d → Extends old new → AreTypesAt old [] ids
-    → shown_all_at old [] ids ≡ take i (constructor_types d) → Some k ≡ slice_get (constructors_in d) i → shown_at new [] id.0 ≡ own_constructor_type word k → OnOk r (pushed ≡ ids ++ id ∷ []) → OnOk r (shown_all_at new [] pushed ≡ take (i + 1) (constructor_types d))
+pub constructor_pushed : {T E : Type 0} (r : Result T E) (old new : List Node) (d : Declarations) (i : ℕ) (ids pushed : List TypeId) (id : TypeId) (k : Word × Constructor) → Extends old new → AreTypesAt old [] ids
+    → shown_all_at old [] ids ≡ take i (constructor_types d) → Some k ≡ slice_get (own_constructors d) i → shown_at new [] id.0 ≡ own_constructor_type k.0 k.1 → OnOk r (pushed ≡ ids ++ id ∷ [])
+    → OnOk r (shown_all_at new [] pushed ≡ take (i + 1) (constructor_types d))
 unfolding constructor_types
-constructor_pushed (Err x) old new d i ids pushed id k word same more ts so_far at shown e = tt
-constructor_pushed (Ok x) old new d i ids pushed id k word same more ts so_far at shown e =
-    made_pushed (own_constructor_type (module_word_of d)) (constructors_in d) old new ids pushed id i k more ts so_far at (shown ∙ ap (λ w. own_constructor_type w k) same) e
+constructor_pushed (Err x) old new d i ids pushed id k more ts so_far at shown e = tt
+constructor_pushed (Ok x) old new d i ids pushed id k more ts so_far at shown e = made_pushed type_of (own_constructors d) old new ids pushed id i k more ts so_far at shown e
 
 pub constructors_all : (d : Declarations) (n : ℕ) (ts : List NTy) → ts ≡ take n (constructor_types d) → length (constructors_in d) ≤ n → ts ≡ constructor_types d
 unfolding constructor_types
-constructors_all d n ts e far = made_all (own_constructor_type (module_word_of d)) (constructors_in d) n ts e far
+constructors_all d n ts e far = made_all type_of (own_constructors d) n ts e (far_part (own_constructors d) (constructors_in d) n (constructors_in-own d) far)
 
 -- ---- axioms
 
-abbrev left_of : Declarations → NDecl → NTy
-left_of d x = left_side (axiom_of (Some (module_word_of d)) x)
-
-abbrev right_of : Declarations → NDecl → NTy
-right_of d x = right_side (axiom_of (Some (module_word_of d)) x)
-
 pub left_none : (ns : List Node) (d : DeclaredTypes) (i : ℕ) → AreRead ns d → None ≡ slice_get d.axiom_lefts i → slice_get (axioms_in d.declared.now) i ≡ None
 unfolding axiom_lefts
-left_none ns d i r e = made_none (left_of d.declared.now) (axioms_in d.declared.now) ns d.axiom_lefts i r.lefts e
+left_none ns d i r e =
+    let xs = own_axioms d.declared.now in
+    no_part xs (axioms_in d.declared.now) i (axioms_in-own d.declared.now) (made_none axiom_left xs ns d.axiom_lefts i r.lefts e)
 
 pub right_none : (ns : List Node) (d : DeclaredTypes) (i : ℕ) → AreRead ns d → None ≡ slice_get d.axiom_rights i → slice_get (axioms_in d.declared.now) i ≡ None
 unfolding axiom_rights
-right_none ns d i r e = made_none (right_of d.declared.now) (axioms_in d.declared.now) ns d.axiom_rights i r.rights e
+right_none ns d i r e =
+    let xs = own_axioms d.declared.now in
+    no_part xs (axioms_in d.declared.now) i (axioms_in-own d.declared.now) (made_none axiom_right xs ns d.axiom_rights i r.rights e)
 
 pub axiom_valid : (ns : List Node) (ks : List Kind) (d : DeclaredTypes) (i : ℕ) (k : TypedAxiom) → AreRead ns d → slice_get d.axiom_lefts i ≡ Some k.left → slice_get d.axiom_rights i ≡ Some k.right → AreSidesAt ns ks k
 axiom_valid ns ks d i k r left right = record {
@@ -178,45 +171,32 @@ axiom_valid ns ks d i k r left right = record {
   right = IsTypeAt-closed ns ks k.right.0 (valid_at ns d.axiom_rights i k.right right r.rights_in);
 }
 
-own_axiom : (d : Declarations) (n : Name) (a : Axiom) → axiom_named (modules_of d) n ≡ Some a → n.module ≡ Some (module_word_of d)
-unfolding modules_of
-own_axiom d n a e = by n.module e
-  where
-    by : (o : Option Word) → axiom_named (modules_of d) (record { «module» = o; text = n.text }) ≡ Some a → o ≡ Some (module_word_of d)
-    by None e = cc
-    by (Some v) e = ap Some (sym (found_in (λ ds. axiom_decl (Some v) ds n.text) d.module.now.name (ndecls_of d.module.now.decls) v a refl e))
-
-pub axiom_shown : (ns : List Node) (ks : List Kind) (d : DeclaredTypes) (i : ℕ) (n : Name) (x : NDecl) (k : TypedAxiom) (a : Axiom) → AreRead ns d → slice_get d.axiom_lefts i ≡ Some k.left → slice_get d.axiom_rights i ≡ Some k.right
-    → slice_get (axioms_in d.declared.now) i ≡ Some x → option_and_then (axiom_of n.module) (slice_get (axioms_in d.declared.now) i) ≡ axiom_named (modules_of d.declared.now) n → axiom_of n.module x ≡ Some a
-    → ShowSides ns ks k a
+pub axiom_shown : (ns : List Node) (ks : List Kind) (d : DeclaredTypes) (i : ℕ) (n : Name) (x : Word × NDecl) (k : TypedAxiom) (a : Axiom) → AreRead ns d → slice_get d.axiom_lefts i ≡ Some k.left → slice_get d.axiom_rights i ≡ Some k.right
+    → Some x ≡ slice_get (own_axioms d.declared.now) i → option_map (λ x. x.0) (slice_get (own_axioms d.declared.now) i) ≡ n.module → axiom_of n.module x.1 ≡ Some a → ShowSides ns ks k a
 unfolding axiom_lefts axiom_rights
-axiom_shown ns ks d i n x k a r left right here named is =
-    let there : n.module ≡ Some (module_word_of d.declared.now) = own_axiom d.declared.now n a (sym named ∙ ap (option_and_then (axiom_of n.module)) here ∙ is) in
-    let own : axiom_of (Some (module_word_of d.declared.now)) x ≡ Some a = ap (λ o. axiom_of o x) (sym there) ∙ is in
+axiom_shown ns ks d i n x k a r left right here own is =
+    let there : Some x.0 ≡ n.module = ap (option_map (λ x. x.0)) here ∙ own in
+    let same : axiom_of (Some x.0) x.1 ≡ Some a = ap (λ o. axiom_of o x.1) there ∙ is in
     record {
-      left = made_shown (left_of d.declared.now) (axioms_in d.declared.now) ns ks d.axiom_lefts i k.left x r.lefts_in r.lefts left here ∙ ap left_side own;
-      right = made_shown (right_of d.declared.now) (axioms_in d.declared.now) ns ks d.axiom_rights i k.right x r.rights_in r.rights right here ∙ ap right_side own;
+      left = made_shown axiom_left (own_axioms d.declared.now) ns ks d.axiom_lefts i k.left x r.lefts_in r.lefts left (sym here) ∙ ap left_side same;
+      right = made_shown axiom_right (own_axioms d.declared.now) ns ks d.axiom_rights i k.right x r.rights_in r.rights right (sym here) ∙ ap right_side same;
     }
 
 -- a side more
-pub left_pushed : (old new : List Node) (d : Declarations) (ids pushed : List TypeId) (id : TypeId) (i : ℕ) (x : NDecl) (word : Word) → word ≡ module_word_of d → Extends old new → AreTypesAt old [] ids
-    → shown_all_at old [] ids ≡ take i (axiom_lefts d) → Some x ≡ slice_get (axioms_in d) i → shown_at new [] id.0 ≡ left_side (axiom_of (Some word) x) → pushed ≡ ids ++ id ∷ []
-    → shown_all_at new [] pushed ≡ take (i + 1) (axiom_lefts d)
+pub left_pushed : (old new : List Node) (d : Declarations) (ids pushed : List TypeId) (id : TypeId) (i : ℕ) (x : Word × NDecl) → Extends old new → AreTypesAt old [] ids → shown_all_at old [] ids ≡ take i (axiom_lefts d)
+    → Some x ≡ slice_get (own_axioms d) i → shown_at new [] id.0 ≡ axiom_left x → pushed ≡ ids ++ id ∷ [] → shown_all_at new [] pushed ≡ take (i + 1) (axiom_lefts d)
 unfolding axiom_lefts
-left_pushed old new d ids pushed id i x word same more ts so_far at shown e =
-    made_pushed (left_of d) (axioms_in d) old new ids pushed id i x more ts so_far at (shown ∙ ap (λ w. left_side (axiom_of (Some w) x)) same) e
+left_pushed old new d ids pushed id i x more ts so_far at shown e = made_pushed axiom_left (own_axioms d) old new ids pushed id i x more ts so_far at shown e
 
-pub right_pushed : (old new : List Node) (d : Declarations) (ids pushed : List TypeId) (id : TypeId) (i : ℕ) (x : NDecl) (word : Word) → word ≡ module_word_of d → Extends old new → AreTypesAt old [] ids
-    → shown_all_at old [] ids ≡ take i (axiom_rights d) → Some x ≡ slice_get (axioms_in d) i → shown_at new [] id.0 ≡ right_side (axiom_of (Some word) x) → pushed ≡ ids ++ id ∷ []
-    → shown_all_at new [] pushed ≡ take (i + 1) (axiom_rights d)
+pub right_pushed : (old new : List Node) (d : Declarations) (ids pushed : List TypeId) (id : TypeId) (i : ℕ) (x : Word × NDecl) → Extends old new → AreTypesAt old [] ids → shown_all_at old [] ids ≡ take i (axiom_rights d)
+    → Some x ≡ slice_get (own_axioms d) i → shown_at new [] id.0 ≡ axiom_right x → pushed ≡ ids ++ id ∷ [] → shown_all_at new [] pushed ≡ take (i + 1) (axiom_rights d)
 unfolding axiom_rights
-right_pushed old new d ids pushed id i x word same more ts so_far at shown e =
-    made_pushed (right_of d) (axioms_in d) old new ids pushed id i x more ts so_far at (shown ∙ ap (λ w. right_side (axiom_of (Some w) x)) same) e
+right_pushed old new d ids pushed id i x more ts so_far at shown e = made_pushed axiom_right (own_axioms d) old new ids pushed id i x more ts so_far at shown e
 
 pub lefts_all : (d : Declarations) (n : ℕ) (ts : List NTy) → ts ≡ take n (axiom_lefts d) → length (axioms_in d) ≤ n → ts ≡ axiom_lefts d
 unfolding axiom_lefts
-lefts_all d n ts e far = made_all (left_of d) (axioms_in d) n ts e far
+lefts_all d n ts e far = made_all axiom_left (own_axioms d) n ts e (far_part (own_axioms d) (axioms_in d) n (axioms_in-own d) far)
 
 pub rights_all : (d : Declarations) (n : ℕ) (ts : List NTy) → ts ≡ take n (axiom_rights d) → length (axioms_in d) ≤ n → ts ≡ axiom_rights d
 unfolding axiom_rights
-rights_all d n ts e far = made_all (right_of d) (axioms_in d) n ts e far
+rights_all d n ts e far = made_all axiom_right (own_axioms d) n ts e (far_part (own_axioms d) (axioms_in d) n (axioms_in-own d) far)

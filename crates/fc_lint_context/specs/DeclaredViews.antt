@@ -1,17 +1,17 @@
--- What the numbers of the types of what a module declares mean.
+-- What the numbers of the types of what modules declare mean.
 use Rattle.std.specs.Prelude.{◌≡◌, List, [], map, Option, Some, None}
 use Rattle.fc_model.specs.Calling.{Constructor, constructor_type, over_binders}
 use Rattle.fc_model.specs.Coercing.{Axiom}
 use Rattle.fc_model.specs.Kinding.{Modules}
-use Rattle.fc_model.specs.Nameless.{NBType, NTInt, NTy}
+use Rattle.fc_model.specs.Nameless.{NBType, NDecl, NTInt, NTy}
 use Rattle.fc_syntax.specs.Tree.{Kind, Word}
 use Rattle.fc_syntax.specs.declared.ty.Name.{Name}
 use Rattle.fc_type_scope.specs.Scopes.{AreTypesAt, shown_all_at}
 use Rattle.fc_type_table.specs.Scopes.{IsTypeAt, shown_at}
 use Rattle.fc_type_table.specs.declared.node.Node.{Node}
-use Rattle.fc_types.specs.Listed.{axioms_in, constructors_in, definition_types}
+use Rattle.fc_types.specs.Listed.{definition_types, own_axioms, own_constructors}
 use Rattle.fc_types.specs.TableViews.{axiom_of}
-use Rattle.fc_types.specs.ModuleViews.{modules_of, module_word_of}
+use Rattle.fc_types.specs.ModuleViews.{modules_of}
 use Rattle.fc_types.specs.declared.declarations.Declarations.{Declarations}
 use Rattle.fc_lint_context.specs.declared.declared_types.DeclaredTypes.{DeclaredTypes}
 use Rattle.fc_lint_context.specs.declared.declared_types.TypedAxiom.{TypedAxiom}
@@ -28,9 +28,9 @@ name_in m w = record { «module» = Some m; text = w }
 abbrev pub own_constructor_type : Word → Constructor → NTy
 own_constructor_type m k = constructor_type (name_in m k.data_word) k
 
--- the constructors as functions of their binders
+-- the constructors as functions of their binders, each in its own module
 unfoldable pub constructor_types : Declarations → List NTy
-constructor_types d = map (own_constructor_type (module_word_of d)) (constructors_in d)
+constructor_types d = map (λ k. own_constructor_type k.0 k.1) (own_constructors d)
 
 -- a side of an axiom as a `forall` over the axiom's parameters
 abbrev pub over_kinds : List Kind → NTy → NTy
@@ -45,11 +45,18 @@ abbrev pub right_side : Option Axiom → NTy
 right_side (Some a) = over_kinds a.params a.ends.right
 right_side None = NTInt
 
+-- the sides of the axiom of a declaration of the module of a word
+abbrev pub axiom_left : Word × NDecl → NTy
+axiom_left a = left_side (axiom_of (Some a.0) a.1)
+
+abbrev pub axiom_right : Word × NDecl → NTy
+axiom_right a = right_side (axiom_of (Some a.0) a.1)
+
 unfoldable pub axiom_lefts : Declarations → List NTy
-axiom_lefts d = map (λ x. left_side (axiom_of (Some (module_word_of d)) x)) (axioms_in d)
+axiom_lefts d = map axiom_left (own_axioms d)
 
 unfoldable pub axiom_rights : Declarations → List NTy
-axiom_rights d = map (λ x. right_side (axiom_of (Some (module_word_of d)) x)) (axioms_in d)
+axiom_rights d = map axiom_right (own_axioms d)
 
 -- the sides of an axiom are types, and show what it relates
 pub record AreSidesAt (ns : List Node) (ks : List Kind) (k : TypedAxiom) : Type 0 where

@@ -1,19 +1,19 @@
-//! The sides of the axioms of a module as `forall`s over their parameters, in a table.
-ghost use Rattle.std.specs.Prelude.{◌≡◌, [], length, Some, IfOk, OnOk};
+//! The sides of the axioms of modules as `forall`s over their parameters, in a table.
+ghost use Rattle.std.specs.Prelude.{◌≡◌, [], length, IfOk, OnOk};
 ghost use Rattle.fc_model.specs.Calling.{applied_to_variables};
 ghost use Rattle.fc_model.specs.Kinding as words;
 ghost use Rattle.fc_model.specs.Nameless.{NTCon, NTInt};
-ghost use Rattle.fc_model.specs.NamelessView.{ndecl_of, nparams_of, nplains_of, nty_of};
+ghost use Rattle.fc_model.specs.NamelessView.{nparams_of, nplains_of, nty_of};
 ghost use Rattle.fc_type_table.specs.TypeTables.{Grows, IsType, shown};
 ghost use Rattle.fc_types.specs.KindViews.{own_kinds};
-ghost use Rattle.fc_types.specs.TableViews.{axiom_of};
-ghost use Rattle.fc_lint_context.specs.DeclaredViews.{left_side, name_in, over_kinds, right_side};
+ghost use Rattle.fc_types.specs.Listed.{own_axiom};
+ghost use Rattle.fc_lint_context.specs.DeclaredViews.{axiom_left, axiom_right, name_in, over_kinds};
 
 use crate::constructors::{applied_to_params, over_params, param_kinds};
 use fc_syntax::{Memory, NDecl, NTy, Param, Plain, Seq, Text};
 use fc_type_scope::TypeScope;
 use fc_type_table::{TypeId, TypeTable};
-use fc_types::{Kinds, LocalKind};
+use fc_types::{DeclaredAxiom, Kinds, LocalKind};
 use std::alloc::Global;
 
 /// The sides of an axiom.
@@ -135,24 +135,30 @@ fn no_sides<'a>(types: &mut TypeTable<'a>) -> Result<Sides, Memory>
     })
 }
 
-/// The sides of the axiom that a declaration of the module of this word has; `Int#` for both where it has none.
+/// The sides of an axiom; `Int#` for both where its declaration has none.
 #[tactic(auto, using(fc_syntax::proofs::View::view_rules))]
 pub(crate) fn axiom_sides<'a>(
     alloc: Global,
-    decl: &'a NDecl,
-    word: &'a Text,
+    declared: &DeclaredAxiom<'a>,
     types: &mut TypeTable<'a>,
 ) -> Result<Sides, Memory>
     ensures left_in { IfOk result (λ s. IsType types.new [] s.left) }
     ensures right_in { IfOk result (λ s. IsType types.new [] s.right) }
-    ensures left { IfOk result (λ s. shown types.new [] s.left ≡ left_side (axiom_of (Some word.now) (ndecl_of decl.now))) }
-    ensures right { IfOk result (λ s. shown types.new [] s.right ≡ right_side (axiom_of (Some word.now) (ndecl_of decl.now))) }
+    ensures left { IfOk result (λ s. shown types.new [] s.left ≡ axiom_left (own_axiom declared.now)) }
+    ensures right { IfOk result (λ s. shown types.new [] s.right ≡ axiom_right (own_axiom declared.now)) }
     ensures grows { OnOk result (Grows types.old types.new) }
 {
-    match decl {
+    match declared.decl {
         NDecl::DataType(_, _, _) => no_sides(types),
         NDecl::NewType(own_word, params, t, _) => {
-            newtype_sides(alloc, params.as_slice(), t, word, own_word, types)
+            newtype_sides(
+                alloc,
+                params.as_slice(),
+                t,
+                declared.module,
+                own_word,
+                types,
+            )
         }
         NDecl::Family(_, _, _) => no_sides(types),
         NDecl::Axiom(_, params, left, right) => {

@@ -1,4 +1,4 @@
-//! The constructors of a module as functions of their binders, in a table.
+//! The constructors of modules as functions of their binders, in a table.
 ghost use Rattle.std.specs.Prelude.{◌≡◌, ◌+◌, [], ◌∷◌, map, IfOk, OnOk};
 ghost use Rattle.fc_syntax.specs.View.{kind_of};
 ghost use Rattle.fc_model.specs.Calling.{applied_to_variables, constructed_type, over_binders};
@@ -12,7 +12,7 @@ ghost use Rattle.fc_types.specs.KindViews.{behind_group, own_kinds};
 ghost use Rattle.fc_types.specs.TableViews.{constructor_of};
 ghost use Rattle.fc_lint_context.specs.DeclaredViews.{name_in, own_constructor_type};
 
-use fc_syntax::{Kind, Memory, NTy, Param, Seq, Text};
+use fc_syntax::{Kind, Memory, NTy, Param, Seq};
 use fc_type_scope::{Entered, TypeScope};
 use fc_type_table::{TypeId, TypeTable};
 use fc_types::{DeclaredCon, Kinds, LocalKind};
@@ -118,19 +118,18 @@ fn over_fields<'a>(
 /// What a constructor of a module makes, as a function of its fields, behind its parameters and its own binders.
 fn over_own_fields<'x, 'a>(
     con: &DeclaredCon<'a>,
-    word: &'a Text,
     entered: &'x Entered<'a>,
     scope: &'x TypeScope<'x>,
     types: &mut TypeTable<'a>,
 ) -> Result<TypeId, Memory>
     requires { own_kinds entered.now.kinds ≡ binder_kinds (constructor_of con.now).binders }
     ensures valid { IfOk result (λ id. IsType types.new (kinds_past (constructor_of con.now).binders (scope_in scope.now)) id) }
-    ensures view { IfOk result (λ id. shown types.new (kinds_past (constructor_of con.now).binders (scope_in scope.now)) id ≡ over_binders (map NBValue (constructor_of con.now).fields) (constructed_type (name_in word.now con.now.data_word.now) (constructor_of con.now))) }
+    ensures view { IfOk result (λ id. shown types.new (kinds_past (constructor_of con.now).binders (scope_in scope.now)) id ≡ over_binders (map NBValue (constructor_of con.now).fields) (constructed_type (name_in con.now.module.now con.now.data_word.now) (constructor_of con.now))) }
     ensures grows { OnOk result (Grows types.old types.new) }
 {
     let kinds = entered.kinds_behind(scope.kinds);
     let inner = TypeScope { kinds: &kinds };
-    let head = inner.constructor(Some(word), con.data_word, types)?;
+    let head = inner.constructor(Some(con.module), con.data_word, types)?;
     let answer = applied_to_params(&inner, head, con.params.len(), entered.kinds.len(), types)?;
     over_fields(&inner, con.con.fields.as_slice(), answer, types)
 }
@@ -140,18 +139,17 @@ fn over_own_fields<'x, 'a>(
 fn over_own_binders<'x, 'a>(
     alloc: Global,
     con: &DeclaredCon<'a>,
-    word: &'a Text,
     scope: &'x TypeScope<'x>,
     types: &mut TypeTable<'a>,
 ) -> Result<TypeId, Memory>
     ensures valid { IfOk result (λ id. IsType types.new (scope_in scope.now) id) }
-    ensures view { IfOk result (λ id. shown types.new (scope_in scope.now) id ≡ over_binders (constructor_of con.now).binders (over_binders (map NBValue (constructor_of con.now).fields) (constructed_type (name_in word.now con.now.data_word.now) (constructor_of con.now)))) }
+    ensures view { IfOk result (λ id. shown types.new (scope_in scope.now) id ≡ over_binders (constructor_of con.now).binders (over_binders (map NBValue (constructor_of con.now).fields) (constructed_type (name_in con.now.module.now con.now.data_word.now) (constructor_of con.now)))) }
     ensures grows { OnOk result (Grows types.old types.new) }
 {
     let binders = con.con.binders.as_slice();
     let entered = scope.enter(alloc, binders, types)?;
     let here = *scope;
-    let body = over_own_fields(con, word, &entered, &here, types)?;
+    let body = over_own_fields(con, &entered, &here, types)?;
     scope.function_over(alloc, binders, &entered, body, types)
 }
 
@@ -200,16 +198,15 @@ pub(crate) fn over_params<'a>(
 pub(crate) fn constructor_type<'a>(
     alloc: Global,
     con: &DeclaredCon<'a>,
-    word: &'a Text,
     types: &mut TypeTable<'a>,
 ) -> Result<TypeId, Memory>
     ensures valid { IfOk result (λ id. IsType types.new [] id) }
-    ensures view { IfOk result (λ id. shown types.new [] id ≡ own_constructor_type word.now (constructor_of con.now)) }
+    ensures view { IfOk result (λ id. shown types.new [] id ≡ own_constructor_type con.now.module.now (constructor_of con.now)) }
     ensures grows { OnOk result (Grows types.old types.new) }
 {
     let kinds = param_kinds(alloc, con.params.as_slice())?;
     let group = Kinds::Group(kinds.as_slice(), &Kinds::End);
     let scope = TypeScope { kinds: &group };
-    let body = over_own_binders(alloc, con, word, &scope, types)?;
+    let body = over_own_binders(alloc, con, &scope, types)?;
     over_params(alloc, kinds.as_slice(), body, types)
 }

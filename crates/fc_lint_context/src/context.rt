@@ -37,7 +37,7 @@ use std::alloc::Global;
 /// What is in scope where an expression is judged.
 #[derive(Clone, Copy)]
 pub struct Context<'x, 'd, 'a> {
-    /// What the module declares.
+    /// What the modules declare.
     pub declared: &'x DeclaredTypes<'d, 'a>,
     /// The type variables in scope.
     pub scope: TypeScope<'x>,
@@ -50,7 +50,7 @@ pub struct Context<'x, 'd, 'a> {
 }
 
 impl<'x, 'd, 'a> Context<'x, 'd, 'a> {
-    /// Where nothing is in scope but what the module declares; `kinds` has no type variable.
+    /// Where nothing is in scope but what the modules declare; `kinds` has no type variable.
     pub fn closed(declared: &'x DeclaredTypes<'d, 'a>, kinds: &'x Kinds<'x>) -> Context<'x, 'd, 'a>
         requires { kinds_of kinds.now ≡ [] }
         ensures declared { modules_of_context result ≡ modules_read declared.now }

@@ -1,4 +1,4 @@
-//! The types of what a module declares, in a table.
+//! The types of what modules declare, in a table.
 ghost use Rattle.std.specs.Prelude.{◌≡◌, ◌+◌, ◌<◌, [], ◌∷◌, ◌++◌, List, length, take, Some, IfOk, IfSome, OnOk};
 ghost use Rattle.std.specs.Option.{option_and_then, option_map};
 ghost use Rattle.fc_syntax.specs.Tree as trees;
@@ -26,11 +26,11 @@ use fc_type_table::{TypeId, TypeTable};
 use fc_types::{Declarations, DeclaredCon, Kinds};
 use std::alloc::Global;
 
-/// What a module declares, with the types of its definitions, of its constructors and of the sides of its axioms in a table. Each is put there once, however often
+/// What modules declare, with the types of their definitions, of their constructors and of the sides of their axioms in a table. Each is put there once, however often
 /// it is used.
 #[derive(Drop)]
 pub struct DeclaredTypes<'d, 'a> {
-    /// What the module declares.
+    /// What the modules declare.
     pub declared: &'d Declarations<'a>,
     /// The types of the definitions.
     definition_types: Seq<TypeId>,
@@ -135,7 +135,7 @@ fn add_constructor<'a>(
     match declared.constructor_at(number) {
         None => Ok(()),
         Some(con) => {
-            let id = constructor_type(alloc, &con, declared.module_word(), types)?;
+            let id = constructor_type(alloc, &con, types)?;
             ids.push(id)
         }
     }
@@ -190,8 +190,8 @@ fn add_axiom<'a>(
 {
     match declared.axiom_at(number) {
         None => Ok(()),
-        Some(decl) => {
-            let own = axiom_sides(alloc, decl, declared.module_word(), types)?;
+        Some(axiom) => {
+            let own = axiom_sides(alloc, &axiom, types)?;
             sides.lefts.push(own.left)?;
             sides.rights.push(own.right)
         }
@@ -222,7 +222,7 @@ fn sides_of_axioms<'a>(
 }
 
 impl<'d, 'a> DeclaredTypes<'d, 'a> {
-    /// Puts the types of what a module declares into a table. A type that names a variable out of scope is answered as out of memory.
+    /// Puts the types of what modules declare into a table. A type that names a variable out of scope is answered as out of memory.
     pub fn new(
         alloc: Global,
         declared: &'d Declarations<'a>,
@@ -274,11 +274,11 @@ impl<'d, 'a> DeclaredTypes<'d, 'a> {
         ensures sides { (ns : List nodes.Node) (ks : List trees.Kind) → AreRead ns self.now → IfSome result (λ k. (a : Axiom) → axiom_of name.now.module (ndecl_of k.decl.now) ≡ Some a → ShowSides ns ks k a) }
     {
         let number = self.declared.axiom_number(name)?;
-        let decl = self.declared.axiom_at(number)?;
+        let axiom = self.declared.axiom_at(number)?;
         let left = self.axiom_lefts.get(number)?;
         let right = self.axiom_rights.get(number)?;
         Some(TypedAxiom {
-            decl,
+            decl: axiom.decl,
             left: *left,
             right: *right,
         })

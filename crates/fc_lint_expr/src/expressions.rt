@@ -222,9 +222,9 @@ fn type_of_fail<'x, 'd, 'a>(
     fail_type(alloc, &kind, t, types, &context.scope)
 }
 
-/// The type of an expression in a context.
+/// The type of an expression in a context, or the first premise that fails, as `lint` tells it.
 #[cycle(lint)]
-pub(crate) fn type_of<'x, 'd, 'a>(
+pub fn type_of<'x, 'd, 'a>(
     alloc: Global,
     e: &'a NExpr,
     types: &mut TypeTable<'a>,

@@ -9,4 +9,4 @@ mod expressions;
 mod joins;
 mod lets;
 
-pub use expressions::{has_type, lint};
+pub use expressions::{has_type, lint, type_of};

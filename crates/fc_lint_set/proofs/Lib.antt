@@ -1,3 +1,4 @@
-pub mod Judged
 pub mod Params
 pub mod RightSides
+pub mod SetForms
+pub mod Told

@@ -148,8 +148,8 @@ fn lint_right_within<'d, 'a>(
     }
 }
 
-/// The same of each declaration, in their order.
-fn lint_rights<'d, 'a>(
+/// The right sides of the definitions of a module, in their order: the faults of `lint` there, and `DefType`.
+pub fn lint_rights<'d, 'a>(
     alloc: Global,
     decls: &'a [NDecl],
     types: &mut TypeTable<'a>,
@@ -157,23 +157,12 @@ fn lint_rights<'d, 'a>(
 ) -> Result<(), Flawed>
     requires read { AreRead (nodes_of types.old) declared.now }
     requires modules { modules_in types.old ≡ modules_read declared.now }
-    ensures { Says (λ _. done) result (rights_judged (modules_read declared.now) (ndecls_of decls.now)) }
+    ensures says { Says (λ _. done) result (rights_judged (modules_read declared.now) (ndecls_of decls.now)) }
+    ensures read { OnOk result (AreRead (nodes_of types.new) declared.now) }
+    ensures modules { OnOk result (modules_in types.new ≡ modules_read declared.now) }
 {
     for decl in decls {
         lint_right_within(alloc, decl, types, declared)?;
     }
     Ok(())
-}
-
-/// The right sides of the definitions of a module, in their order: the faults of `lint` there, and `DefType`.
-pub fn lint_right_sides<'a>(
-    alloc: Global,
-    decls: &'a [NDecl],
-    declared: &'a Declarations,
-) -> Result<(), Flawed>
-    ensures { Says (λ _. done) result (rights_judged (modules_of declared.now) (ndecls_of decls.now)) }
-{
-    let mut types = TypeTable::new(alloc, declared);
-    let read = DeclaredTypes::new(alloc, declared, &mut types)?;
-    lint_rights(alloc, decls, &mut types, &read)
 }

@@ -1,11 +1,11 @@
-//! Lint of a nameless module: every premise of its names, declarations and types, in their order.
+//! Lint of a set of modules: every premise of names, declarations and types, in their order.
 #![tactic(auto)]
 
 mod constructors;
 mod definitions;
 mod exports;
-mod modules;
+mod sets;
 mod type_declarations;
 mod variables;
 
-pub use modules::lint_module;
+pub use sets::{SetFlawed, lint_set};

@@ -6,13 +6,13 @@ mod declarations;
 mod expressions;
 mod joins;
 mod names;
+mod sets;
 mod terms;
 
-use fc_lint_set::lint_module;
-use fc_model::{Flaw, Flawed};
+use fc_lint_set::{SetFlawed, lint_set};
+use fc_model::Flaw;
 use fc_reader::read_module;
-use fc_resolve::resolve;
-use fc_syntax::Text;
+use fc_syntax::{Limits, Module, Text};
 use std::alloc::Global;
 use std::process::Abort;
 use std::test::Fail;
@@ -25,22 +25,38 @@ const COMMON: &[u8] =
 /// Declarations behind the common ones; the number of the first fault, 0 for none, its declaration, `-` for none, and its place.
 type Row<'a> = (&'a [u8], u8, &'a str, &'a [u32]);
 
-/// The first fault of a text, if it has one. Fails where it spells no module.
-fn first_fault(alloc: Global, text: &[u8]) -> Result<Option<Flaw>, Fail> {
+/// The module that a text spells. Fails where it spells none.
+fn module_of_text(alloc: Global, text: &[u8]) -> Result<Module, Fail> {
     if text.len() > 4000 {
         return Err("a long text".into());
     }
-    let Ok(m) = read_module(alloc, "M.fc", text) else {
-        return Err("no module".into());
-    };
-    let judged = match resolve(alloc, &m) {
-        Ok(n) => lint_module(alloc, &n),
-        Err(flawed) => Err(flawed),
-    };
-    match judged {
-        Ok(()) => Ok(None),
-        Err(Flawed::Flaw(flaw)) => Ok(Some(flaw)),
-        Err(Flawed::Memory) => Err("no memory".into()),
+    match read_module(alloc, "M.fc", text, Limits::standard().size) {
+        Ok(m) => Ok(m),
+        Err(_) => Err("no module".into()),
+    }
+}
+
+/// The modules that texts spell, in their order.
+fn modules_of_texts(alloc: Global, texts: &[&[u8]]) -> Result<Vec<Module>, Fail> {
+    let mut modules = Vec::new(alloc);
+    for text in texts {
+        let m = module_of_text(alloc, *text)?;
+        modules.push(m)?;
+    }
+    Ok(modules)
+}
+
+/// The module of the first fault of a set, and the fault, if it has one. The texts are of modules in the order in which they are built.
+fn first_fault(alloc: Global, texts: &[&[u8]]) -> Result<Option<(Text, Flaw)>, Fail> {
+    let modules = modules_of_texts(alloc, texts)?;
+    let mut order = Vec::new(alloc);
+    for number in 0..modules.len() {
+        order.push(number)?;
+    }
+    match lint_set(alloc, modules.as_slice(), order.as_slice()) {
+        Ok(_) => Ok(None),
+        Err(SetFlawed::Flaw(m, flaw)) => Ok(Some((m, flaw))),
+        Err(SetFlawed::Memory) => Err("no memory".into()),
     }
 }
 
@@ -55,10 +71,11 @@ fn stands_in(def: &Option<Text>, word: &str) -> bool {
 /// Whether the first fault of a text is that of a row.
 fn is_as_told(alloc: Global, text: &[u8], row: &Row<'_>) -> Result<bool, Fail> {
     let (_, number, word, place) = row;
-    match first_fault(alloc, text)? {
+    match first_fault(alloc, [text].as_slice())? {
         None => Ok(*number == 0),
-        Some(flaw) => Ok(
-            flaw.kind.number() == *number
+        Some((m, flaw)) => Ok(
+            m.as_str() == "M"
+                && flaw.kind.number() == *number
                 && stands_in(&flaw.def, word)
                 && flaw.path.as_slice() == *place,
         ),

@@ -1,31 +1,25 @@
--- What holds of what is found in a module whose declarations and definitions hold: types of definitions are lifted, and types that a
+-- What holds of what is found in modules whose declarations and definitions hold: types of definitions are lifted, and types that a
 -- constructor takes are of kinds without `#`.
-use Rattle.std.proofs.Common.{◌≡◌, ℕ, ◌+◌, true, if◌then◌else◌, Bool, false, bytes_eq, List, [], ◌∷◌, Option, Some, None, Ok, refl}
+use Rattle.std.proofs.Common.{◌≡◌, ℕ, ◌+◌, true, bytes_eq, List, Option, Some, None, Ok, refl}
 use Rattle.std.specs.List.{list_all}
 use Rattle.fc_syntax.specs.declared.ty.Name.{Name}
 use Rattle.fc_syntax.specs.Tree.{Word, Kind}
 use Rattle.fc_model.specs.Calling.{Constructor, con_among, con_decl, constructor, first_of}
 use Rattle.fc_model.specs.Erasure.{sort_of_type}
-use Rattle.fc_model.specs.Kinding.{Modules, decls_at, is_lifted, param_kinds}
+use Rattle.fc_model.specs.Kinding.{Modules, is_lifted, param_kinds}
 use Rattle.fc_model.specs.LintingRules.{ConHolds, ConsHold, no_cons, one_con, TypeDeclsHold, no_type_decls, one_type_decl, data_holds, newtype_holds, family_holds, axiom_holds, def_declares_no_type, wrap_declares_no_type}
 use Rattle.fc_model.specs.LintingRules.{DefinitionsHold, no_definitions, one_definition, def_holds, wrap_holds, data_defines_nothing, newtype_defines_nothing, family_defines_nothing, axiom_defines_nothing}
-use Rattle.fc_model.specs.LintingRules.{ModuleHolds, module_holds}
-use Rattle.fc_model.specs.Nameless.{NTy, NParam, NConDecl, NDecl, NModule, NModuleOf}
+use Rattle.fc_model.specs.Nameless.{NTy, NParam, NConDecl, NDecl}
 use Rattle.fc_model.specs.Terms.{Lifted}
 use Rattle.fc_model.specs.Typing.{def_type, value_type}
 use Rattle.fc_model.proofs.Parts.{err_ok, ok_ok}
 use Rattle.fc_meaning.proofs.Optional.{found_has, some_is, none_some}
 use Rattle.fc_meaning.proofs.SortsOfTypes.{lifted_by_kind}
 
--- what is found in a module alone is found in its declarations
-pub found_in_own : {X : Type 0} (find : List NDecl → X) (x : X) → (find [] ≡ x → ⊥) → (own : Word) (imports exports hidden : List Word) (ds : List NDecl) (o : Option Word)
-    → find (decls_at (NModuleOf own imports exports hidden ds ∷ []) o) ≡ x → find ds ≡ x
-found_in_own find x none own imports exports hidden ds None h = absurd (none h)
-found_in_own find x none own imports exports hidden ds (Some v) h = go (bytes_eq own v) h
-  where
-    go : (b : Bool) → find (if b then ds else []) ≡ x → find ds ≡ x
-    go true e = e
-    go false e = absurd (none e)
+-- whatever modules declare holds against them
+pub record AreHeld (ms : Modules) : Type 0 where
+  pub types : (o : Option Word) → TypeDeclsHold ms (ms o)
+  pub definitions : (o : Option Word) → DefinitionsHold ms (ms o)
 
 -- DEFINITIONS
 
@@ -41,10 +35,9 @@ def_lifted (one_definition newtype_defines_nothing rest) w t h = def_lifted rest
 def_lifted (one_definition family_defines_nothing rest) w t h = def_lifted rest w t h
 def_lifted (one_definition axiom_defines_nothing rest) w t h = def_lifted rest w t h
 
--- no variable of a module that holds has the type `Int#`
-pub value_lifted : {m : NModule} → ModuleHolds m → (n : Name) (t : NTy) → value_type (decls_at (m ∷ [])) n ≡ Ok t → sort_of_type t ≡ Lifted
-value_lifted (module_holds {m = own} {imports = imports} {exports = exports} {hidden = hidden} {ds = ds} x h types defined) n t e =
-    def_lifted defined n.text t (found_in_own (λ found. def_type found n.text) (Ok t) (λ none. err_ok none) own imports exports hidden ds n.module e)
+-- no variable of modules whose declarations hold has the type `Int#`
+pub value_lifted : {ms : Modules} → AreHeld ms → (n : Name) (t : NTy) → value_type ms n ≡ Ok t → sort_of_type t ≡ Lifted
+value_lifted held n t e = def_lifted (held.definitions n.module) n.text t e
 
 -- CONSTRUCTORS
 
@@ -77,6 +70,5 @@ con_decl_holds (one_type_decl (axiom_holds j l t u f) rest) w k h = con_decl_hol
 con_decl_holds (one_type_decl def_declares_no_type rest) w k h = con_decl_holds rest w k h
 con_decl_holds (one_type_decl wrap_declares_no_type rest) w k h = con_decl_holds rest w k h
 
-pub constructor_holds : {m : NModule} → ModuleHolds m → (n : Name) (k : Constructor) → constructor (decls_at (m ∷ [])) n ≡ Some k → ConstructorHolds (decls_at (m ∷ [])) k
-constructor_holds (module_holds {m = own} {imports = imports} {exports = exports} {hidden = hidden} {ds = ds} x h types defined) n k e =
-    con_decl_holds types n.text k (found_in_own (λ found. con_decl found n.text) (Some k) (λ none. none_some none) own imports exports hidden ds n.module e)
+pub constructor_holds : {ms : Modules} → AreHeld ms → (n : Name) (k : Constructor) → constructor ms n ≡ Some k → ConstructorHolds ms k
+constructor_holds held n k e = con_decl_holds (held.types n.module) n.text k e

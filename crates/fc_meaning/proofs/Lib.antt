@@ -4,6 +4,7 @@ pub mod Choosing
 pub mod Determined
 pub mod Examples
 pub mod HeldDeclarations
+pub mod HeldSets
 pub mod Named
 pub mod Optional
 pub mod PrimitiveRange
@@ -19,3 +20,4 @@ pub mod SortsKept
 pub mod SortsOfTypes
 pub mod Unnamed
 pub mod WrittenExpressions
+pub mod WrittenMeans

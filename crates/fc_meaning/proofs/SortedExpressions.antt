@@ -1,18 +1,18 @@
--- What has a type in a module that holds is sorted when its types are gone. A place has the sort that is read off what stands there, so
--- that a jump needs nothing of its join point but that it has a binder.
+-- What has a type among modules whose declarations hold is sorted when its types are gone. A place has the sort that is read off what
+-- stands there, so that a jump needs nothing of its join point but that it has a binder.
 use Rattle.std.proofs.Common.{◌≡◌, ℕ, true, false, Bool, List, [], ◌∷◌, Some, refl, sym, ap, ◌∙◌, subst}
 use Rattle.fc_model.specs.Calling.{Given}
 use Rattle.fc_model.specs.Coercing.{ends}
 use Rattle.fc_model.specs.Erasure.{Scope, applied, arg_sorts, below_all, below_binds, below_joins, below_unnamed, below_value, binder_sorts, coercion_token, erased, erased_alts, erased_args, erased_join_lets, erased_joins, erased_lets, erased_rights, lambdas, sort_of, sort_of_type}
-use Rattle.fc_model.specs.Kinding.{Modules, decls_at}
-use Rattle.fc_model.specs.LintingRules.{ModuleHolds}
-use Rattle.fc_model.specs.Nameless.{NTy, NTInt, NExpr, NArgs, NBinds, NJoins, NAlts, NModule}
+use Rattle.fc_model.specs.Kinding.{Modules}
+use Rattle.fc_model.specs.Nameless.{NTy, NTInt, NExpr, NArgs, NBinds, NJoins, NAlts}
 use Rattle.fc_model.specs.Terms.{Sort, Lifted, Unlifted, Term, Var, App, IsSorted, AreSorted, AltsAreSorted, IsAtom, HasSorts, enters, head_sorts, lifteds, sort_at}
 use Rattle.fc_model.specs.Typing.{Context, Before, is_atom}
 use Rattle.fc_model.specs.TypingRules.{AltsFit, no_alts, default_alt, literal_alt, con_alt, value_binder, type_binder, coercion_binder}
 use Rattle.fc_model.specs.TypingRules.{HasType, typed_local, typed_declared, typed_literal, typed_application, typed_lambda, typed_let, typed_case, typed_cast, typed_con, typed_prim, typed_fail, typed_join, typed_jump}
 use Rattle.fc_model.specs.TypingRules.{given_term, given_type, given_coercion, ArgsAreGiven, no_args, one_arg, BindsHaveTypes, no_binds, one_bind, JoinsHaveType, no_joins, one_join}
 use Rattle.fc_meaning.proofs.ArgSorts.{sort_is}
+use Rattle.fc_meaning.proofs.HeldDeclarations.{AreHeld}
 use Rattle.fc_meaning.proofs.PrimitiveRange.{zero_fits}
 use Rattle.fc_meaning.proofs.ScopesFit.{Fits, agrees, bind_sorts, fits_binders, fits_binds, fits_coercion, fits_joins, fits_type, fits_unnamed, fits_value, fits_values, join_sorts}
 use Rattle.fc_meaning.proofs.SortsOfTypes.{no_atom_is_lifted}
@@ -64,16 +64,16 @@ joins_lifted (one_join kinded e rest) s = ap (λ os. Lifted ∷ os) (joins_lifte
 
 -- EXPRESSIONS
 
-module _ (m : NModule) (holds : ModuleHolds m) where
+module _ (ms : Modules) (held : AreHeld ms) where
   -- an operand of a primitive is an atom
-  operand_placed : {c : Context} {e : NExpr} → HasType (decls_at (m ∷ [])) c e NTInt → is_atom e ≡ true → (s : Scope) (g : List Sort) → Fits c s g → IsAtom g Unlifted (erased s e)
+  operand_placed : {c : Context} {e : NExpr} → HasType ms c e NTInt → is_atom e ≡ true → (s : Scope) (g : List Sort) → Fits c s g → IsAtom g Unlifted (erased s e)
   operand_placed {e = e} typed atom s g fits =
-      subst (λ o. IsAtom g o (erased s e)) (sort_is m holds typed s (agrees fits) atom) (is_placed typed s g fits)
+      subst (λ o. IsAtom g o (erased s e)) (sort_is ms held typed s (agrees fits) atom) (is_placed typed s g fits)
 
   mutual
     unfolding enters head_sorts
 
-    pub expr_sorted : {c : Context} {e : NExpr} {t : NTy} → HasType (decls_at (m ∷ [])) c e t → (s : Scope) (g : List Sort) → Fits c s g → IsWritten e → IsSorted g (erased s e)
+    pub expr_sorted : {c : Context} {e : NExpr} {t : NTy} → HasType ms c e t → (s : Scope) (g : List Sort) → Fits c s g → IsWritten e → IsSorted g (erased s e)
     expr_sorted (typed_local {i = i} {t = t} p) s g fits w = (sort_of_type t, (fits.values i t p).1)
     expr_sorted (typed_declared p) s g fits w = tt
     expr_sorted typed_literal s g fits w = w
@@ -109,7 +109,7 @@ module _ (m : NModule) (holds : ModuleHolds m) where
     expr_sorted (typed_jump {i = i} j gs t is args l takes) s g fits w = applied_sorted args s g (fits_values fits) w (Var (s.joins i)) (Lifted, fits.joins i j is)
 
     -- the fields of a constructor
-    args_sorted : {c : Context} {args : NArgs} {gs : List Given} → ArgsAreGiven (decls_at (m ∷ [])) c args gs → (s : Scope) (g : List Sort) → Fits c s g → AreArgsWritten args
+    args_sorted : {c : Context} {args : NArgs} {gs : List Given} → ArgsAreGiven ms c args gs → (s : Scope) (g : List Sort) → Fits c s g → AreArgsWritten args
         → AreSorted g (erased_args s args) × HasSorts g (arg_sorts s args) (erased_args s args)
     args_sorted no_args s g fits w = (tt, tt)
     args_sorted (one_arg (given_term a) rest) s g fits w =
@@ -118,7 +118,7 @@ module _ (m : NModule) (holds : ModuleHolds m) where
     args_sorted (one_arg (given_coercion p) rest) s g fits w = let others = args_sorted rest s g fits w.1 in ((zero_fits, others.0), (tt, others.1))
 
     -- a head applied to arguments
-    applied_sorted : {c : Context} {args : NArgs} {gs : List Given} → ArgsAreGiven (decls_at (m ∷ [])) c args gs → (s : Scope) (g : List Sort) → Fits c s g → AreArgsWritten args
+    applied_sorted : {c : Context} {args : NArgs} {gs : List Given} → ArgsAreGiven ms c args gs → (s : Scope) (g : List Sort) → Fits c s g → AreArgsWritten args
         → (h : Term) → IsSorted g h → IsSorted g (applied s h args)
     applied_sorted no_args s g fits w h sorted = sorted
     applied_sorted (one_arg (given_term {e = e} a) rest) s g fits w h sorted =
@@ -127,23 +127,23 @@ module _ (m : NModule) (holds : ModuleHolds m) where
     applied_sorted (one_arg (given_coercion p) rest) s g fits w h sorted = applied_sorted rest s g fits w.1 (App Unlifted h coercion_token) (sorted, zero_fits, tt)
 
     -- lets, one inside another, around a body
-    lets_sorted : {c : Context} {bs : NBinds} → BindsHaveTypes (decls_at (m ∷ [])) c false bs → (s : Scope) (g : List Sort) → Fits c s g → AreBindsWritten bs
+    lets_sorted : {c : Context} {bs : NBinds} → BindsHaveTypes ms c false bs → (s : Scope) (g : List Sort) → Fits c s g → AreBindsWritten bs
         → (body : Term) → IsSorted (enters (bind_sorts bs) g) body → IsSorted g (erased_lets s bs body)
     lets_sorted no_binds s g fits w body sorted = sorted
     lets_sorted (one_bind {t = t} {e = e} k kind v right atom rest) s g fits w body sorted = (
       expr_sorted right s g fits w.0,
-      subst (λ o. IsAtom g o (erased s e)) (sort_is m holds right s (agrees fits) atom) (is_placed right s g fits),
+      subst (λ o. IsAtom g o (erased s e)) (sort_is ms held right s (agrees fits) atom) (is_placed right s g fits),
       lets_sorted rest (below_unnamed s) (sort_of_type t ∷ g) (fits_unnamed fits (sort_of_type t)) w.1 body sorted,
     )
 
     -- the right sides of a recursive group
-    rights_sorted : {c : Context} {r : Bool} {bs : NBinds} → BindsHaveTypes (decls_at (m ∷ [])) c r bs → (s : Scope) (g : List Sort) → Fits c s g → AreBindsWritten bs
+    rights_sorted : {c : Context} {r : Bool} {bs : NBinds} → BindsHaveTypes ms c r bs → (s : Scope) (g : List Sort) → Fits c s g → AreBindsWritten bs
         → AreSorted g (erased_rights s bs)
     rights_sorted no_binds s g fits w = tt
     rights_sorted (one_bind k kind v right atom rest) s g fits w = (expr_sorted right s g fits w.0, rights_sorted rest s g fits w.1)
 
     -- the same of join points, whose parameters are lambdas
-    join_lets_sorted : {c : Context} {t : NTy} {js : NJoins} → JoinsHaveType (decls_at (m ∷ [])) c t js → (s : Scope) (g : List Sort) → Fits c s g → AreJoinsWritten js
+    join_lets_sorted : {c : Context} {t : NTy} {js : NJoins} → JoinsHaveType ms c t js → (s : Scope) (g : List Sort) → Fits c s g → AreJoinsWritten js
         → (body : Term) → IsSorted (enters (join_sorts js) g) body → IsSorted g (erased_join_lets s js body)
     join_lets_sorted no_joins s g fits w body sorted = sorted
     join_lets_sorted (one_join {ps = ps} {e = e} kinded right rest) s g fits w body sorted = (
@@ -152,7 +152,7 @@ module _ (m : NModule) (holds : ModuleHolds m) where
       join_lets_sorted rest (below_unnamed s) (Lifted ∷ g) (fits_unnamed fits Lifted) w.1 body sorted,
     )
 
-    joins_sorted : {c : Context} {t : NTy} {js : NJoins} → JoinsHaveType (decls_at (m ∷ [])) c t js → (s : Scope) (g : List Sort) → Fits c s g → AreJoinsWritten js
+    joins_sorted : {c : Context} {t : NTy} {js : NJoins} → JoinsHaveType ms c t js → (s : Scope) (g : List Sort) → Fits c s g → AreJoinsWritten js
         → AreSorted g (erased_joins s js)
     joins_sorted no_joins s g fits w = tt
     joins_sorted (one_join {ps = ps} {e = e} kinded right rest) s g fits w = (
@@ -160,7 +160,7 @@ module _ (m : NModule) (holds : ModuleHolds m) where
       joins_sorted rest s g fits w.1,
     )
 
-    alts_sorted : {c : Context} {t rt : NTy} {b : Before} {alts : NAlts} → AltsFit (decls_at (m ∷ [])) c t rt b alts → (s : Scope) (g : List Sort) → Fits c s g → AreAltsWritten alts
+    alts_sorted : {c : Context} {t rt : NTy} {b : Before} {alts : NAlts} → AltsFit ms c t rt b alts → (s : Scope) (g : List Sort) → Fits c s g → AreAltsWritten alts
         → AltsAreSorted g (erased_alts s alts)
     alts_sorted no_alts s g fits w = tt
     alts_sorted (default_alt {bs = bs} {e = e} kinded typed order rest) s g fits w =

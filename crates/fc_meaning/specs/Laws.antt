@@ -1,16 +1,16 @@
--- Laws of evaluation, of what terms show, and of erasure.
-use Rattle.std.specs.Prelude.{◌≡◌, ◌↔◌, ℕ, ℤ, Bool, true, List, [], ◌∷◌, Some, None, Ok}
+-- Laws of evaluation, of what terms show, of erasure, and of what is written.
+use Rattle.std.specs.Prelude.{◌≡◌, ◌↔◌, ℕ, ℤ, All, Bool, true, List, [], Some, None, Ok}
 use Rattle.fc_syntax.specs.declared.ty.Name.{Name}
 use Rattle.fc_syntax.specs.Tree.{Module}
 use Rattle.fc_model.specs.Faulting.{at_distance}
 use Rattle.fc_model.specs.Formed.{IsFormed}
+use Rattle.fc_model.specs.Headers.{set_written}
 use Rattle.fc_model.specs.Erasure.{Scope, arg_sorts, binder_sorts, sort_of, sort_of_type}
 use Rattle.fc_model.specs.Kinding.{decls_at}
-use Rattle.fc_model.specs.Linting.{Lints, done, lint_or_fault}
+use Rattle.fc_model.specs.Linting.{SetLints, nameless_forms}
 use Rattle.fc_model.specs.Nameless.{NArgs, NCon, NExpr, NModule, NTy}
 use Rattle.fc_model.specs.Observing.{Observation, Sees}
-use Rattle.fc_model.specs.Programs.{Mentions, program_of}
-use Rattle.fc_model.specs.ResolutionRules.{Resolves}
+use Rattle.fc_model.specs.Programs.{IsMainExpression, Mentions, program_of}
 use Rattle.fc_model.specs.Stepping.{Program, Bare, Missing, LitKey, ConKey, LamKey, IsHead, Reaches, choose, default_of, next, wrap}
 use Rattle.fc_model.specs.Terms.{Sort, Lifted, Term, Lit, Var, Lam, Rec, Case, Con, Terms, Alts, IsSorted, push, pushes, sub}
 use Rattle.fc_model.specs.Calling.{Constructor, atom_fits, constructor, constructor_binders}
@@ -63,19 +63,35 @@ SortedProgram P = (x : Name) (t : Term) → P x ≡ Some t → IsSorted [] t
 abbrev pub StepsKeepSorts : Type 0
 StepsKeepSorts = (P : Program) → SortedProgram P → (t u : Term) → IsSorted [] t → next P t ≡ Some u → IsSorted [] u
 
+-- the definitions of a set of formed modules that lints are sorted
 abbrev pub LintedIsSorted : Type 0
-LintedIsSorted = (m : Module) (n : NModule) → IsFormed m → Resolves m n → Lints m → SortedProgram (program_of (n ∷ []))
+LintedIsSorted = (ms : List Module) → All IsFormed ms → SetLints ms → SortedProgram (program_of (nameless_forms ms))
 
 -- the sort of each variable of the scope is that of its type in the context
 abbrev pub Agrees : Context → Scope → Type 0
 Agrees c s = (i : ℕ) (t : NTy) → at_distance c.values i ≡ Ok t → s.sorts i ≡ sort_of_type t
 
--- the sorts that are read off the arguments of a constructor are those of its binders: its coercions and its fields
+-- in a set that lints, the sorts that are read off the arguments of a constructor are those of its binders: its coercions and its
+-- fields
 abbrev pub SortsAreOfTypes : Type 0
-SortsAreOfTypes = (m : NModule) → lint_or_fault m ≡ Ok done → (c : Context) (s : Scope) → Agrees c s → (n : Name) (args : NArgs) (t : NTy)
-    → HasType (decls_at (m ∷ [])) c (NCon n args) t → (k : Constructor) → constructor (decls_at (m ∷ [])) n ≡ Some k → arg_sorts s args ≡ binder_sorts (constructor_binders k)
+SortsAreOfTypes = (ms : List Module) → SetLints ms → (c : Context) (s : Scope) → Agrees c s → (n : Name) (args : NArgs) (t : NTy)
+    → HasType (decls_at (nameless_forms ms)) c (NCon n args) t → (k : Constructor) → constructor (decls_at (nameless_forms ms)) n ≡ Some k
+    → arg_sorts s args ≡ binder_sorts (constructor_binders k)
 
--- the sort that is read off what may stand at a place of its type, as the argument of an application, is that of the type
+-- in a set that lints, the sort that is read off what may stand at a place of its type, as the argument of an application, is that of
+-- the type
 abbrev pub ArgumentSortIsOfType : Type 0
-ArgumentSortIsOfType = (m : NModule) → lint_or_fault m ≡ Ok done → (c : Context) (s : Scope) → Agrees c s → (a : NExpr) (t : NTy)
-    → HasType (decls_at (m ∷ [])) c a t → atom_fits t (is_atom a) ≡ true → sort_of s a ≡ sort_of_type t
+ArgumentSortIsOfType = (ms : List Module) → SetLints ms → (c : Context) (s : Scope) → Agrees c s → (a : NExpr) (t : NTy)
+    → HasType (decls_at (nameless_forms ms)) c a t → atom_fits t (is_atom a) ≡ true → sort_of s a ≡ sort_of_type t
+
+-- WHAT IS WRITTEN
+
+-- two programs show the same of a term
+abbrev pub ShowsTheSame : List NModule → List NModule → Term → Type 0
+ShowsTheSame ns ks t = (o : Observation) → Sees (program_of ns) t o ↔ Sees (program_of ks) t o
+
+-- each main expression over the exports of a set that lints is one over those of the set as it is written, and shows exactly the same in
+-- both programs
+abbrev pub WrittenMeansTheSame : Type 0
+WrittenMeansTheSame = (ms : List Module) → SetLints ms → (t : Term) → IsMainExpression (nameless_forms ms) t
+    → IsMainExpression (nameless_forms (set_written ms)) t × ShowsTheSame (nameless_forms ms) (nameless_forms (set_written ms)) t

@@ -26,6 +26,7 @@ ghost use Rattle.fc_meaning.specs.Laws.{
   SortsAreOfTypes,
   StepsAreUnique,
   StepsKeepSorts,
+  WrittenMeansTheSame,
 };
 ghost use Rattle.fc_meaning.specs.Renaming.{RenamingChangesNothing};
 
@@ -59,13 +60,19 @@ pub fn steps_keep_sorts()
     ensures kept { StepsKeepSorts }
 {}
 
-/// The definitions of a formed module that lints are sorted when their types are gone. The sorts that are read off the arguments of
-/// a constructor are those of its binders, coercions and fields, and the sort that is read off the argument of an application is
+/// The definitions of a set of formed modules that lints are sorted when their types are gone. The sorts that are read off the arguments
+/// of a constructor are those of its binders, coercions and fields, and the sort that is read off the argument of an application is
 /// that of the argument's type.
 pub fn what_lints_is_sorted()
     ensures sorted { LintedIsSorted }
     ensures sorts { SortsAreOfTypes }
     ensures arguments { ArgumentSortIsOfType }
+{}
+
+/// A set of modules that lints means the same as it is written: each term that may be asked of it may be asked of what is written, and
+/// shows exactly the same in both programs.
+pub fn what_is_written_means_the_same()
+    ensures same { WrittenMeansTheSame }
 {}
 
 /// What some terms show, in any program.

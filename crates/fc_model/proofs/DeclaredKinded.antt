@@ -1,9 +1,10 @@
--- What a module that holds against itself defines and constructs has types of kind `*`, and both sides of each of its axioms have one
+-- What the modules of a set that lints define and construct has types of kind `*`, and both sides of each of their axioms have one
 -- kind; so none of these has variables from outside.
-use Rattle.std.proofs.Common.{◌≡◌, ℕ, suc, ◌+◌, Bool, true, false, if◌then◌else◌, List, [], ◌∷◌, ◌++◌, ◌⊎◌, inl, inr, length, map, reverse, Option, Some, None, Result}
+use Rattle.std.proofs.Common.{◌≡◌, ℕ, suc, ◌+◌, All, Bool, true, false, if◌then◌else◌, List, [], ◌∷◌, ◌++◌, ◌⊎◌, inl, inr, length, map, reverse, Option, Some, None, Result}
 use Rattle.std.proofs.Common.{Ok, bytes_eq, refl, sym, ap, ◌∙◌, subst, append_assoc, append-nil, length-append, arith}
 use Rattle.std.proofs.lemmas.Bool.{and_parts}
 use Rattle.std.proofs.lemmas.List.{length-reverse, reverse-append}
+use Rattle.std.proofs.lemmas.List.Elements.{All-head, All-tail}
 use Rattle.std.specs.List.{list_all}
 use Rattle.fc_syntax.specs.declared.ty.Name.{Name}
 use Rattle.fc_syntax.specs.Tree.{Word, Kind, KStar, Decl}
@@ -13,18 +14,18 @@ use Rattle.fc_model.specs.CoercionLaws.{HaveOneKind}
 use Rattle.fc_model.specs.Declaring.{ntype_words, nwords_by}
 use Rattle.fc_model.specs.Faulting.{F, at_distance}
 use Rattle.fc_model.specs.Kinding.{Modules, HasHeadKind, HasKind, kind_application, kind_coforall, kind_declared, kind_forall, kind_function, kind_variable, arrows}
-use Rattle.fc_model.specs.Kinding.{decls_at, decl_kind, is_lifted, name_kind, param_kinds, type_decl}
+use Rattle.fc_model.specs.Kinding.{decls_at, decls_of_module, decl_kind, is_lifted, name_kind, param_kinds, type_decl}
 use Rattle.fc_model.specs.LintingRules.{AreValueTypes, no_types, one_type, ConHolds, holds_fields, holds_type, holds_coercion, ConsHold, no_cons, one_con}
 use Rattle.fc_model.specs.LintingRules.{data_holds, newtype_holds, family_holds, axiom_holds, def_declares_no_type, wrap_declares_no_type, TypeDeclsHold, no_type_decls}
 use Rattle.fc_model.specs.LintingRules.{one_type_decl}
 use Rattle.fc_model.specs.LintingRules.{def_holds, wrap_holds, data_defines_nothing, newtype_defines_nothing, family_defines_nothing, axiom_defines_nothing}
-use Rattle.fc_model.specs.LintingRules.{DefinitionsHold, no_definitions, one_definition, module_holds}
-use Rattle.fc_model.specs.Nameless.{NTy, NTVar, NTCon, NTApp, NBinder, NBValue, NBType, NParam, NParamOf, NConDecl, NDecl, NData, NNew, NFamily, NAxiom, NDef, NWrap, NModuleOf}
+use Rattle.fc_model.specs.LintingRules.{DefinitionsHold, no_definitions, one_definition, ModuleHolds, module_holds}
+use Rattle.fc_model.specs.Nameless.{NTy, NTVar, NTCon, NTApp, NBinder, NBValue, NBType, NParam, NParamOf, NConDecl, NDecl, NData, NNew, NFamily, NAxiom, NDef, NWrap, NModule, NModuleOf}
 use Rattle.fc_model.specs.Resolution.{Top, Words, WordSet, no_word, plus}
 use Rattle.fc_model.specs.ResolutionRules.{AreDistinct, no_words_left, one_word_more, resolves_module, ResolvesDecls, resolves_no_decls, resolves_decls, resolves_data}
 use Rattle.fc_model.specs.ResolutionRules.{resolves_newtype, resolves_family, resolves_equation, resolves_def, resolves_wrap}
 use Rattle.fc_model.specs.Typing.{def_type}
-use Rattle.fc_model.specs.TypingLaws.{LintedAreKinded, ResolvedHaveDistinctTypes}
+use Rattle.fc_model.specs.TypingLaws.{HasDistinctTypes, LintedAreKinded, ResolvedHaveDistinctTypes}
 use Rattle.fc_model.proofs.Parts.{err_ok, ok_ok}
 use Rattle.fc_model.proofs.Sameness.{bytes_eq_eq, bytes_eq_refl, false_true, name_of}
 
@@ -277,40 +278,43 @@ definition_kinded ms ds w t (one_definition {ds = rest} newtype_defines_nothing 
 definition_kinded ms ds w t (one_definition {ds = rest} family_defines_nothing more) h = definition_kinded ms rest w t more h
 definition_kinded ms ds w t (one_definition {ds = rest} axiom_defines_nothing more) h = definition_kinded ms rest w t more h
 
--- one module's declarations, at its own word and at others
-at_one : (m : Word) (imports exports hidden : List Word) (ds : List NDecl) (o : Option Word)
-    → (decls_at (NModuleOf m imports exports hidden ds ∷ []) o ≡ ds) ⊎ (decls_at (NModuleOf m imports exports hidden ds ∷ []) o ≡ [])
-at_one m imports exports hidden ds None = inr refl
-at_one m imports exports hidden ds (Some w) = by_case (bytes_eq m w)
-  where
-    by_case : (b : Bool) → ((if b then ds else []) ≡ ds) ⊎ ((if b then ds else []) ≡ [])
-    by_case true = inl refl
-    by_case false = inr refl
+-- SETS
 
-module _ (m : Word) (imports exports hidden : List Word) (ds : List NDecl) where
-  abbrev alone : Modules
-  alone = decls_at (NModuleOf m imports exports hidden ds ∷ [])
+-- the declarations of a module of a set in which each holds against all
+pub record Held (ms : Modules) (ds : List NDecl) : Type 0 where
+  pub types : TypeDeclsHold ms ds
+  pub definitions : DefinitionsHold ms ds
+  pub distinct : AreDistinct no_word (nwords_by ntype_words ds)
 
-  value_kinded : DefinitionsHold alone ds → (n : Name) (t : NTy) → (alone n.module ≡ ds) ⊎ (alone n.module ≡ []) → def_type (alone n.module) n.text ≡ Ok t → HasKind alone [] t KStar
-  value_kinded hold n t (inl e) h = definition_kinded alone ds n.text t hold (subst (λ x. def_type x n.text ≡ Ok t) e h)
-  value_kinded hold n t (inr e) h = let none : def_type [] n.text ≡ Ok t = subst (λ x. def_type x n.text ≡ Ok t) e h in err_ok none
+nothing_held : (ms : Modules) → Held ms []
+nothing_held ms = record { types = no_type_decls; definitions = no_definitions; distinct = no_words_left }
 
-  con_kinded_alone : TypeDeclsHold alone ds → AreDistinct no_word (nwords_by ntype_words ds) → (n : Name) (k : Constructor) → (alone n.module ≡ ds) ⊎ (alone n.module ≡ [])
-      → con_decl (alone n.module) n.text ≡ Some k → HasKind alone [] (constructor_type n k) KStar
-  con_kinded_alone hold distinct n k (inl e) h =
-      constructor_kinded alone n k (subst (λ x. IsFound alone x k) (sym e) (con_found alone no_word ds n.text k hold distinct (subst (λ x. con_decl x n.text ≡ Some k) e h)))
-  con_kinded_alone hold distinct n k (inr e) h = let none : con_decl [] n.text ≡ Some k = subst (λ x. con_decl x n.text ≡ Some k) e h in absurd cc
+either_held : (ms : Modules) (ds rest : List NDecl) (b : Bool) → Held ms ds → Held ms rest → Held ms (if b then ds else rest)
+either_held ms ds rest true here there = here
+either_held ms ds rest false here there = there
 
-  axiom_kinded_alone : TypeDeclsHold alone ds → AreDistinct no_word (nwords_by ntype_words ds) → (n : Name) (a : Axiom) → (alone n.module ≡ ds) ⊎ (alone n.module ≡ [])
-      → axiom_named alone n ≡ Some a → HaveOneKind alone (reverse a.params) a.ends.left a.ends.right
-  axiom_kinded_alone hold distinct n a (inl e) h =
-      axiom_kinded alone n.module no_word ds n.text a hold distinct (λ v d q. subst (λ x. type_decl x v ≡ Some d) (sym e) q)
-      (subst (λ x. axiom_decl n.module x n.text ≡ Some a) e h)
-  axiom_kinded_alone hold distinct n a (inr e) h = let none : axiom_decl n.module [] n.text ≡ Some a = subst (λ x. axiom_decl n.module x n.text ≡ Some a) e h in absurd cc
+declarations_held : (ms : Modules) (m : Word) (imports exports hidden : List Word) (ds : List NDecl) → AreDistinct no_word (nwords_by ntype_words ds)
+    → ModuleHolds ms (NModuleOf m imports exports hidden ds) → Held ms ds
+declarations_held ms m imports exports hidden ds distinct (module_holds e h types definitions) = record { types = types; definitions = definitions; distinct = distinct }
+
+all_held : (ms : Modules) (ns : List NModule) → All HasDistinctTypes ns → All (ModuleHolds ms) ns → (w : Word) → Held ms (decls_of_module ns w)
+all_held ms [] distinct hold w = nothing_held ms
+all_held ms (NModuleOf m imports exports hidden ds ∷ ns) distinct hold w =
+    let n = NModuleOf m imports exports hidden ds in
+    either_held ms ds (decls_of_module ns w) (bytes_eq m w)
+    (declarations_held ms m imports exports hidden ds (All-head HasDistinctTypes n ns distinct) (All-head (ModuleHolds ms) n ns hold))
+    (all_held ms ns (All-tail HasDistinctTypes n ns distinct) (All-tail (ModuleHolds ms) n ns hold) w)
+
+held_at : (ns : List NModule) → All HasDistinctTypes ns → All (ModuleHolds (decls_at ns)) ns → (o : Option Word) → Held (decls_at ns) (decls_at ns o)
+held_at ns distinct hold None = nothing_held (decls_at ns)
+held_at ns distinct hold (Some w) = all_held (decls_at ns) ns distinct hold w
 
 pub linted_are_kinded : LintedAreKinded
-linted_are_kinded n distinct (module_holds {m = m} {imports = imports} {exports = exports} {hidden = hidden} {ds = ds} e h types definitions) = record {
-  values = λ v t p. value_kinded m imports exports hidden ds definitions v t (at_one m imports exports hidden ds v.module) p;
-  constructors = λ v k p. con_kinded_alone m imports exports hidden ds types distinct v k (at_one m imports exports hidden ds v.module) p;
-  axioms = λ v a p. axiom_kinded_alone m imports exports hidden ds types distinct v a (at_one m imports exports hidden ds v.module) p;
-}
+linted_are_kinded ns distinct hold =
+    let ms = decls_at ns in
+    let held : (o : Option Word) → Held ms (ms o) = held_at ns distinct hold in
+    record {
+      values = λ v t p. definition_kinded ms (ms v.module) v.text t (held v.module).definitions p;
+      constructors = λ v k p. constructor_kinded ms v k (con_found ms no_word (ms v.module) v.text k (held v.module).types (held v.module).distinct p);
+      axioms = λ v a p. axiom_kinded ms v.module no_word (ms v.module) v.text a (held v.module).types (held v.module).distinct (λ w d q. q) p;
+    }

@@ -5,7 +5,8 @@ use Rattle.fc_syntax.specs.GenericTree.{Word, ConOf, Decl, DData, DNew, DFamily,
 use Rattle.fc_model.specs.Declaring.{coercion_words, con_words, decl_word, decl_words, declared_words, ncoercion_words, ncon_words, ndecl_word, ndecl_words, ndeclared_words, nterm_words, ntype_words, nwords_by, term_words, type_words, words_by}
 use Rattle.fc_model.specs.DeclaredWords.{all_behind}
 use Rattle.fc_model.specs.Nameless.{NDecl}
-use Rattle.fc_model.specs.Resolution.{Top, WordSet, Words, behind, no_word, ntop_of, plus_all, top_of}
+use Rattle.fc_model.specs.Resolution.{Top, WordSet, Words, behind, no_word, no_words, ntop_of, offers_all, plus_all, top_of}
+use Rattle.fc_model.specs.OfferViews.{declared_by_space}
 use Rattle.fc_model.specs.Worded.{WConDecl, WDecl, WModule, bare_con, bare_decl, bare_decls, bare_module}
 use Rattle.fc_model.proofs.Lists.{plus_both}
 
@@ -60,7 +61,7 @@ bare_words_by f g same (d ∷ ds) = ap (λ ws. ws ++ nwords_by f (bare_decls ds)
 
 abbrev top_with : Word → WordSet → List Word → List Word → List Word → Top
 top_with own imports types terms coercions =
-    record { own = own; imports = imports; types = plus_all types no_word; terms = plus_all terms no_word; coercions = plus_all coercions no_word }
+    record { own = own; imports = imports; offers = offers_all; types = plus_all types no_word; terms = plus_all terms no_word; coercions = plus_all coercions no_word }
 
 -- a module declares and imports the same
 pub bare_top : (m : WModule) → ntop_of (bare_module m) ≡ top_of m
@@ -91,3 +92,11 @@ pub bare_declared_words : (ds : List WDecl) → ndeclared_words (bare_decls ds) 
 bare_declared_words [] = refl
 bare_declared_words (d ∷ ds) =
     ap (λ ws. ws ++ ndeclared_words (bare_decls ds)) (bare_decl_words d) ∙ ap (λ ws. decl_words d ++ ws) (bare_declared_words ds) ∙ sym (flat_map-cons decl_words d ds)
+
+-- the words of declarations by their space are those without the words of binders
+pub bare_spaces : (ds : List WDecl) → all_behind ds no_words ≡ declared_by_space (bare_decls ds)
+bare_spaces ds =
+    behind_all ds no_words
+    ∙ ap (λ ws. record { types = plus_all ws no_word; terms = plus_all (words_by term_words ds) no_word; coercions = plus_all (words_by coercion_words ds) no_word }) (sym (bare_words_by ntype_words type_words bare_type_words ds))
+    ∙ ap (λ ws. record { types = plus_all (nwords_by ntype_words (bare_decls ds)) no_word; terms = plus_all ws no_word; coercions = plus_all (words_by coercion_words ds) no_word }) (sym (bare_words_by nterm_words term_words bare_term_words ds))
+    ∙ ap (λ ws. record { types = plus_all (nwords_by ntype_words (bare_decls ds)) no_word; terms = plus_all (nwords_by nterm_words (bare_decls ds)) no_word; coercions = plus_all ws no_word }) (sym (bare_words_by ncoercion_words coercion_words bare_coercion_words ds))

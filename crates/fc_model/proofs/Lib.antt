@@ -16,7 +16,9 @@ pub mod KindedIs
 pub mod KindsKept
 pub mod LintedIs
 pub mod Lists
+pub mod MentionedImported
 pub mod NeedsAre
+pub mod Offered
 pub mod Parts
 pub mod PutInKept
 pub mod Raised
@@ -25,8 +27,10 @@ pub mod ReplacedKept
 pub mod Resolved
 pub mod ResolvedExpressionsAre
 pub mod ResolvedModulesAre
+pub mod ResolvedMore
 pub mod ResolvedTypesAre
 pub mod Sameness
+pub mod SetWritten
 pub mod Substitutions
 pub mod TypedIs
 pub mod TypesKinded

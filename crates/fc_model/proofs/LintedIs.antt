@@ -222,15 +222,11 @@ module _ (ms : Modules) where
 
 -- MODULES
 
-module_is_judged : {n : NModule} → ModuleHolds n → lint_or_fault n ≡ Ok done
-module_is_judged (module_holds {m = m} {imports = imports} {exports = exports} {hidden = hidden} {ds = ds} x h types definitions) =
-    let ms = decls_at (NModuleOf m imports exports hidden ds ∷ []) in
-    let p = definitions_are_judged ms definitions in
-    rw (x, h, type_decls_are_judged ms types, p.0) p.1
+module_is_judged : (ms : Modules) {n : NModule} → ModuleHolds ms n → lint_or_fault ms n ≡ Ok done
+module_is_judged ms (module_holds x h types definitions) = let p = definitions_are_judged ms definitions in rw (x, h, type_decls_are_judged ms types, p.0) p.1
 
-judged_module_holds : (n : NModule) → lint_or_fault n ≡ Ok done → ModuleHolds n
-judged_module_holds (NModuleOf m imports exports hidden ds) h =
-    let ms = decls_at (NModuleOf m imports exports hidden ds ∷ []) in
+judged_module_holds : (ms : Modules) (n : NModule) → lint_or_fault ms n ≡ Ok done → ModuleHolds ms n
+judged_module_holds ms (NModuleOf m imports exports hidden ds) h =
     let declared = plus_all (ndeclared_words ds) no_word in
     let p = and_then_inv (exports_judged (NModuleOf m imports exports hidden ds)) _ done h in
     let x = need_inv (list_all declared exports && list_all declared hidden) _ _ p.0 p.1 in
@@ -241,5 +237,5 @@ judged_module_holds (NModuleOf m imports exports hidden ds) h =
     (judged_definitions_hold ms ds (r.1 ∙ ap (λ d. Ok d) (done_is r.0)) r.2)
 
 -- the function finds no fault just where the rules hold
-pub lint_is : (n : NModule) → (lint_or_fault n ≡ Ok done) ↔ ModuleHolds n
-lint_is n = (judged_module_holds n, λ h. module_is_judged h)
+pub lint_is : (ms : Modules) (n : NModule) → (lint_or_fault ms n ≡ Ok done) ↔ ModuleHolds ms n
+lint_is ms n = (judged_module_holds ms n, λ h. module_is_judged ms h)

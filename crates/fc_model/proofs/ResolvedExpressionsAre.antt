@@ -65,7 +65,7 @@ module _ (top : Top) where
   resolved_head_is head.Default k eq = subst (λ x. ResolvesHead top head.Default x) (ok_ok eq) resolves_default
   resolved_head_is (head.Lit n) k eq = subst (λ x. ResolvesHead top (head.Lit n) x) (ok_ok eq) resolves_literal_head
   resolved_head_is (head.Con n) k eq =
-      let p = and_then_inv (declared_name top top.terms n.module n.text) _ k eq in
+      let p = and_then_inv (declared_name top top.terms top.offers.terms n.module n.text) _ k eq in
       subst (λ x. ResolvesHead top (head.Con n) x) (ok_ok p.2) (resolves_constructor_head p.1)
 
   -- VARIABLES
@@ -79,14 +79,14 @@ module _ (top : Top) where
   found_inv s n (IsValue i) f is found h = subst (λ y. ResolvesExpr top s (EVar n) y) (ok_ok h) (resolves_local is found)
   found_inv s n (IsJoin i) f is found h = err_ok h
   found_inv s n Nowhere f is found h =
-      let p = and_then_inv (declared_name top top.terms None n.text) _ f h in
+      let p = and_then_inv (declared_name top top.terms top.offers.terms None n.text) _ f h in
       subst (λ y. ResolvesExpr top s (EVar n) y) (ok_ok p.2) (resolves_definition is found p.1)
 
   -- a variable that is given a nameless form resolves to it by the rules
   var_inv : (s : Locals) (n : Name) (o : Option Word) (f : NExpr) → n.module ≡ o → resolved_var top s o n.text ≡ Ok f → ResolvesExpr top s (EVar n) f
   var_inv s n None f is h = found_inv s n (found_term s.terms n.text) f is refl h
   var_inv s n (Some w) f is h =
-      let p = and_then_inv (declared_name top top.terms (Some w) n.text) _ f h in
+      let p = and_then_inv (declared_name top top.terms top.offers.terms (Some w) n.text) _ f h in
       subst (λ y. ResolvesExpr top s (EVar n) y) (ok_ok p.2) (resolves_imported w is p.1)
 
   -- EXPRESSIONS
@@ -167,7 +167,7 @@ module _ (top : Top) where
         let q = part 1 (resolved_co top s g) _ f p.2 in
         subst (λ x. ResolvesExpr top s (ECast e g) x) (ok_ok q.2) (resolves_cast (resolved_expr_is s e p.0 p.1) (resolved_co_is top s g q.0 q.1))
     resolved_expr_is s (ECon n args) f h =
-        let p = and_then_inv (declared_name top top.terms n.module n.text) _ f h in
+        let p = and_then_inv (declared_name top top.terms top.offers.terms n.module n.text) _ f h in
         let q = and_then_inv (resolved_args top s 0 args) _ f p.2 in
         subst (λ x. ResolvesExpr top s (ECon n args) x) (ok_ok q.2) (resolves_constructor p.1 (resolved_args_are s 0 args q.0 q.1))
     resolved_expr_is s (EPrim op es) f h =

@@ -51,7 +51,7 @@ module _ (top : Top) where
   resolved_ty_is tys (TVar v) a h =
       let p = local_type_inv (index_of tys v) a h in subst (λ x. ResolvesTy top tys (TVar v) x) p.2 (resolves_type_variable p.1)
   resolved_ty_is tys (TCon n) a h =
-      let p = and_then_inv (declared_name top top.types n.module n.text) _ a h in subst (λ x. ResolvesTy top tys (TCon n) x) (ok_ok p.2) (resolves_type_name p.1)
+      let p = and_then_inv (declared_name top top.types top.offers.types n.module n.text) _ a h in subst (λ x. ResolvesTy top tys (TCon n) x) (ok_ok p.2) (resolves_type_name p.1)
   resolved_ty_is tys TInt a h = subst (λ x. ResolvesTy top tys TInt x) (ok_ok h) resolves_int
   resolved_ty_is tys (TApp t u) a h =
       let p = part 0 (resolved_ty top tys t) _ a h in
@@ -124,7 +124,7 @@ module _ (top : Top) where
         let q = part 1 (resolved_co top s g) _ a p.2 in
         subst (λ x. ResolvesCo top s (GTrans f g) x) (ok_ok q.2) (resolves_trans (resolved_co_is s f p.0 p.1) (resolved_co_is s g q.0 q.1))
     resolved_co_is s (GTc r n gs) a h =
-        let p = and_then_inv (declared_name top top.types n.module n.text) _ a h in
+        let p = and_then_inv (declared_name top top.types top.offers.types n.module n.text) _ a h in
         let q = and_then_inv (resolved_cos top s 0 gs) _ a p.2 in
         subst (λ x. ResolvesCo top s (GTc r n gs) x) (ok_ok q.2) (resolves_tc p.1 (resolved_cos_are s 0 gs q.0 q.1))
     resolved_co_is s (GCapp f g) a h =
@@ -157,7 +157,7 @@ module _ (top : Top) where
     resolved_co_is s (GSub g) a h =
         let p = part 0 (resolved_co top s g) _ a h in subst (λ x. ResolvesCo top s (GSub g) x) (ok_ok p.2) (resolves_sub (resolved_co_is s g p.0 p.1))
     resolved_co_is s (GAx n gs) a h =
-        let p = and_then_inv (declared_name top top.coercions n.module n.text) _ a h in
+        let p = and_then_inv (declared_name top top.coercions top.offers.coercions n.module n.text) _ a h in
         let q = and_then_inv (resolved_cos top s 0 gs) _ a p.2 in
         subst (λ x. ResolvesCo top s (GAx n gs) x) (ok_ok q.2) (resolves_axiom p.1 (resolved_cos_are s 0 gs q.0 q.1))
     resolved_co_is s (GUniv t u) a h =

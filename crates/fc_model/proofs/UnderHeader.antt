@@ -12,8 +12,8 @@ use Rattle.fc_model.specs.Formed.{IsFormed, are_field_binders, is_param_formed, 
 use Rattle.fc_model.specs.Declaring.{con_words, decl_words, declared_words, ndeclared_words}
 use Rattle.fc_model.specs.Faulting.{F, need, and_then}
 use Rattle.fc_model.specs.Headers.{others, written_of}
-use Rattle.fc_model.specs.Kinding.{Modules, decls_at}
-use Rattle.fc_model.specs.Linting.{Done, done, Lints, def_types_judged, exports_judged, lint_or_fault, rights_judged, type_decls_judged}
+use Rattle.fc_model.specs.Kinding.{decls_at}
+use Rattle.fc_model.specs.Linting.{Done, done, Lints, declarations_judged, exports_judged, lint_or_fault}
 use Rattle.fc_model.specs.Nameless.{NDecl, NModuleOf}
 use Rattle.fc_model.specs.Resolution.{WordSet, no_word, no_words, plus, plus_all, resolved_decls, resolved_or_fault, top_of}
 use Rattle.fc_model.specs.Words.{keyword_of}
@@ -21,7 +21,7 @@ use Rattle.fc_model.proofs.Parts.{and_then_inv, need_inv, ok_ok}
 use Rattle.fc_model.proofs.Resolved.{decls_have_words}
 use Rattle.fc_model.proofs.Sameness.{bytes_eq_refl, false_true}
 
-both : (a b : Bool) → a ≡ true → b ≡ true → a && b ≡ true
+pub both : (a b : Bool) → a ≡ true → b ≡ true → a && b ≡ true
 both a b p q = rw (p, q) refl
 
 -- SETS OF WORDS
@@ -31,12 +31,12 @@ when true c h = refl
 when false c h = h
 
 -- a set with more words has those that it had
-all_keep : (vs : List Word) (s : WordSet) (w : Word) → s w ≡ true → plus_all vs s w ≡ true
+pub all_keep : (vs : List Word) (s : WordSet) (w : Word) → s w ≡ true → plus_all vs s w ≡ true
 all_keep [] s w h = h
 all_keep (v ∷ vs) s w h = all_keep vs (plus v s) w (when (bytes_eq v w) (s w) h)
 
 -- and each of the words put in
-all_are_in : (vs : List Word) (s : WordSet) → list_all (plus_all vs s) vs ≡ true
+pub all_are_in : (vs : List Word) (s : WordSet) → list_all (plus_all vs s) vs ≡ true
 all_are_in [] s = refl
 all_are_in (v ∷ vs) s =
     both (plus_all vs (plus v s) v) (list_all (plus_all vs (plus v s)) vs) (all_keep vs (plus v s) v (ap (λ b. if b then true else s v) (bytes_eq_refl v))) (all_are_in vs (plus v s))
@@ -47,13 +47,13 @@ others_if true p w skipped taken h s t = s
 others_if false p w skipped taken h s t = both (p w) (list_all p taken) h t
 
 -- the other words are among the words
-others_are_among : (p : WordSet) (seen : WordSet) (ws : List Word) → list_all p ws ≡ true → list_all p (others seen ws) ≡ true
+pub others_are_among : (p : WordSet) (seen : WordSet) (ws : List Word) → list_all p ws ≡ true → list_all p (others seen ws) ≡ true
 others_are_among p seen [] h = refl
 others_are_among p seen (w ∷ ws) h =
     let a = and_parts (p w) (list_all p ws) h in
     others_if (seen w) p w (others seen ws) (others (plus w seen) ws) a.0 (others_are_among p seen ws a.1) (others_are_among p (plus w seen) ws a.1)
 
-all_of_both : (p : WordSet) (vs ws : List Word) → list_all p vs ≡ true → list_all p ws ≡ true → list_all p (vs ++ ws) ≡ true
+pub all_of_both : (p : WordSet) (vs ws : List Word) → list_all p vs ≡ true → list_all p ws ≡ true → list_all p (vs ++ ws) ≡ true
 all_of_both p vs ws g h = list_all-append p vs ws ∙ both (list_all p vs) (list_all p ws) g h
 
 -- WORDS OF THEIR FORM
@@ -116,16 +116,13 @@ at_hidden : (m : Word) (imports exports h g : List Word) (ds : List NDecl) (o : 
 at_hidden m imports exports h g ds None = refl
 at_hidden m imports exports h g ds (Some w) = refl
 
--- the premises of declarations against what modules declare
-abbrev declarations_judged : Modules → List NDecl → Result Done F
-declarations_judged ms ds = and_then (type_decls_judged ms ds) (λ _. and_then (def_types_judged ms ds) (λ _. rights_judged ms ds))
-
 need_is_done : (b : Bool) (r : Result Done F) (d : Done) → need b ExportUnknown r ≡ Ok d → b ≡ true
 need_is_done b r d h = (need_inv b ExportUnknown r d h).0
 
 -- a nameless module lints with other hidden words that are declared
 hidden_lints : (m : Word) (imports exports h g : List Word) (ds : List NDecl) → list_all (plus_all (ndeclared_words ds) no_word) g ≡ true
-    → lint_or_fault (NModuleOf m imports exports h ds) ≡ Ok done → lint_or_fault (NModuleOf m imports exports g ds) ≡ Ok done
+    → lint_or_fault (decls_at (NModuleOf m imports exports h ds ∷ [])) (NModuleOf m imports exports h ds) ≡ Ok done
+    → lint_or_fault (decls_at (NModuleOf m imports exports g ds ∷ [])) (NModuleOf m imports exports g ds) ≡ Ok done
 hidden_lints m imports exports h g ds declared lint =
     let same = fun_ext (at_hidden m imports exports h g ds) in
     let p = and_then_inv (exports_judged (NModuleOf m imports exports h ds)) _ done lint in
@@ -133,9 +130,10 @@ hidden_lints m imports exports h g ds declared lint =
     rw (a.0, declared) (ap (λ ms. declarations_judged ms ds) (sym same) ∙ p.2)
 
 -- hidden words that are kept are declared
-hidden_are_declared : (m : Word) (imports exports h : List Word) (ds : List NDecl) → lint_or_fault (NModuleOf m imports exports h ds) ≡ Ok done
+hidden_were_declared : (m : Word) (imports exports h : List Word) (ds : List NDecl)
+    → lint_or_fault (decls_at (NModuleOf m imports exports h ds ∷ [])) (NModuleOf m imports exports h ds) ≡ Ok done
     → list_all (plus_all (ndeclared_words ds) no_word) h ≡ true
-hidden_are_declared m imports exports h ds lint =
+hidden_were_declared m imports exports h ds lint =
     let p = and_then_inv (exports_judged (NModuleOf m imports exports h ds)) _ done lint in
     let a = and_parts (list_all (plus_all (ndeclared_words ds) no_word) exports) (list_all (plus_all (ndeclared_words ds) no_word) h) (need_is_done _ _ p.0 p.1) in
     a.1
@@ -145,11 +143,18 @@ written_lints (ModuleOf m imports exports hidden ds) lint =
     let read = ModuleOf m imports exports hidden ds in
     let seen = plus_all hidden (plus_all exports no_word) in
     let more = hidden ++ others seen (declared_words ds) in
-    let p = and_then_inv (resolved_or_fault read) (λ n. lint_or_fault n) done lint in
+    let p = and_then_inv (resolved_or_fault read) (λ n. lint_or_fault (decls_at (n ∷ [])) n) done lint in
     let q = and_then_inv (resolved_decls (top_of read) no_words ds) _ p.0 p.1 in
-    let lints = subst (λ n. lint_or_fault n ≡ Ok done) (sym (ok_ok q.2)) p.2 in
+    let lints = subst (λ n. lint_or_fault (decls_at (n ∷ [])) n ≡ Ok done) (sym (ok_ok q.2)) p.2 in
     let words = plus_all (ndeclared_words q.0) no_word in
     let among = subst (λ ws. list_all words ws ≡ true) (sym (decls_have_words (top_of read) no_words ds q.0 q.1)) (all_are_in (ndeclared_words q.0) no_word) in
-    let declared = all_of_both words hidden (others seen (declared_words ds)) (hidden_are_declared m imports exports hidden q.0 lints) (others_are_among words seen (declared_words ds) among) in
-    ap (λ r. and_then (and_then r (λ cs. Ok (NModuleOf m imports exports more cs))) (λ n. lint_or_fault n)) q.1
+    let declared = all_of_both words hidden (others seen (declared_words ds)) (hidden_were_declared m imports exports hidden q.0 lints) (others_are_among words seen (declared_words ds) among) in
+    ap (λ r. and_then (and_then r (λ cs. Ok (NModuleOf m imports exports more cs))) (λ n. lint_or_fault (decls_at (n ∷ [])) n)) q.1
     ∙ hidden_lints m imports exports hidden more q.0 declared lints
+
+-- hidden words that are written are declared, where those are that were read
+pub hidden_are_declared : (words : WordSet) (hidden exports : List Word) (ds : List Decl) → list_all words hidden ≡ true → list_all words (declared_words ds) ≡ true
+    → list_all words (hidden ++ others (plus_all hidden (plus_all exports no_word)) (declared_words ds)) ≡ true
+hidden_are_declared words hidden exports ds old all =
+    let seen = plus_all hidden (plus_all exports no_word) in
+    all_of_both words hidden (others seen (declared_words ds)) old (others_are_among words seen (declared_words ds) all)

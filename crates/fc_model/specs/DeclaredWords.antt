@@ -1,6 +1,7 @@
 -- What a module declares and imports, as its tables say.
 use Rattle.std.specs.Prelude.{List, [], ◌∷◌}
 use Rattle.fc_syntax.specs.GenericTree.{Decl}
+use Rattle.fc_model.specs.OfferViews.{offers_in}
 use Rattle.fc_model.specs.Resolution.{Top, Words, behind}
 use Rattle.fc_model.specs.WordSets.{set_of}
 use Rattle.fc_model.specs.declared.declared.Spaces.{Spaces}
@@ -13,6 +14,7 @@ abbrev pub top_by : Declared → Top
 top_by d = record {
   own = d.own;
   imports = set_of d.imports;
+  offers = offers_in d.offers;
   types = set_of d.spaces.types;
   terms = set_of d.spaces.terms;
   coercions = set_of d.spaces.coercions;

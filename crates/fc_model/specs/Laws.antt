@@ -53,4 +53,4 @@ ConstructorNeedsAreLeast = (ms : Modules) (i : ℕ) (cs : List NConDecl) → IsN
 
 -- Lint as a function finds no fault exactly where the rules hold
 abbrev pub LintIsByCases : Type 0
-LintIsByCases = (n : NModule) → (lint_or_fault n ≡ Ok done) ↔ ModuleHolds n
+LintIsByCases = (ms : Modules) (n : NModule) → (lint_or_fault ms n ≡ Ok done) ↔ ModuleHolds ms n

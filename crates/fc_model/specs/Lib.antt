@@ -1,4 +1,3 @@
-pub mod Acceptance
 pub mod Calling
 pub mod Canonical
 pub mod Coercing
@@ -15,11 +14,14 @@ pub mod Kinding
 pub mod Laws
 pub mod Linting
 pub mod LintingRules
+pub mod Mentioning
 pub mod Nameless
 pub mod NamelessView
 pub mod Needs
 pub mod Observing
+pub mod OfferViews
 pub mod Pieces
+pub mod Planning
 pub mod Programs
 pub mod ReadFaults
 pub mod Reading

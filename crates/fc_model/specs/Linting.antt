@@ -1,18 +1,20 @@
--- Lint of a module: every premise of names, declarations and typing, in its order; and the first that fails.
-use Rattle.std.specs.Prelude.{◌≡◌, ℕ, ◌+◌, Bool, true, ◌&&◌, List, [], ◌∷◌, length, reverse, None, Result, Ok, Err}
+-- Lint of a set of modules: every premise of names, declarations and typing, in its order; and the first that fails.
+use Rattle.std.specs.Prelude.{◌≡◌, ℕ, ◌+◌, Bool, true, false, ◌&&◌, if◌then◌else◌, List, [], ◌∷◌, length, reverse, None, Result, Ok, Err}
 use Rattle.std.specs.List.{list_all}
+use Rattle.std.specs.Str.{bytes_eq}
 use Rattle.fc_syntax.specs.declared.fault.FaultKind.TheVariants.{BadForm, ExportUnknown, NotAType, FamilyArity, UnliftedVariable, RoleTooWeak, KindsDiffer, UnliftedTop, DefType}
 use Rattle.fc_syntax.specs.declared.ty.Role.{Role}
 use Rattle.fc_syntax.specs.declared.ty.Role.TheVariants.{R}
 use Rattle.fc_syntax.specs.Roles.{role_below}
-use Rattle.fc_syntax.specs.Tree.{Kind, KStar, KHash, KArrow, Module}
-use Rattle.fc_model.specs.Declaring.{ndecl_word, ndeclared_words}
+use Rattle.fc_syntax.specs.Tree.{Word, Kind, KStar, KHash, KArrow, Module}
+use Rattle.fc_model.specs.Declaring.{ncoercion_words, ndecl_word, ndeclared_words, nterm_words, ntype_words, nwords_by}
 use Rattle.fc_model.specs.Faulting.{F, At, need, under, within, and_then}
-use Rattle.fc_model.specs.Kinding.{Modules, decls_at, is_family_applied, is_lifted, is_star, is_value_kind, kind_or_fault, param_kinds, same_kind, same_type}
+use Rattle.fc_model.specs.Headers.{name_of, ndecls_in}
+use Rattle.fc_model.specs.Kinding.{Modules, decls_at, decls_of_module, is_family_applied, is_lifted, is_star, is_value_kind, kind_or_fault, param_kinds, same_kind, same_type}
 use Rattle.fc_model.specs.Nameless.{NTy, NBinder, NBValue, NBType, NBCo, NParam, NParamOf}
 use Rattle.fc_model.specs.Nameless.{NConDecl, NConOf, NDecl, NData, NNew, NFamily, NAxiom, NDef, NWrap, NExpr, NModule, NModuleOf}
 use Rattle.fc_model.specs.Needs.{need_in, need_in_cons}
-use Rattle.fc_model.specs.Resolution.{no_word, plus_all, resolved_or_fault}
+use Rattle.fc_model.specs.Resolution.{Offers, WordSet, no_word, plus_all, resolved_among, resolved_or_fault}
 use Rattle.fc_model.specs.Typing.{kinds_behind, no_context, type_or_fault}
 
 -- nothing but whether there is a fault
@@ -129,19 +131,70 @@ abbrev pub rights_judged : Modules → List NDecl → Result Done F
 rights_judged ms [] = Ok done
 rights_judged ms (d ∷ ds) = and_then (within (ndecl_word d) (right_judged ms d)) (λ _. rights_judged ms ds)
 
--- LINT
+-- A MODULE
 
--- a module against itself: exported and hidden words, type declarations, types of definitions, right sides
-abbrev pub lint_or_fault : NModule → Result Done F
-lint_or_fault (NModuleOf m imports exports hidden ds) =
-    let ms = decls_at (NModuleOf m imports exports hidden ds ∷ []) in
-    and_then (exports_judged (NModuleOf m imports exports hidden ds)) (λ _. and_then (type_decls_judged ms ds) (λ _.
-    and_then (def_types_judged ms ds) (λ _. rights_judged ms ds)))
+-- type declarations, then the types of definitions, and then right sides, against what modules declare
+abbrev pub declarations_judged : Modules → List NDecl → Result Done F
+declarations_judged ms ds = and_then (type_decls_judged ms ds) (λ _. and_then (def_types_judged ms ds) (λ _. rights_judged ms ds))
 
--- the premises of names come before all others
+-- a module against what modules declare: exported and hidden words, and then its declarations
+abbrev pub lint_or_fault : Modules → NModule → Result Done F
+lint_or_fault ms (NModuleOf m imports exports hidden ds) = and_then (exports_judged (NModuleOf m imports exports hidden ds)) (λ _. declarations_judged ms ds)
+
+-- a module alone, whose premises of names come before all others
 abbrev pub module_lint : Module → Result Done F
-module_lint m = and_then (resolved_or_fault m) (λ n. lint_or_fault n)
+module_lint m = and_then (resolved_or_fault m) (λ n. lint_or_fault (decls_at (n ∷ [])) n)
 
 -- every premise holds of a module
 abbrev pub Lints : Module → Type 0
 Lints m = module_lint m ≡ Ok done
+
+-- A SET OF MODULES
+
+-- the words that a module exports or hides, which is what others may use of it
+abbrev pub told_by : List NModule → Word → WordSet
+told_by [] m w = false
+told_by (NModuleOf n imports exports hidden ds ∷ ns) m w = if bytes_eq n m then plus_all exports (plus_all hidden no_word) w else told_by ns m w
+
+-- of those the ones that it declares in a space
+abbrev pub offered_by : (NDecl → List Word) → List NModule → Word → WordSet
+offered_by words ns m w = told_by ns m w && plus_all (nwords_by words (decls_of_module ns m)) no_word w
+
+abbrev pub offers_of : List NModule → Offers
+offers_of ns = record { types = offered_by ntype_words ns; terms = offered_by nterm_words ns; coercions = offered_by ncoercion_words ns }
+
+-- a module against modules: its own names before all others, then exported and hidden words, then that each name of an import is one that its
+-- module has for others, and then its declarations
+abbrev pub module_judged : List NModule → Module → Result Done F
+module_judged ns m =
+    and_then (resolved_or_fault m) (λ n. and_then (exports_judged n) (λ _. and_then (resolved_among (offers_of ns) m) (λ _. declarations_judged (decls_at ns) (ndecls_in n))))
+
+-- a premise that fails in the module of a name
+pub data InModule : Type 0 where
+  In : (m : Word) (f : F) → InModule
+
+-- one module, and then those behind it
+abbrev pub in_module : Word → Result Done F → Result Done InModule → Result Done InModule
+in_module m (Ok d) rest = rest
+in_module m (Err f) rest = Err (In m f)
+
+abbrev pub modules_judged : List NModule → List Module → Result Done InModule
+modules_judged ns [] = Ok done
+modules_judged ns (m ∷ ms) = in_module (name_of m) (module_judged ns m) (modules_judged ns ms)
+
+-- the nameless forms of modules, before the first that has a fault of names
+abbrev pub form_before : Result NModule F → List NModule → List NModule
+form_before (Ok n) ns = n ∷ ns
+form_before (Err f) ns = []
+
+abbrev pub nameless_forms : List Module → List NModule
+nameless_forms [] = []
+nameless_forms (m ∷ ms) = form_before (resolved_or_fault m) (nameless_forms ms)
+
+-- the modules of a set in the order in which they are built, each against all of them
+abbrev pub set_judged : List Module → Result Done InModule
+set_judged ms = modules_judged (nameless_forms ms) ms
+
+-- every premise holds of each module of a set
+abbrev pub SetLints : List Module → Type 0
+SetLints ms = set_judged ms ≡ Ok done

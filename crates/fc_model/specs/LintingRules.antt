@@ -6,7 +6,7 @@ use Rattle.fc_syntax.specs.declared.ty.Role.TheVariants.{R}
 use Rattle.fc_syntax.specs.Roles.{role_below}
 use Rattle.fc_syntax.specs.Tree.{Word, Kind, KStar}
 use Rattle.fc_model.specs.Declaring.{ndeclared_words}
-use Rattle.fc_model.specs.Kinding.{Modules, HasKind, decls_at, is_family_applied, is_lifted, is_value_kind, param_kinds}
+use Rattle.fc_model.specs.Kinding.{Modules, HasKind, is_family_applied, is_lifted, is_value_kind, param_kinds}
 use Rattle.fc_model.specs.Nameless.{NTy, NBinder, NBType, NBCo, NParam, NParamOf, NConDecl, NConOf, NDecl, NData, NNew, NFamily, NAxiom, NDef, NWrap, NExpr, NModule, NModuleOf}
 use Rattle.fc_model.specs.Needs.{need_in, need_in_cons}
 use Rattle.fc_model.specs.Resolution.{no_word, plus_all}
@@ -68,8 +68,8 @@ pub data DefinitionsHold (ms : Modules) : List NDecl → Type 0 where
 
 -- MODULES
 
--- exported and hidden words are declared, and declarations and definitions hold against the module itself
-pub data ModuleHolds : NModule → Type 0 where
+-- exported and hidden words are declared, and declarations and definitions hold against modules
+pub data ModuleHolds (ms : Modules) : NModule → Type 0 where
   module_holds : {m : Word} {imports exports hidden : List Word} {ds : List NDecl} → list_all (plus_all (ndeclared_words ds) no_word) exports ≡ true
-      → list_all (plus_all (ndeclared_words ds) no_word) hidden ≡ true → TypeDeclsHold (decls_at (NModuleOf m imports exports hidden ds ∷ [])) ds
-      → DefinitionsHold (decls_at (NModuleOf m imports exports hidden ds ∷ [])) ds → ModuleHolds (NModuleOf m imports exports hidden ds)
+      → list_all (plus_all (ndeclared_words ds) no_word) hidden ≡ true → TypeDeclsHold ms ds → DefinitionsHold ms ds
+      → ModuleHolds ms (NModuleOf m imports exports hidden ds)

@@ -95,3 +95,6 @@ ndecls_of ds = bare_decls (decls_of ds)
 
 abbrev pub nmodule_of : RustModule.Module ℕ Ref → NModule
 nmodule_of m = bare_module (module_of m)
+
+abbrev pub nmodules_of : List (RustModule.Module ℕ Ref) → List NModule
+nmodules_of ms = map nmodule_of ms

@@ -59,19 +59,19 @@ counts_fit (DWrap n t e) = true
 abbrev pub depth_fits : Decl → Bool
 depth_fits d = nat_le (depth_of d) standard_limits.depth
 
--- every declaration is within the limits of its own, and all together are within that of size
-abbrev pub are_within : List Decl → Bool
-are_within ds = (list_all depth_fits ds && list_all counts_fit ds) && nat_le (decls_size ds) standard_limits.size
+-- every declaration is within the limits of its own, and all together have at most the size for which there is room
+abbrev pub are_within : ℕ → List Decl → Bool
+are_within room ds = (list_all depth_fits ds && list_all counts_fit ds) && nat_le (decls_size ds) room
 
-abbrev pub decls_within : Module → Bool
-decls_within (ModuleOf m imports exports hidden ds) = are_within ds
+abbrev pub decls_within : ℕ → Module → Bool
+decls_within room (ModuleOf m imports exports hidden ds) = are_within room ds
 
--- the bytes spell this module, and both are within the limits
-pub record ReadsTo (bytes : List ℕ) (m : Module) : Type 0 where
+-- the bytes spell this module, and both are within the limits, where there is room for declarations of a size
+pub record ReadsTo (room : ℕ) (bytes : List ℕ) (m : Module) : Type 0 where
   pub short : length bytes ≤ standard_limits.file_bytes
   pub spelled : Spells bytes m
   pub nested : NestsWithin (map tok_of spelled.lexemes)
-  pub within : decls_within m ≡ true
+  pub within : decls_within room m ≡ true
 
 -- THE FIRST FAULT
 
@@ -90,8 +90,8 @@ CannotGoOn good [] = IsText good → ⊥
 CannotGoOn good (t ∷ bad) = Begins (good ++ t ∷ []) → ⊥
 
 -- all declarations that stand whole in the tokens are within the limits, together too
-abbrev pub WithinSoFar : List Tok → Type 0
-WithinSoFar ts = (ds : List Decl) (rest : List Tok) → BeginsWithDecls ts ds rest → are_within ds ≡ true
+abbrev pub WithinSoFar : ℕ → List Tok → Type 0
+WithinSoFar room ts = (ds : List Decl) (rest : List Tok) → BeginsWithDecls ts ds rest → are_within room ds ≡ true
 
 -- the byte of the first of these tokens, or the length of the file where there is none
 abbrev pub byte_of : List ℕ → List Lexeme → ℕ
@@ -99,18 +99,18 @@ byte_of bytes [] = length bytes
 byte_of bytes (t ∷ ts) = t.from
 
 -- The form of the file cannot go on at this byte, and could up to there; up to there nothing is past a limit.
-pub record IsBadFormAt (bytes : List ℕ) (lexemes : List Lexeme) (at : ℕ) : Type 0 where
+pub record IsBadFormAt (room : ℕ) (bytes : List ℕ) (lexemes : List Lexeme) (at : ℕ) : Type 0 where
   pub good : List Lexeme
   pub bad : List Lexeme
   pub parts : lexemes ≡ good ++ bad
   pub begins : Begins (map tok_of good)
   pub stops : CannotGoOn (map tok_of good) (map tok_of bad)
   pub nested : NestsWithin (map tok_of good)
-  pub within : WithinSoFar (map tok_of good)
+  pub within : WithinSoFar room (map tok_of good)
   pub place : at ≡ byte_of bytes bad
 
 -- A bracket that may stand at this byte nests too deep; up to there nothing is past a limit.
-pub record IsDeepBracketAt (lexemes : List Lexeme) (at : ℕ) : Type 0 where
+pub record IsDeepBracketAt (room : ℕ) (lexemes : List Lexeme) (at : ℕ) : Type 0 where
   pub good : List Lexeme
   pub bracket : Lexeme
   pub bad : List Lexeme
@@ -119,11 +119,11 @@ pub record IsDeepBracketAt (lexemes : List Lexeme) (at : ℕ) : Type 0 where
   pub begins : Begins (map tok_of good ++ Open ∷ [])
   pub nested : NestsWithin (map tok_of good)
   pub deep : nests_within standard_limits.brackets 0 (map tok_of good ++ Open ∷ []) ≡ false
-  pub within : WithinSoFar (map tok_of good)
+  pub within : WithinSoFar room (map tok_of good)
   pub place : at ≡ bracket.from
 
 -- A declaration begins at this byte and stands whole; the declarations before it are within the limits, and its own form too.
-pub record IsDeclAt (bytes : List ℕ) (lexemes : List Lexeme) (before : List Decl) (d : Decl) (at : ℕ) : Type 0 where
+pub record IsDeclAt (room : ℕ) (bytes : List ℕ) (lexemes : List Lexeme) (before : List Decl) (d : Decl) (at : ℕ) : Type 0 where
   pub good : List Lexeme
   pub own : List Lexeme
   pub others : List Lexeme
@@ -132,19 +132,19 @@ pub record IsDeclAt (bytes : List ℕ) (lexemes : List Lexeme) (before : List De
   pub declares : Reads ADeclaration (map tok_of own) d []
   pub whole : BeginsWithDecls (map tok_of good ++ map tok_of own) (before ++ d ∷ []) []
   pub nested : NestsWithin (map tok_of good ++ map tok_of own)
-  pub within : are_within before ≡ true
+  pub within : are_within room before ≡ true
   pub place : at ≡ byte_of bytes own
 
 -- The first fault of a file of at most the limit of bytes: first of all its tokens; then, declaration after declaration, of its
--- form and its brackets up to its end, then of its depth, then of its counts and the size of all so far.
-pub data FirstReadFault (bytes : List ℕ) : ByteFault → Type 0 where
-  of_tokens : {f : ByteFault} → tokens_of bytes ≡ Err f → FirstReadFault bytes f
-  of_form : {lexemes : List Lexeme} {at : ℕ} → tokens_of bytes ≡ Ok lexemes → IsBadFormAt bytes lexemes at
-      → FirstReadFault bytes (record { kind = fault.BadForm; at = at })
-  of_brackets : {lexemes : List Lexeme} {at : ℕ} → tokens_of bytes ≡ Ok lexemes → IsDeepBracketAt lexemes at
-      → FirstReadFault bytes (record { kind = fault.TooDeep; at = at })
-  of_depth : {lexemes : List Lexeme} {at : ℕ} (before : List Decl) (d : Decl) → tokens_of bytes ≡ Ok lexemes → IsDeclAt bytes lexemes before d at
-      → depth_fits d ≡ false → FirstReadFault bytes (record { kind = fault.TooDeep; at = at })
-  of_counts : {lexemes : List Lexeme} {at : ℕ} (before : List Decl) (d : Decl) → tokens_of bytes ≡ Ok lexemes → IsDeclAt bytes lexemes before d at
-      → depth_fits d ≡ true → (counts_fit d && nat_le (decls_size (before ++ d ∷ [])) standard_limits.size) ≡ false
-      → FirstReadFault bytes (record { kind = fault.TooMany; at = at })
+-- form and its brackets up to its end, then of its depth, then of its counts and the size of all so far, for which there is this much room.
+pub data FirstReadFault (room : ℕ) (bytes : List ℕ) : ByteFault → Type 0 where
+  of_tokens : {f : ByteFault} → tokens_of bytes ≡ Err f → FirstReadFault room bytes f
+  of_form : {lexemes : List Lexeme} {at : ℕ} → tokens_of bytes ≡ Ok lexemes → IsBadFormAt room bytes lexemes at
+      → FirstReadFault room bytes (record { kind = fault.BadForm; at = at })
+  of_brackets : {lexemes : List Lexeme} {at : ℕ} → tokens_of bytes ≡ Ok lexemes → IsDeepBracketAt room lexemes at
+      → FirstReadFault room bytes (record { kind = fault.TooDeep; at = at })
+  of_depth : {lexemes : List Lexeme} {at : ℕ} (before : List Decl) (d : Decl) → tokens_of bytes ≡ Ok lexemes → IsDeclAt room bytes lexemes before d at
+      → depth_fits d ≡ false → FirstReadFault room bytes (record { kind = fault.TooDeep; at = at })
+  of_counts : {lexemes : List Lexeme} {at : ℕ} (before : List Decl) (d : Decl) → tokens_of bytes ≡ Ok lexemes → IsDeclAt room bytes lexemes before d at
+      → depth_fits d ≡ true → (counts_fit d && nat_le (decls_size (before ++ d ∷ [])) room) ≡ false
+      → FirstReadFault room bytes (record { kind = fault.TooMany; at = at })

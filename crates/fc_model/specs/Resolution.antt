@@ -5,7 +5,7 @@ use Rattle.std.specs.Str.{bytes_eq}
 use Rattle.fc_syntax.specs.declared.ty.Name.{Name}
 use Rattle.fc_syntax.specs.declared.expr.Head.{Head}
 use Rattle.fc_syntax.specs.declared.expr.Head.TheVariants as head
-use Rattle.fc_syntax.specs.declared.fault.FaultKind.TheVariants.{Unbound, Duplicate}
+use Rattle.fc_syntax.specs.declared.fault.FaultKind.TheVariants.{Unbound, Duplicate, NotExported}
 use Rattle.fc_syntax.specs.GenericTree as tree
 use Rattle.fc_syntax.specs.Hints.{param_hint, plain_hint}
 use Rattle.fc_syntax.specs.Tree.{Word, Ty, TVar, TCon, TInt, TApp, TFun, TForall, TCoForall}
@@ -50,11 +50,25 @@ then_item y (Err f) = Err f
 
 -- THE WORDS IN SCOPE
 
--- what a module declares and imports: its name, the modules imported, and the declared words of the three spaces (types;
--- terms, with constructors; coercions, with axioms)
+-- what each module has for others: its words of the three spaces (types; terms, with constructors; coercions, with axioms)
+pub record Offers : Type 0 where
+  pub types : Word → WordSet
+  pub terms : Word → WordSet
+  pub coercions : Word → WordSet
+
+-- whatever is asked of a module
+abbrev pub all_words : Word → WordSet
+all_words m w = true
+
+abbrev pub offers_all : Offers
+offers_all = record { types = all_words; terms = all_words; coercions = all_words }
+
+-- what a module declares and imports: its name, the modules imported with what they have for it, and the declared words of the three
+-- spaces
 pub record Top : Type 0 where
   pub own : Word
   pub imports : WordSet
+  pub offers : Offers
   pub types : WordSet
   pub terms : WordSet
   pub coercions : WordSet
@@ -108,10 +122,11 @@ found_term [] w = Nowhere
 found_term (Value v ∷ xs) w = if bytes_eq v w then IsValue 0 else past_value (found_term xs w)
 found_term (Join v ∷ xs) w = if bytes_eq v w then IsJoin 0 else past_join (found_term xs w)
 
--- a name of a declaration: a word without a dot is declared here, a module before a dot is imported
-abbrev pub declared_name : Top → WordSet → Option Word → Word → Result Name F
-declared_name top words None w = need (words w) Unbound (Ok (record { «module» = Some top.own; text = w }))
-declared_name top words (Some m) w = need (top.imports m) Unbound (Ok (record { «module» = Some m; text = w }))
+-- a name of a declaration, by its space: a word without a dot is declared here, a module before a dot is imported and has the word for
+-- others
+abbrev pub declared_name : Top → WordSet → (Word → WordSet) → Option Word → Word → Result Name F
+declared_name top words offered None w = need (words w) Unbound (Ok (record { «module» = Some top.own; text = w }))
+declared_name top words offered (Some m) w = need (top.imports m) Unbound (need (offered m w) NotExported (Ok (record { «module» = Some m; text = w })))
 
 -- TYPES
 
@@ -121,7 +136,7 @@ local_type None = Err (At Unbound None [])
 
 abbrev pub resolved_ty : Top → List Word → Ty → Result NTy F
 resolved_ty top tys (TVar a) = local_type (index_of tys a)
-resolved_ty top tys (TCon n) = and_then (declared_name top top.types n.module n.text) (λ m. Ok (NTCon m))
+resolved_ty top tys (TCon n) = and_then (declared_name top top.types top.offers.types n.module n.text) (λ m. Ok (NTCon m))
 resolved_ty top tys TInt = Ok NTInt
 resolved_ty top tys (TApp t u) =
     and_then (under 0 (resolved_ty top tys t)) (λ a. and_then (under 1 (resolved_ty top tys u)) (λ b. Ok (NTApp a b)))
@@ -153,7 +168,7 @@ abbrev mutual
   resolved_co top s (GRefl r t) = and_then (under 0 (resolved_ty top s.types t)) (λ a. Ok (NGRefl r a))
   resolved_co top s (GSym g) = and_then (under 0 (resolved_co top s g)) (λ a. Ok (NGSym a))
   resolved_co top s (GTrans g h) = and_then (under 0 (resolved_co top s g)) (λ a. and_then (under 1 (resolved_co top s h)) (λ b. Ok (NGTrans a b)))
-  resolved_co top s (GTc r n gs) = and_then (declared_name top top.types n.module n.text) (λ m. and_then (resolved_cos top s 0 gs) (λ xs. Ok (NGTc r m xs)))
+  resolved_co top s (GTc r n gs) = and_then (declared_name top top.types top.offers.types n.module n.text) (λ m. and_then (resolved_cos top s 0 gs) (λ xs. Ok (NGTc r m xs)))
   resolved_co top s (GCapp g h) = and_then (under 0 (resolved_co top s g)) (λ a. and_then (under 1 (resolved_co top s h)) (λ b. Ok (NGCapp a b)))
   resolved_co top s (GFun g h) = and_then (under 0 (resolved_co top s g)) (λ a. and_then (under 1 (resolved_co top s h)) (λ b. Ok (NGFun a b)))
   resolved_co top s (GAll a k g) = and_then (under 0 (resolved_co top (with_type a s) g)) (λ b. Ok (NGAll k b))
@@ -165,7 +180,7 @@ abbrev mutual
   resolved_co top s (GLeft g) = and_then (under 0 (resolved_co top s g)) (λ a. Ok (NGLeft a))
   resolved_co top s (GRight g) = and_then (under 0 (resolved_co top s g)) (λ a. Ok (NGRight a))
   resolved_co top s (GSub g) = and_then (under 0 (resolved_co top s g)) (λ a. Ok (NGSub a))
-  resolved_co top s (GAx n gs) = and_then (declared_name top top.coercions n.module n.text) (λ m. and_then (resolved_cos top s 0 gs) (λ xs. Ok (NGAx m xs)))
+  resolved_co top s (GAx n gs) = and_then (declared_name top top.coercions top.offers.coercions n.module n.text) (λ m. and_then (resolved_cos top s 0 gs) (λ xs. Ok (NGAx m xs)))
   resolved_co top s (GUniv t u) =
       and_then (under 0 (resolved_ty top s.types t)) (λ a. and_then (under 1 (resolved_ty top s.types u)) (λ b. Ok (NGUniv a b)))
 
@@ -224,11 +239,11 @@ resolved_binders top s ws i (b ∷ bs) =
 abbrev pub variable : Top → Found → Word → Result NExpr F
 variable top (IsValue i) w = Ok (NLocal i)
 variable top (IsJoin i) w = Err (At Unbound None [])
-variable top Nowhere w = and_then (declared_name top top.terms None w) (λ m. Ok (NVar m))
+variable top Nowhere w = and_then (declared_name top top.terms top.offers.terms None w) (λ m. Ok (NVar m))
 
 abbrev pub resolved_var : Top → Locals → Option Word → Word → Result NExpr F
 resolved_var top s None w = variable top (found_term s.terms w) w
-resolved_var top s (Some m) w = and_then (declared_name top top.terms (Some m) w) (λ n. Ok (NVar n))
+resolved_var top s (Some m) w = and_then (declared_name top top.terms top.offers.terms (Some m) w) (λ n. Ok (NVar n))
 
 -- a jump names a join point in scope
 abbrev pub join_index : Found → Result ℕ F
@@ -239,7 +254,7 @@ join_index Nowhere = Err (At Unbound None [])
 abbrev pub resolved_head : Top → Head → Result Head F
 resolved_head top head.Default = Ok head.Default
 resolved_head top (head.Lit n) = Ok (head.Lit n)
-resolved_head top (head.Con n) = and_then (declared_name top top.terms n.module n.text) (λ m. Ok (head.Con m))
+resolved_head top (head.Con n) = and_then (declared_name top top.terms top.offers.terms n.module n.text) (λ m. Ok (head.Con m))
 
 abbrev pub bind_words : Binds → List Word
 bind_words NoBinds = []
@@ -292,7 +307,7 @@ abbrev mutual
       and_then (under 0 (resolved_expr top s e)) (λ f. and_then (under 1 (resolved_ty top s.types t)) (λ a.
       and_then (under 2 (resolved_ty top s.types u)) (λ b. and_then (resolved_alts top (with_term (Value x) s) 3 alts) (λ xs. Ok (NCase f a b xs)))))
   resolved_expr top s (ECast e g) = and_then (under 0 (resolved_expr top s e)) (λ f. and_then (under 1 (resolved_co top s g)) (λ h. Ok (NCast f h)))
-  resolved_expr top s (ECon n args) = and_then (declared_name top top.terms n.module n.text) (λ m. and_then (resolved_args top s 0 args) (λ xs. Ok (NCon m xs)))
+  resolved_expr top s (ECon n args) = and_then (declared_name top top.terms top.offers.terms n.module n.text) (λ m. and_then (resolved_args top s 0 args) (λ xs. Ok (NCon m xs)))
   resolved_expr top s (EPrim op es) = and_then (resolved_exprs top s 0 es) (λ fs. Ok (NPrim op fs))
   resolved_expr top s (EFail t) = and_then (under 0 (resolved_ty top s.types t)) (λ a. Ok (NFail a))
   resolved_expr top s (EJoin r t js e) =
@@ -347,21 +362,27 @@ abbrev mutual
 
 -- DECLARATIONS
 
--- what a module declares and imports
-abbrev pub top_of : {L V B : Type 0} → tree.Module L V B → Top
-top_of (ModuleOf m imports exports hidden ds) = record {
+-- what a module declares, and what it imports of modules that have this for others
+abbrev pub top_among : {L V B : Type 0} → Offers → tree.Module L V B → Top
+top_among offers (ModuleOf m imports exports hidden ds) = record {
   own = m;
   imports = plus_all imports no_word;
+  offers = offers;
   types = plus_all (words_by type_words ds) no_word;
   terms = plus_all (words_by term_words ds) no_word;
   coercions = plus_all (words_by coercion_words ds) no_word;
 }
+
+-- alone, whatever others have
+abbrev pub top_of : {L V B : Type 0} → tree.Module L V B → Top
+top_of = top_among offers_all
 
 -- the same of a nameless one
 abbrev pub ntop_of : NModule → Top
 ntop_of (NModuleOf m imports exports hidden ds) = record {
   own = m;
   imports = plus_all imports no_word;
+  offers = offers_all;
   types = plus_all (nwords_by ntype_words ds) no_word;
   terms = plus_all (nwords_by nterm_words ds) no_word;
   coercions = plus_all (nwords_by ncoercion_words ds) no_word;
@@ -417,7 +438,11 @@ abbrev pub resolved_decls : Top → Words → List Decl → Result (List NDecl) 
 resolved_decls top ws [] = Ok []
 resolved_decls top ws (d ∷ ds) = and_then (within (decl_word d) (resolved_decl top ws d)) (λ c. then_item c (resolved_decls top (behind d ws) ds))
 
--- the nameless form of a module, or its first fault of names
+-- the nameless form of a module among modules that have this for others, or its first fault of names
+abbrev pub resolved_among : Offers → Module → Result NModule F
+resolved_among offers (ModuleOf m imports exports hidden ds) =
+    and_then (resolved_decls (top_among offers (ModuleOf m imports exports hidden ds)) no_words ds) (λ cs. Ok (NModuleOf m imports exports hidden cs))
+
+-- alone, whatever others have
 abbrev pub resolved_or_fault : Module → Result NModule F
-resolved_or_fault (ModuleOf m imports exports hidden ds) =
-    and_then (resolved_decls (top_of (ModuleOf m imports exports hidden ds)) no_words ds) (λ cs. Ok (NModuleOf m imports exports hidden cs))
+resolved_or_fault = resolved_among offers_all

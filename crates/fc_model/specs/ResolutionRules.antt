@@ -29,7 +29,7 @@ use Rattle.fc_model.specs.Worded.{bare_param, bare_plain}
 -- a type in the scope of these type variables, the innermost first
 pub data ResolvesTy (top : Top) : List Word → Ty → NTy → Type 0 where
   resolves_type_variable : {tys : List Word} {a : Word} {i : ℕ} → index_of tys a ≡ Some i → ResolvesTy top tys (TVar a) (NTVar i)
-  resolves_type_name : {tys : List Word} {n m : Name} → declared_name top top.types n.module n.text ≡ Ok m → ResolvesTy top tys (TCon n) (NTCon m)
+  resolves_type_name : {tys : List Word} {n m : Name} → declared_name top top.types top.offers.types n.module n.text ≡ Ok m → ResolvesTy top tys (TCon n) (NTCon m)
   resolves_int : {tys : List Word} → ResolvesTy top tys TInt NTInt
   resolves_type_application : {tys : List Word} {t u : Ty} {a b : NTy} → ResolvesTy top tys t a → ResolvesTy top tys u b → ResolvesTy top tys (TApp t u) (NTApp a b)
   resolves_function : {tys : List Word} {t u : Ty} {a b : NTy} → ResolvesTy top tys t a → ResolvesTy top tys u b → ResolvesTy top tys (TFun t u) (NTFun a b)
@@ -49,7 +49,7 @@ mutual
     resolves_refl : {s : Locals} {r : Role} {t : Ty} {a : NTy} → ResolvesTy top s.types t a → ResolvesCo top s (GRefl r t) (NGRefl r a)
     resolves_sym : {s : Locals} {g : Co} {a : NCo} → ResolvesCo top s g a → ResolvesCo top s (GSym g) (NGSym a)
     resolves_trans : {s : Locals} {g h : Co} {a b : NCo} → ResolvesCo top s g a → ResolvesCo top s h b → ResolvesCo top s (GTrans g h) (NGTrans a b)
-    resolves_tc : {s : Locals} {r : Role} {n m : Name} {gs : Cos} {xs : NCos} → declared_name top top.types n.module n.text ≡ Ok m → ResolvesCos top s gs xs
+    resolves_tc : {s : Locals} {r : Role} {n m : Name} {gs : Cos} {xs : NCos} → declared_name top top.types top.offers.types n.module n.text ≡ Ok m → ResolvesCos top s gs xs
         → ResolvesCo top s (GTc r n gs) (NGTc r m xs)
     resolves_capp : {s : Locals} {g h : Co} {a b : NCo} → ResolvesCo top s g a → ResolvesCo top s h b → ResolvesCo top s (GCapp g h) (NGCapp a b)
     resolves_funco : {s : Locals} {g h : Co} {a b : NCo} → ResolvesCo top s g a → ResolvesCo top s h b → ResolvesCo top s (GFun g h) (NGFun a b)
@@ -61,7 +61,7 @@ mutual
     resolves_left : {s : Locals} {g : Co} {a : NCo} → ResolvesCo top s g a → ResolvesCo top s (GLeft g) (NGLeft a)
     resolves_right : {s : Locals} {g : Co} {a : NCo} → ResolvesCo top s g a → ResolvesCo top s (GRight g) (NGRight a)
     resolves_sub : {s : Locals} {g : Co} {a : NCo} → ResolvesCo top s g a → ResolvesCo top s (GSub g) (NGSub a)
-    resolves_axiom : {s : Locals} {n m : Name} {gs : Cos} {xs : NCos} → declared_name top top.coercions n.module n.text ≡ Ok m → ResolvesCos top s gs xs
+    resolves_axiom : {s : Locals} {n m : Name} {gs : Cos} {xs : NCos} → declared_name top top.coercions top.offers.coercions n.module n.text ≡ Ok m → ResolvesCos top s gs xs
         → ResolvesCo top s (GAx n gs) (NGAx m xs)
     resolves_univ : {s : Locals} {t u : Ty} {a b : NTy} → ResolvesTy top s.types t a → ResolvesTy top s.types u b → ResolvesCo top s (GUniv t u) (NGUniv a b)
 
@@ -90,17 +90,17 @@ pub data ResolvesBinders (top : Top) : Locals → Words → List Binder → List
 pub data ResolvesHead (top : Top) : Head → Head → Type 0 where
   resolves_default : ResolvesHead top head.Default head.Default
   resolves_literal_head : {n : ℤ} → ResolvesHead top (head.Lit n) (head.Lit n)
-  resolves_constructor_head : {n m : Name} → declared_name top top.terms n.module n.text ≡ Ok m → ResolvesHead top (head.Con n) (head.Con m)
+  resolves_constructor_head : {n m : Name} → declared_name top top.terms top.offers.terms n.module n.text ≡ Ok m → ResolvesHead top (head.Con n) (head.Con m)
 
 mutual
   pub data ResolvesExpr (top : Top) : Locals → Expr → NExpr → Type 0 where
     -- a word without a dot is the innermost local of this word, if that is a value
     resolves_local : {s : Locals} {n : Name} {i : ℕ} → n.module ≡ None → found_term s.terms n.text ≡ IsValue i → ResolvesExpr top s (EVar n) (NLocal i)
     -- else a definition of the module
-    resolves_definition : {s : Locals} {n m : Name} → n.module ≡ None → found_term s.terms n.text ≡ Nowhere → declared_name top top.terms None n.text ≡ Ok m
+    resolves_definition : {s : Locals} {n m : Name} → n.module ≡ None → found_term s.terms n.text ≡ Nowhere → declared_name top top.terms top.offers.terms None n.text ≡ Ok m
         → ResolvesExpr top s (EVar n) (NVar m)
     -- with a dot it is one of another module
-    resolves_imported : {s : Locals} {n m : Name} (w : Word) → n.module ≡ Some w → declared_name top top.terms (Some w) n.text ≡ Ok m
+    resolves_imported : {s : Locals} {n m : Name} (w : Word) → n.module ≡ Some w → declared_name top top.terms top.offers.terms (Some w) n.text ≡ Ok m
         → ResolvesExpr top s (EVar n) (NVar m)
     resolves_literal : {s : Locals} {n : ℤ} → ResolvesExpr top s (ELit n) (NLit n)
     resolves_application : {s : Locals} {f : Expr} {a : Arg} {g : NExpr} {b : NArg} → ResolvesExpr top s f g → ResolvesArg top s a b → ResolvesExpr top s (EApp f a) (NApp g b)
@@ -114,7 +114,7 @@ mutual
         → ResolvesTy top s.types t a → ResolvesTy top s.types u b → ResolvesAlts top (with_term (Value x) s) alts xs
         → ResolvesExpr top s (ECase e x t u alts) (NCase f a b xs)
     resolves_cast : {s : Locals} {e : Expr} {g : Co} {f : NExpr} {h : NCo} → ResolvesExpr top s e f → ResolvesCo top s g h → ResolvesExpr top s (ECast e g) (NCast f h)
-    resolves_constructor : {s : Locals} {n m : Name} {args : Args} {xs : NArgs} → declared_name top top.terms n.module n.text ≡ Ok m → ResolvesArgs top s args xs
+    resolves_constructor : {s : Locals} {n m : Name} {args : Args} {xs : NArgs} → declared_name top top.terms top.offers.terms n.module n.text ≡ Ok m → ResolvesArgs top s args xs
         → ResolvesExpr top s (ECon n args) (NCon m xs)
     resolves_primitive : {s : Locals} {op : PrimOp} {es : Exprs} {fs : NExprs} → ResolvesExprs top s es fs → ResolvesExpr top s (EPrim op es) (NPrim op fs)
     resolves_fail : {s : Locals} {t : Ty} {a : NTy} → ResolvesTy top s.types t a → ResolvesExpr top s (EFail t) (NFail a)

@@ -1,6 +1,6 @@
 -- Laws of typing: what stands in place of variables keeps the types of what it stands in, and what has a type has one of the kind of
 -- values.
-use Rattle.std.specs.Prelude.{◌≡◌, ℕ, Bool, true, false, List, [], ◌∷◌, length, Some, Ok}
+use Rattle.std.specs.Prelude.{◌≡◌, ℕ, All, Bool, true, false, List, [], ◌∷◌, length, Some, Ok}
 use Rattle.fc_syntax.specs.declared.ty.Name.{Name}
 use Rattle.fc_syntax.specs.Tree.{Kind, KStar, Module}
 use Rattle.fc_model.specs.Calling.{Constructor, Given, Takes, binders_to, constructor, constructor_type, is_int, type_count}
@@ -166,6 +166,6 @@ HasDistinctTypes (NModuleOf m imports exports hidden ds) = AreDistinct no_word (
 abbrev pub ResolvedHaveDistinctTypes : Type 0
 ResolvedHaveDistinctTypes = (m : Module) (n : NModule) → Resolves m n → HasDistinctTypes n
 
--- what a module that holds against itself defines and constructs has types of kind `*`
+-- what the modules of a set define and construct has types of kind `*`, where each holds against all
 abbrev pub LintedAreKinded : Type 0
-LintedAreKinded = (n : NModule) → HasDistinctTypes n → ModuleHolds n → AreDeclaredKinded (decls_at (n ∷ []))
+LintedAreKinded = (ns : List NModule) → All HasDistinctTypes ns → All (ModuleHolds (decls_at ns)) ns → AreDeclaredKinded (decls_at ns)

@@ -3,9 +3,11 @@ ghost use Rattle.std.specs.Prelude.{◌≡◌, ◌++◌, OnOk, IfOk};
 ghost use Rattle.fc_syntax.specs.View.{cons_of, decl_of, decls_of, module_of};
 ghost use Rattle.fc_model.specs.Declaring.{con_words, decl_word, decl_words, declared_words};
 ghost use Rattle.fc_model.specs.DeclaredWords.{all_behind, top_by, words_by_space};
-ghost use Rattle.fc_model.specs.Resolution.{behind, no_words, plus_all, top_of};
+ghost use Rattle.fc_model.specs.Resolution.{behind, no_words, plus_all, top_among, top_of};
+ghost use Rattle.fc_model.specs.OfferViews.{offers_in};
 ghost use Rattle.fc_model.specs.WordSets.{set_of};
 
+use crate::offers::Offers;
 use crate::word_set::WordSet;
 use fc_syntax::generic::{ConDecl, Decl, Module};
 use fc_syntax::{Memory, Seq, Text};
@@ -29,6 +31,8 @@ pub struct Declared {
     pub own: Text,
     /// The names of the modules that it imports.
     pub imports: WordSet,
+    /// What these have for it.
+    pub offers: Offers,
     /// The words that it declares.
     pub spaces: Spaces,
 }
@@ -81,7 +85,7 @@ fn add_constructors<L>(
     Ok(())
 }
 
-fn spaces_of<L, V>(alloc: Global, decls: &[Decl<L, V>]) -> Result<Spaces, Memory>
+pub(crate) fn spaces_of<L, V>(alloc: Global, decls: &[Decl<L, V>]) -> Result<Spaces, Memory>
     ensures { IfOk result (λ s. words_by_space s ≡ all_behind (decls_of decls.now) no_words) }
 {
     let mut spaces = Spaces::new(alloc);
@@ -92,10 +96,18 @@ fn spaces_of<L, V>(alloc: Global, decls: &[Decl<L, V>]) -> Result<Spaces, Memory
 }
 
 impl Declared {
-    /// What a module declares and imports, named or nameless.
-    #[tactic(auto, using(crate::proofs::Declares::behind_all))]
+    /// What a module declares and imports, named or nameless, whatever other modules have for it.
+    #[tactic(auto, unfolding(crate::specs::OfferViews::offers_in))]
     pub fn of_module<L, V>(alloc: Global, m: &Module<L, V>) -> Result<Declared, Memory>
         ensures { IfOk result (λ d. top_by d ≡ top_of (module_of m.now)) }
+    {
+        Declared::among(alloc, m, Offers::All)
+    }
+
+    /// What a module declares, and what it imports of modules that have this for others.
+    #[tactic(auto, using(crate::proofs::Declares::behind_all))]
+    pub fn among<L, V>(alloc: Global, m: &Module<L, V>, offers: Offers) -> Result<Declared, Memory>
+        ensures { IfOk result (λ d. top_by d ≡ top_among (offers_in offers) (module_of m.now)) }
     {
         let own = m.name.copy(alloc)?;
         let mut imports = WordSet::new(alloc);
@@ -104,6 +116,7 @@ impl Declared {
         Ok(Declared {
             own,
             imports,
+            offers,
             spaces,
         })
     }

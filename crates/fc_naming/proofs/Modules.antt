@@ -3,7 +3,7 @@ use Rattle.std.proofs.Common.{◌≡◌, List, sym, ap, ◌∙◌, subst}
 use Rattle.fc_syntax.specs.Tree.{Word, Decl, ModuleOf}
 use Rattle.fc_model.specs.Declaring.{coercion_words, nterm_words, ntype_words, nwords_by, term_words, words_by}
 use Rattle.fc_model.specs.Nameless.{NModuleOf}
-use Rattle.fc_model.specs.Resolution.{Top, no_word, no_words, plus_all, top_of, ntop_of}
+use Rattle.fc_model.specs.Resolution.{Top, no_word, no_words, offers_all, plus_all, top_of, ntop_of}
 use Rattle.fc_model.specs.ResolutionRules.{AreDistinct, Resolves, ResolvesDecls, resolves_module}
 use Rattle.fc_model.specs.Worded.{WDecl, bare_decls}
 use Rattle.fc_used_words.specs.Scoped.{HoldsDecls, IsScoped, is_meant}
@@ -15,9 +15,9 @@ same_top : {top : Top} (m : Word) (imports exports hidden : List Word) (ns : Lis
     → top_of (ModuleOf m imports exports hidden ds) ≡ ntop_of (NModuleOf m imports exports hidden (bare_decls ns))
 same_top m imports exports hidden ns ds p =
     let ms = bare_decls ns in
-    ap (λ (ws : List Word). record { own = m; imports = plus_all imports no_word; types = plus_all ws no_word; terms = plus_all (words_by term_words ds) no_word; coercions = plus_all (words_by coercion_words ds) no_word }) p.types
-    ∙ ap (λ (ws : List Word). record { own = m; imports = plus_all imports no_word; types = plus_all (nwords_by ntype_words ms) no_word; terms = plus_all ws no_word; coercions = plus_all (words_by coercion_words ds) no_word }) p.terms
-    ∙ ap (λ (ws : List Word). record { own = m; imports = plus_all imports no_word; types = plus_all (nwords_by ntype_words ms) no_word; terms = plus_all (nwords_by nterm_words ms) no_word; coercions = plus_all ws no_word }) p.coercions
+    ap (λ (ws : List Word). record { own = m; imports = plus_all imports no_word; offers = offers_all; types = plus_all ws no_word; terms = plus_all (words_by term_words ds) no_word; coercions = plus_all (words_by coercion_words ds) no_word }) p.types
+    ∙ ap (λ (ws : List Word). record { own = m; imports = plus_all imports no_word; offers = offers_all; types = plus_all (nwords_by ntype_words ms) no_word; terms = plus_all ws no_word; coercions = plus_all (words_by coercion_words ds) no_word }) p.terms
+    ∙ ap (λ (ws : List Word). record { own = m; imports = plus_all imports no_word; offers = offers_all; types = plus_all (nwords_by ntype_words ms) no_word; terms = plus_all (nwords_by nterm_words ms) no_word; coercions = plus_all ws no_word }) p.coercions
 
 resolved : {top : Top} {m : Word} {imports exports hidden : List Word} {ns : List WDecl} {ds : List Decl} → IsNamedDecls top ns ds → top ≡ ntop_of (NModuleOf m imports exports hidden (bare_decls ns))
     → IsScoped (NModuleOf m imports exports hidden (bare_decls ns)) → Resolves (ModuleOf m imports exports hidden ds) (NModuleOf m imports exports hidden (bare_decls ns))

@@ -184,10 +184,10 @@ meant_by top = below_same (is_meant top) (is_meant top) (is_found_by top no_type
   value_at = λ k i a b. beyond_near _ k i a;
   join_at = λ k i a b. beyond_near _ k i a;
   coercion_at = λ k i a b. beyond_near _ k i a;
-  type_name = λ n a b. is_declared top top.types n a;
-  axiom_name = λ n a b. is_declared top top.coercions n a;
-  constructor = λ n a b. is_declared top top.terms n a;
-  definition = λ n a b. (is_declared top top.terms n a, λ own. (refl, refl));
+  type_name = λ n a b. is_declared top top.types top.offers.types n a;
+  axiom_name = λ n a b. is_declared top top.coercions top.offers.coercions n a;
+  constructor = λ n a b. is_declared top top.terms top.offers.terms n a;
+  definition = λ n a b. (is_declared top top.terms top.offers.terms n a, λ own. (refl, refl));
 })
 
 -- what means something below parameters is found below their words

@@ -90,8 +90,8 @@ module _ {top : Top} {s : Locals} where
   named_definition {x = x} {y = y} is = record {
     resolves = λ h. subst (λ (z : Name). ResolvesExpr top s (EVar z) (NVar x)) (sym is) (by_module (outside top.own x.module)
         (λ own. let e : short top.own x ≡ record { «module» = None; text = x.text } = ap (λ (m : Option Word). record { «module» = m; text = x.text }) own in
-        resolves_definition own (h.1 own).0 (subst (λ (m : Option Word). declared_name top top.terms m x.text ≡ Ok x) own h.0))
-        (λ w far. resolves_imported w far (subst (λ (m : Option Word). declared_name top top.terms m x.text ≡ Ok x) far h.0)));
+        resolves_definition own (h.1 own).0 (subst (λ (m : Option Word). declared_name top top.terms top.offers.terms m x.text ≡ Ok x) own h.0))
+        (λ w far. resolves_imported w far (subst (λ (m : Option Word). declared_name top top.terms top.offers.terms m x.text ≡ Ok x) far h.0)));
     formed = λ l. lower_written top.own x is;
   }
 

@@ -1,7 +1,8 @@
 -- A binder without a word may take any word that no name in its scope uses.
-use Rattle.std.proofs.Common.{◌≡◌, ℕ, zero, suc, ◌+◌, Bool, true, false, List, ◌∷◌, Option, Some, None, Ok, option_map, bytes_eq, if◌then◌else◌, refl, sym, ap, ◌∙◌, add-one}
+use Rattle.std.proofs.Common.{◌≡◌, ℕ, zero, suc, ◌+◌, Bool, true, false, ◌&&◌, List, ◌∷◌, Option, Some, None, Ok, option_map, bytes_eq, if◌then◌else◌, refl, sym, ap, ◌∙◌, add-one}
 use Rattle.fc_syntax.specs.declared.ty.Name.{Name}
-use Rattle.fc_syntax.specs.declared.fault.FaultKind.TheVariants.{Unbound}
+use Rattle.std.proofs.lemmas.Bool.{and_parts}
+use Rattle.fc_syntax.specs.declared.fault.FaultKind.TheVariants.{NotExported, Unbound}
 use Rattle.fc_syntax.specs.Tree.{Word}
 use Rattle.fc_model.specs.Faulting.{need}
 use Rattle.fc_model.specs.Resolution.{Top, Locals, TermWord, Value, Join, Found, IsValue, IsJoin, Nowhere, Words, WordSet, found_term, index_of, past_value, past_join, plus, no_locals, with_type, with_term, with_coercion, declared_name}
@@ -173,19 +174,22 @@ found_by top ws s = below_same (is_found_by top ws s) (is_found_by top ws s) (is
 -- NAMES THAT MEAN SOMETHING
 
 -- a name that is known is declared as it is written
-known_in : (top : Top) (words : WordSet) (m : Option Word) (w : Word) → (h : IsKnownIn top words m w) → IsDeclared top words (record { «module» = m; text = w })
-known_in top words None w h = absurd h
-known_in top words (Some m) w h =
+known_in : (top : Top) (words : WordSet) (offered : Word → WordSet) (m : Option Word) (w : Word) → (h : IsKnownIn top words offered m w)
+    → IsDeclared top words offered (record { «module» = m; text = w })
+known_in top words offered None w h = absurd h
+known_in top words offered (Some m) w h =
     by_test (bytes_eq m top.own)
     (λ same. let e = bytes_eq_eq m top.own same in
-    let known : words w ≡ true = sym (ap (λ b. if b then words w else top.imports m) same) ∙ h in
-    ap (λ (b : Bool). declared_name top words (if b then None else Some m) w) same ∙ ap (λ (b : Bool). need b Unbound (Ok (record { «module» = Some top.own; text = w }))) known
+    let known : words w ≡ true = sym (ap (λ b. if b then words w else top.imports m && offered m w) same) ∙ h in
+    ap (λ (b : Bool). declared_name top words offered (if b then None else Some m) w) same ∙ ap (λ (b : Bool). need b Unbound (Ok (record { «module» = Some top.own; text = w }))) known
     ∙ ap (λ (x : Word). Ok (record { «module» = Some x; text = w })) (sym e))
-    (λ differs. let known : top.imports m ≡ true = sym (ap (λ b. if b then words w else top.imports m) differs) ∙ h in
-    ap (λ (b : Bool). declared_name top words (if b then None else Some m) w) differs ∙ ap (λ (b : Bool). need b Unbound (Ok (record { «module» = Some m; text = w }))) known)
+    (λ differs. let known = and_parts (top.imports m) (offered m w) (sym (ap (λ b. if b then words w else top.imports m && offered m w) differs) ∙ h) in
+    ap (λ (b : Bool). declared_name top words offered (if b then None else Some m) w) differs
+    ∙ ap (λ (b : Bool). need b Unbound (need (offered m w) NotExported (Ok (record { «module» = Some m; text = w })))) known.0
+    ∙ ap (λ (b : Bool). need b NotExported (Ok (record { «module» = Some m; text = w }))) known.1)
 
-pub is_declared : (top : Top) (words : WordSet) (n : Name) → IsKnown top words n → IsDeclared top words n
-is_declared top words n h = known_in top words n.module n.text h
+pub is_declared : (top : Top) (words : WordSet) (offered : Word → WordSet) (n : Name) → IsKnown top words offered n → IsDeclared top words offered n
+is_declared top words offered n h = known_in top words offered n.module n.text h
 
 -- in a module whose names mean something, each is found
 pub found_meant : (top : Top) → Follows (is_meant top) (is_meant top) (is_found top no_locals) Same
@@ -194,8 +198,8 @@ found_meant top = below_same (is_meant top) (is_meant top) (is_found top no_loca
   value_at = λ k i a b. beyond_near _ k i a;
   join_at = λ k i a b. beyond_near _ k i a;
   coercion_at = λ k i a b. beyond_near _ k i a;
-  type_name = λ n a b. is_declared top top.types n a;
-  axiom_name = λ n a b. is_declared top top.coercions n a;
-  constructor = λ n a b. is_declared top top.terms n a;
-  definition = λ n a b. (is_declared top top.terms n a, λ own. (refl, refl));
+  type_name = λ n a b. is_declared top top.types top.offers.types n a;
+  axiom_name = λ n a b. is_declared top top.coercions top.offers.coercions n a;
+  constructor = λ n a b. is_declared top top.terms top.offers.terms n a;
+  definition = λ n a b. (is_declared top top.terms top.offers.terms n a, λ own. (refl, refl));
 })

@@ -4,7 +4,9 @@ use fc_naming::name_back;
 use fc_printer::{put_decl, put_header};
 use fc_reader::read_module;
 use fc_resolve::resolve;
-use fc_syntax::{Memory, Module, NAlt, NBind, NBinder, NDecl, NExpr, NModule, Ref, Seq, Text};
+use fc_syntax::{
+    Limits, Memory, Module, NAlt, NBind, NBinder, NDecl, NExpr, NModule, Ref, Seq, Text,
+};
 use std::alloc::Global;
 use std::process::Abort;
 use std::test::Fail;
@@ -27,7 +29,7 @@ fn nameless(alloc: Global, text: &[u8]) -> Result<NModule, Fail> {
     if text.len() > 4000 {
         return Err("a long text".into());
     }
-    let Ok(m) = read_module(alloc, "M.fc", text) else {
+    let Ok(m) = read_module(alloc, "M.fc", text, Limits::standard().size) else {
         return Err("no module".into());
     };
     match resolve(alloc, &m) {

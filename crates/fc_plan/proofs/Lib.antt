@@ -1,4 +1,5 @@
 pub mod Needed
 pub mod Numbered
+pub mod Picks
 pub mod Planned
 pub mod Turned

@@ -7,11 +7,11 @@ use Rattle.std.proofs.lemmas.List.Folds.{list_all-append}
 use Rattle.indexmap.specs.IndexSet.{insert_key}
 use Rattle.fc_syntax.specs.Tree.{Word, Module}
 use Rattle.fc_syntax.specs.declared.fault.FaultKind.TheVariants as kind
-use Rattle.fc_model.specs.Headers.{name_of}
+use Rattle.fc_model.specs.Headers.{imports_of, name_of}
 use Rattle.fc_model.proofs.Sameness.{false_true, nat_eq_eq}
 use Rattle.fc_plan.specs.Modules.{names_of}
 use Rattle.fc_plan.specs.Numbering.{AreNeeds, AreNumbers, AreNumbersOf, has_passing, number_among, number_in}
-use Rattle.fc_plan.specs.Planning.{first_importer_beyond, first_repeated, imports_of, is_among, of_kind, plan_fault}
+use Rattle.fc_model.specs.Planning.{first_importer_beyond, first_repeated, is_among, of_kind, plan_fault}
 use Rattle.fc_plan.proofs.Planned.{fault_unknown}
 
 -- TESTS

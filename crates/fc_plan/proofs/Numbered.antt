@@ -7,7 +7,7 @@ use Rattle.fc_model.specs.Headers.{name_of}
 use Rattle.fc_model.proofs.Sameness.{bytes_eq_eq, false_true}
 use Rattle.fc_plan.specs.Modules.{names_of}
 use Rattle.fc_plan.specs.Numbering.{AreNumbers, number_among}
-use Rattle.fc_plan.specs.Planning.{first_repeated, is_among, of_kind, plan_fault}
+use Rattle.fc_model.specs.Planning.{first_repeated, is_among, of_kind, plan_fault}
 use Rattle.fc_plan.proofs.Planned.{fault_repeated}
 
 -- The modules before the rest have their numbers, of which the next is k, and no two of them one name.

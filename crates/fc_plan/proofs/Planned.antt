@@ -3,7 +3,7 @@ use Rattle.std.proofs.Common.{◌≡◌, [], List, Option, Some, None, option_ma
 use Rattle.fc_syntax.specs.Tree.{Word, Module}
 use Rattle.fc_syntax.specs.declared.fault.FaultKind.TheVariants as kind
 use Rattle.fc_plan.specs.Modules.{names_of}
-use Rattle.fc_plan.specs.Planning.{PlanFault, build_order, first_importer_beyond, first_repeated, first_without, of_kind, plan_fault}
+use Rattle.fc_model.specs.Planning.{PlanFault, build_order, first_importer_beyond, first_repeated, first_without, of_kind, plan_fault}
 
 abbrev fault_by : Option Word → Option Word → Option Word → Option PlanFault
 fault_by (Some w) unknown unbuilt = Some (of_kind kind.DuplicateModule w)

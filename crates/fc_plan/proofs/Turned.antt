@@ -7,11 +7,11 @@ use Rattle.std.proofs.lemmas.List.Folds.{list_any-append}
 use Rattle.std.proofs.lemmas.Slice.Zip.{AllZip-long}
 use Rattle.fc_syntax.specs.Tree.{Word, Module}
 use Rattle.fc_syntax.specs.declared.fault.FaultKind.TheVariants as kind
-use Rattle.fc_model.specs.Headers.{name_of}
+use Rattle.fc_model.specs.Headers.{imports_of, name_of}
 use Rattle.fc_model.proofs.Sameness.{bytes_eq_eq, bytes_eq_refl, false_true}
 use Rattle.fc_plan.specs.Modules.{names_of}
 use Rattle.fc_plan.specs.Numbering.{AreNeeds, AreNumbersOf, has_passing, number_among, number_in}
-use Rattle.fc_plan.specs.Planning.{build_order, built_behind, first_importer_beyond, first_ready, first_repeated, first_without, imports_of, is_among, is_ready, of_kind, plan_fault}
+use Rattle.fc_model.specs.Planning.{build_order, built_behind, first_importer_beyond, first_ready, first_repeated, first_without, is_among, is_ready, of_kind, plan_fault}
 use Rattle.fc_plan.specs.Turning.{AreUnderway, IsUnderway, first_free, first_unbuilt, is_marked}
 use Rattle.fc_plan.proofs.Planned.{fault_unbuilt}
 

@@ -6,7 +6,7 @@ use Rattle.std.specs.Str.{bytes_eq}
 use Rattle.indexmap.specs.IndexMap.{IndexMap, get_by}
 use Rattle.fc_syntax.specs.Tree.{Word, Module}
 use Rattle.fc_plan.specs.Modules.{names_of}
-use Rattle.fc_plan.specs.Planning.{imports_of}
+use Rattle.fc_model.specs.Headers.{imports_of}
 use denote.Ref.{Bor}
 
 -- what a table has at a word

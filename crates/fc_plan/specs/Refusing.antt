@@ -3,8 +3,7 @@ use Rattle.std.specs.Prelude.{◌≡◌, ⊤, Option, Some, None}
 use Rattle.fc_syntax.specs.declared.fault.Place.TheVariants.{Nowhere}
 use Rattle.fc_syntax.specs.declared.fault.Refusal.{Refusal}
 use Rattle.fc_syntax.specs.declared.fault.Refusal.TheVariants.{Fault, Memory}
-use Rattle.fc_model.specs.Acceptance.{of_file}
-use Rattle.fc_plan.specs.Planning.{PlanFault}
+use Rattle.fc_model.specs.Planning.{PlanFault, of_file}
 
 -- a refusal tells the fault, which stands at its module and in no declaration, or that memory ran out
 abbrev pub Tells : Option PlanFault → Refusal → Type 0

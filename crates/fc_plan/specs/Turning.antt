@@ -4,7 +4,7 @@ use Rattle.std.specs.List.{list_all}
 use Rattle.fc_syntax.specs.Tree.{Word, Module}
 use Rattle.fc_plan.specs.Modules.{names_of}
 use Rattle.fc_plan.specs.Numbering.{AreNeeds, has_passing, number_in}
-use Rattle.fc_plan.specs.Planning.{build_order, built_behind, first_repeated, is_among}
+use Rattle.fc_model.specs.Planning.{build_order, built_behind, first_repeated, is_among}
 
 -- a number is marked
 abbrev pub is_marked : List Bool → ℕ → Bool

@@ -3,7 +3,7 @@ ghost use Rattle.std.specs.Prelude.{◌≡◌, [], None, IfErr, IfOk, IfSome, is
 ghost use Rattle.std.specs.List.{list_all};
 ghost use Rattle.fc_plan.specs.Modules.{modules_of, names_of};
 ghost use Rattle.fc_plan.specs.Numbering.{AreNeeds, AreNumbers, AreNumbersOf, at, number_in};
-ghost use Rattle.fc_plan.specs.Planning.{first_importer_beyond, first_repeated, plan_fault};
+ghost use Rattle.fc_model.specs.Planning.{first_importer_beyond, first_repeated, plan_fault};
 ghost use Rattle.fc_plan.specs.Refusing.{Tells};
 
 use crate::refusing::refusal;

@@ -4,7 +4,7 @@ ghost use Rattle.std.specs.Str.{bytes_eq};
 ghost use Rattle.fc_syntax.specs.Tree.{Word};
 ghost use Rattle.fc_plan.specs.Modules.{modules_of, names_of};
 ghost use Rattle.fc_plan.specs.Numbering.{AreNumbers, at};
-ghost use Rattle.fc_plan.specs.Planning.{first_repeated, plan_fault};
+ghost use Rattle.fc_model.specs.Planning.{first_repeated, plan_fault};
 ghost use Rattle.fc_plan.specs.Refusing.{Tells};
 
 use crate::refusing::refusal;

@@ -1,7 +1,7 @@
 //! The order in which the modules of a set are built.
 ghost use Rattle.std.specs.Prelude.{◌≡◌, Some, None, IfErr, IfOk, map, slice_get};
 ghost use Rattle.fc_plan.specs.Modules.{modules_of};
-ghost use Rattle.fc_plan.specs.Planning.{build_order, plan_fault};
+ghost use Rattle.fc_model.specs.Planning.{build_order, plan_fault};
 ghost use Rattle.fc_plan.specs.Refusing.{Tells};
 
 use crate::needs::needs_of;

@@ -1,6 +1,6 @@
 //! A fault of a set of modules, on the way out to the public call.
 ghost use Rattle.std.specs.Prelude.{Some};
-ghost use Rattle.fc_plan.specs.Planning.{of_kind};
+ghost use Rattle.fc_model.specs.Planning.{of_kind};
 ghost use Rattle.fc_plan.specs.Refusing.{Tells};
 
 use fc_syntax::{Fault, FaultKind, Memory, Place, Refusal, Text};

@@ -7,6 +7,7 @@ mod types;
 use fc_iface::print_interface;
 use fc_printer::print_module;
 use fc_reader::read_module;
+use fc_syntax::Limits;
 use std::alloc::Global;
 use std::process::Abort;
 use std::test::Fail;
@@ -16,7 +17,7 @@ fn canonical(alloc: Global, text: &[u8]) -> Result<Vec<u8>, Fail> {
     if text.len() > 4000 {
         return Err("a long text".into());
     }
-    let Ok(m) = read_module(alloc, "M.fc", text) else {
+    let Ok(m) = read_module(alloc, "M.fc", text, Limits::standard().size) else {
         return Err("no module".into());
     };
     Ok(print_module(alloc, &m)?)
@@ -248,7 +249,7 @@ fn interface(alloc: Global, text: &[u8]) -> Result<Vec<u8>, Fail> {
     if text.len() > 4000 {
         return Err("a long text".into());
     }
-    let Ok(m) = read_module(alloc, "M.fc", text) else {
+    let Ok(m) = read_module(alloc, "M.fc", text, Limits::standard().size) else {
         return Err("no module".into());
     };
     Ok(print_interface(alloc, &m)?)

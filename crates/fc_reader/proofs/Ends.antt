@@ -35,16 +35,16 @@ first_bad ts n p = record { good = p.good; bad = p.bad; parts = p.parts; left = 
   never good [] h = λ d. h d.0 d.1
   never good (t ∷ bad) h = λ d. h d.0 d.1.0 (subst (λ x. Reads AModule x d.1.0 []) (append_assoc good (t ∷ []) d.0) d.1.1)
 
-pub refused : (ts : List Tok) (h : Halt) → Halts BeginsWithDecls AModule ts h → RefusesModule ts h
-refused ts (halt.Stop stop.Memory) h = tt
-refused ts (halt.Stop (stop.Form n)) h = record { bad = first_bad ts n (parted ts (AModule ▸ λ m. gives m) n (h.stops AModule (λ m. gives m))); within = h.within }
-refused ts (halt.Depth n) h = h
-refused ts (halt.Counts n) h = h
+pub refused : (room : ℕ) (ts : List Tok) (h : Halt) → Halts room BeginsWithDecls AModule ts h → RefusesModule room ts h
+refused room ts (halt.Stop stop.Memory) h = tt
+refused room ts (halt.Stop (stop.Form n)) h = record { bad = first_bad ts n (parted ts (AModule ▸ λ m. gives m) n (h.stops AModule (λ m. gives m))); within = h.within }
+refused room ts (halt.Depth n) h = h
+refused room ts (halt.Counts n) h = h
 
-pub refused_behind : {m : Module} {ts : List Tok} {n : ℕ} (us : List Tok) → Takes AModule ts m us → n ≡ length us → 0 < n → decls_within m ≡ true → FirstBadWithin ts n
-refused_behind [] d e h w = absurd (omega (arith, e, h))
-refused_behind {m = m} {ts = ts} (t ∷ us) d e h w =
-    record { bad = subst (FirstBad ts) (sym e) (first_bad ts (length (t ∷ us)) (parted_behind ts (AModule ▸ λ x. gives x) m t us (taken AModule ts d))); within = module_all (taken AModule ts d) w }
+pub refused_behind : (room : ℕ) {m : Module} {ts : List Tok} {n : ℕ} (us : List Tok) → Takes AModule ts m us → n ≡ length us → 0 < n → decls_within room m ≡ true → FirstBadWithin room ts n
+refused_behind room [] d e h w = absurd (omega (arith, e, h))
+refused_behind room {m = m} {ts = ts} (t ∷ us) d e h w =
+    record { bad = subst (FirstBad ts) (sym e) (first_bad ts (length (t ∷ us)) (parted_behind ts (AModule ▸ λ x. gives x) m t us (taken AModule ts d))); within = module_all room (taken AModule ts d) w }
 
 pub whole : {m : Module} (ts us : List Tok) → Takes AModule ts m us → length us ≤ 0 → Reads AModule ts m []
 whole ts [] d h = taken AModule ts d
@@ -106,9 +106,9 @@ stops_longer all part false n good [] [] p h e parts left stops = (stops, all_ne
 stops_longer all part false n good [] (t ∷ others) p h e parts left stops = absurd (omega (arith, ap length e, ap length p.whole, length-append part (t ∷ others)))
 stops_longer all part deep n good (b ∷ bad) others p h e parts left stops = (stops, part_nested all part deep good b bad p parts)
 
-pub bad_form : (bytes : List ℕ) (lexemes : List Lexeme) (part : List Tok) (deep : Bool) (n : ℕ) → IsPart (map tok_of lexemes) part deep → (deep ≡ true → n ≡ 0 → ⊥) → FirstBadWithin part n
-    → IsBadFormAt bytes lexemes (byte_of bytes (drop (length part - n) lexemes))
-bad_form bytes lexemes part deep n p h w =
+pub bad_form : {room : ℕ} (bytes : List ℕ) (lexemes : List Lexeme) (part : List Tok) (deep : Bool) (n : ℕ) → IsPart (map tok_of lexemes) part deep → (deep ≡ true → n ≡ 0 → ⊥) → FirstBadWithin room part n
+    → IsBadFormAt room bytes lexemes (byte_of bytes (drop (length part - n) lexemes))
+bad_form {room = room} bytes lexemes part deep n p h w =
     let all = map tok_of lexemes in
     let k = behind_part all part deep p in
     let b = w.bad in
@@ -121,7 +121,7 @@ bad_form bytes lexemes part deep n p h w =
       begins = subst Begins (sym q.is_good) b.begins;
       stops = subst (λ x. CannotGoOn x (map tok_of q.bad)) (sym q.is_good) (subst (CannotGoOn b.good) (sym q.is_bad) s.0);
       nested = subst NestsWithin (sym q.is_good) s.1;
-      within = subst WithinSoFar (sym q.is_good) (front_all b.good b.bad (subst WithinSoFar b.parts w.within));
+      within = subst (WithinSoFar room) (sym q.is_good) (front_all room b.good b.bad (subst (WithinSoFar room) b.parts w.within));
       place = ap (byte_of bytes) (drop_to lexemes q.good q.bad part b.good b.bad n q.parts q.is_good b.parts b.left);
     }
 
@@ -137,9 +137,9 @@ first_lexeme [] t ts e = absurd cc
 first_lexeme (l ∷ ls) t ts e = record { lexeme = l; others = ls; parts = refl; is = head_same e }
 
 -- the bracket that nests too deep may stand where it does
-pub deep_bracket : (bytes : List ℕ) (lexemes : List Lexeme) (part : List Tok) → EndsDeep (map tok_of lexemes) part → FirstBadWithin part 0
-    → IsDeepBracketAt lexemes (byte_of bytes (drop (length part - 1) lexemes))
-deep_bracket bytes lexemes part p w =
+pub deep_bracket : {room : ℕ} (bytes : List ℕ) (lexemes : List Lexeme) (part : List Tok) → EndsDeep (map tok_of lexemes) part → FirstBadWithin room part 0
+    → IsDeepBracketAt room lexemes (byte_of bytes (drop (length part - 1) lexemes))
+deep_bracket {room = room} bytes lexemes part p w =
     let q = in_parts tok_of lexemes p.good (Open ∷ p.behind) (p.parts ∙ ap (λ x. x ++ p.behind) p.is ∙ append_assoc p.good (Open ∷ []) p.behind) in
     let o = first_lexeme q.bad Open p.behind q.is_bad in
     let begins = all_begin w.bad.good w.bad.bad w.bad.parts w.bad.left w.bad.begins in
@@ -152,7 +152,7 @@ deep_bracket bytes lexemes part p w =
       begins = subst (λ x. Begins (x ++ Open ∷ [])) (sym q.is_good) (subst Begins p.is begins);
       nested = subst NestsWithin (sym q.is_good) p.nested;
       deep = ap (λ x. nests_within standard_limits.brackets 0 (x ++ Open ∷ [])) q.is_good ∙ p.deep;
-      within = subst WithinSoFar (sym q.is_good) (front_all p.good (Open ∷ []) (subst WithinSoFar p.is w.within));
+      within = subst (WithinSoFar room) (sym q.is_good) (front_all room p.good (Open ∷ []) (subst (WithinSoFar room) p.is w.within));
       place = ap (byte_of bytes) (drop_to lexemes q.good q.bad part p.good (Open ∷ []) 1 q.parts q.is_good p.is refl ∙ o.parts);
     } where
       all_begin : (good bad : List Tok) → part ≡ good ++ bad → length bad ≡ 0 → Begins good → Begins part
@@ -175,12 +175,12 @@ pub first_byte : (bytes : List ℕ) (own others : List Lexeme) (rest : List Tok)
 first_byte bytes [] others rest d a = absurd cc
 first_byte bytes (t ∷ own) others rest d a = refl
 
-pub decl_at : {Is : List Decl → Decl → Type 0} (bytes : List ℕ) (lexemes : List Lexeme) (part : List Tok) (deep : Bool) (n : ℕ) → IsPart (map tok_of lexemes) part deep
-    → (h : PastLimit BeginsWithDecls Is part n) → IsDeclAt bytes lexemes h.before h.decl (byte_of bytes (drop (length part - n) lexemes))
-decl_at bytes lexemes part deep n p h = behind (behind_part (map tok_of lexemes) part deep p) (begins_front h.start) (part_front ADeclaration h.from h.own) where
+pub decl_at : {room : ℕ} {Is : List Decl → Decl → Type 0} (bytes : List ℕ) (lexemes : List Lexeme) (part : List Tok) (deep : Bool) (n : ℕ) → IsPart (map tok_of lexemes) part deep
+    → (h : PastLimit room BeginsWithDecls Is part n) → IsDeclAt room bytes lexemes h.before h.decl (byte_of bytes (drop (length part - n) lexemes))
+decl_at {room = room} bytes lexemes part deep n p h = behind (behind_part (map tok_of lexemes) part deep p) (begins_front h.start) (part_front ADeclaration h.from h.own) where
   made : (k : Behind (map tok_of lexemes) part) (b : Front (λ x y. BeginsWithDecls x h.before y) part h.from) (o : Front (λ x y. Reads ADeclaration x h.decl y) h.from h.rest)
       (q : Parts tok_of lexemes b.front (h.from ++ k.others)) (r : Parts tok_of q.bad o.front (h.rest ++ k.others)) → Reads ADeclaration o.front h.decl []
-      → map tok_of q.good ++ map tok_of r.good ≡ b.front ++ o.front → Reads ADeclaration (map tok_of r.good) h.decl [] → IsDeclAt bytes lexemes h.before h.decl (byte_of bytes (drop (length part - n) lexemes))
+      → map tok_of q.good ++ map tok_of r.good ≡ b.front ++ o.front → Reads ADeclaration (map tok_of r.good) h.decl [] → IsDeclAt room bytes lexemes h.before h.decl (byte_of bytes (drop (length part - n) lexemes))
   made k b o q r own both mine = record {
     good = q.good;
     own = r.good;
@@ -196,20 +196,20 @@ decl_at bytes lexemes part deep n p h = behind (behind_part (map tok_of lexemes)
   }
 
   own_parts : (k : Behind (map tok_of lexemes) part) (b : Front (λ x y. BeginsWithDecls x h.before y) part h.from) (o : Front (λ x y. Reads ADeclaration x h.decl y) h.from h.rest)
-      (q : Parts tok_of lexemes b.front (h.from ++ k.others)) (r : Parts tok_of q.bad o.front (h.rest ++ k.others)) → IsDeclAt bytes lexemes h.before h.decl (byte_of bytes (drop (length part - n) lexemes))
+      (q : Parts tok_of lexemes b.front (h.from ++ k.others)) (r : Parts tok_of q.bad o.front (h.rest ++ k.others)) → IsDeclAt room bytes lexemes h.before h.decl (byte_of bytes (drop (length part - n) lexemes))
   own_parts k b o q r =
       let own : Reads ADeclaration o.front h.decl [] = subst (λ x. Reads ADeclaration x h.decl []) (append-nil o.front) (o.reads []) in
       made k b o q r own (ap (λ x. x ++ map tok_of r.good) q.is_good ∙ ap (λ x. b.front ++ x) r.is_good) (subst (λ x. Reads ADeclaration x h.decl []) (sym r.is_good) own)
 
   front : (k : Behind (map tok_of lexemes) part) (b : Front (λ x y. BeginsWithDecls x h.before y) part h.from) (o : Front (λ x y. Reads ADeclaration x h.decl y) h.from h.rest)
-      (q : Parts tok_of lexemes b.front (h.from ++ k.others)) → IsDeclAt bytes lexemes h.before h.decl (byte_of bytes (drop (length part - n) lexemes))
+      (q : Parts tok_of lexemes b.front (h.from ++ k.others)) → IsDeclAt room bytes lexemes h.before h.decl (byte_of bytes (drop (length part - n) lexemes))
   front k b o q = own_parts k b o q (in_parts tok_of q.bad o.front (h.rest ++ k.others) (q.is_bad ∙ ap (λ x. x ++ k.others) o.parts ∙ append_assoc o.front h.rest k.others))
 
   behind : (k : Behind (map tok_of lexemes) part) (b : Front (λ x y. BeginsWithDecls x h.before y) part h.from) (o : Front (λ x y. Reads ADeclaration x h.decl y) h.from h.rest)
-      → IsDeclAt bytes lexemes h.before h.decl (byte_of bytes (drop (length part - n) lexemes))
+      → IsDeclAt room bytes lexemes h.before h.decl (byte_of bytes (drop (length part - n) lexemes))
   behind k b o = front k b o (in_parts tok_of lexemes b.front (h.from ++ k.others) (k.is ∙ ap (λ x. x ++ k.others) b.parts ∙ append_assoc b.front h.from k.others))
 
-pub past_inside : {Is : List Decl → Decl → Type 0} {part : List Tok} {n : ℕ} → PastLimit BeginsWithDecls Is part n → n ≤ length part
+pub past_inside : {room : ℕ} {Is : List Decl → Decl → Type 0} {part : List Tok} {n : ℕ} → PastLimit room BeginsWithDecls Is part n → n ≤ length part
 past_inside h = let b = begins_front h.start in omega (arith, ap length b.parts, length-append b.front h.from, h.left)
 
 -- a part that is read whole is all of the tokens

@@ -40,24 +40,24 @@ bracketed good bracket bad e =
     append_assoc (map tok_of good) (Open ∷ []) (map tok_of bad) ∙ sym (map-append tok_of good (bracket ∷ bad) ∙ ap (λ (t : Tok). map tok_of good ++ (t ∷ map tok_of bad)) e)
 
 -- a declaration that stands whole in the text of a module within the limits is within them, with those before it
-decl_within : {at : ℕ} {lexemes : List Lexeme} (bytes : List ℕ) (m : Module) (before : List Decl) (d : Decl) → tokens_of bytes ≡ Ok lexemes → IsDeclAt bytes lexemes before d at
-    → ReadsTo bytes m → are_within (before ++ d ∷ []) ≡ true
-decl_within {lexemes = lexemes} bytes m before d e p h =
+decl_within : (room : ℕ) {at : ℕ} {lexemes : List Lexeme} (bytes : List ℕ) (m : Module) (before : List Decl) (d : Decl) → tokens_of bytes ≡ Ok lexemes → IsDeclAt room bytes lexemes before d at
+    → ReadsTo room bytes m → are_within room (before ++ d ∷ []) ≡ true
+decl_within room {lexemes = lexemes} bytes m before d e p h =
     let good = map tok_of p.good in
     let own = map tok_of p.own in
     let others = map tok_of p.others in
     let parts : map tok_of lexemes ≡ (good ++ own) ++ others =
     ap (map tok_of) p.parts ∙ map-append tok_of p.good (p.own ++ p.others) ∙ ap (λ x. good ++ x) (map-append tok_of p.own p.others) ∙ sym (append_assoc good own others) in
     let text = module_on (sym (ap (map tok_of) (ok_same _ _ _ h.spelled.lexed e) ∙ parts)) h.spelled.parsed in
-    module_all text h.within (before ++ d ∷ []) others (begins_longer others p.whole)
+    module_all room text h.within (before ++ d ∷ []) others (begins_longer others p.whole)
 
-pub no_module : (bytes : List ℕ) (f : ByteFault) (m : Module) → FirstReadFault bytes f → ReadsTo bytes m → ⊥
-no_module bytes f m (of_tokens e) h = ok-err _ _ _ h.spelled.lexed e
-no_module bytes _ m (of_form e p) h =
+pub no_module : (room : ℕ) (bytes : List ℕ) (f : ByteFault) (m : Module) → FirstReadFault room bytes f → ReadsTo room bytes m → ⊥
+no_module room bytes f m (of_tokens e) h = ok-err _ _ _ h.spelled.lexed e
+no_module room bytes _ m (of_form e p) h =
     not_whole (map tok_of p.good) (map tok_of p.bad) p.stops
     (m, module_on (sym (ap (map tok_of) (ok_same _ _ _ h.spelled.lexed e ∙ p.parts) ∙ map-append tok_of p.good p.bad)) h.spelled.parsed)
-no_module bytes _ m (of_brackets e p) h =
+no_module room bytes _ m (of_brackets e p) h =
     true-false _ (nests_front standard_limits.brackets 0 (map tok_of p.good ++ Open ∷ []) (map tok_of p.bad)
     (ap (nests_within standard_limits.brackets 0) (bracketed p.good p.bracket p.bad p.opens ∙ ap (map tok_of) (sym p.parts ∙ sym (ok_same _ _ _ h.spelled.lexed e))) ∙ h.nested)) p.deep
-no_module bytes _ m (of_depth before d e p past) h = true-false _ (last_depth before d (decl_within bytes m before d e p h)) past
-no_module bytes _ m (of_counts before d e p fits past) h = true-false _ (last_counts before d (decl_within bytes m before d e p h)) past
+no_module room bytes _ m (of_depth before d e p past) h = true-false _ (last_depth room before d (decl_within room bytes m before d e p h)) past
+no_module room bytes _ m (of_counts before d e p fits past) h = true-false _ (last_counts room before d (decl_within room bytes m before d e p h)) past

@@ -27,21 +27,21 @@ use Rattle.fc_reader.specs.Outcomes.{IsRefusalAt, IsRefusalOf}
 use Rattle.fc_reader.specs.Refusals.{IsReadRefusal}
 use Rattle.fc_reader.proofs.Ends.{bad_form, decl_at, deep_bracket, part_is_all}
 
-first_fault : (file bytes : List ℕ) (k : FaultKind) (at : ℕ) (r : Refusal) → IsRefusalAt file k at r → FirstReadFault bytes (record { kind = k; at = at }) → IsReadRefusal file bytes r
-first_fault file bytes k at (refusal.Fault f) e h = record {
+first_fault : (room : ℕ) (file bytes : List ℕ) (k : FaultKind) (at : ℕ) (r : Refusal) → IsRefusalAt file k at r → FirstReadFault room bytes (record { kind = k; at = at }) → IsReadRefusal room file bytes r
+first_fault room file bytes k at (refusal.Fault f) e h = record {
   at = at;
   of_file = ap (λ g. g.module) e;
   of_no_declaration = ap (λ g. g.def) e;
   at_byte = ap (λ g. g.path) e;
-  first = subst (λ g. FirstReadFault bytes (record { kind = g.kind; at = at })) (sym e) h;
+  first = subst (λ g. FirstReadFault room bytes (record { kind = g.kind; at = at })) (sym e) h;
 }
-first_fault file bytes k at refusal.Memory e h = tt
+first_fault room file bytes k at refusal.Memory e h = tt
 
-pub token_fault : (file bytes : List ℕ) (e : LexError) (r : Refusal) → IsFirstFault (tokens_of bytes) e → IsRefusalOf file e r → IsReadRefusal file bytes r
-token_fault file bytes (error.BadByte n) r h k = first_fault file bytes _ n r k (of_tokens h)
-token_fault file bytes (error.BadToken n) r h k = first_fault file bytes _ n r k (of_tokens h)
-token_fault file bytes (error.LiteralRange n) r h k = first_fault file bytes _ n r k (of_tokens h)
-token_fault file bytes error.Memory r h k = subst (IsReadRefusal file bytes) (sym k) tt
+pub token_fault : (room : ℕ) (file bytes : List ℕ) (e : LexError) (r : Refusal) → IsFirstFault (tokens_of bytes) e → IsRefusalOf file e r → IsReadRefusal room file bytes r
+token_fault room file bytes (error.BadByte n) r h k = first_fault room file bytes _ n r k (of_tokens h)
+token_fault room file bytes (error.BadToken n) r h k = first_fault room file bytes _ n r k (of_tokens h)
+token_fault room file bytes (error.LiteralRange n) r h k = first_fault room file bytes _ n r k (of_tokens h)
+token_fault room file bytes error.Memory r h k = subst (IsReadRefusal room file bytes) (sym k) tt
 
 is_at_bracket : (deep : Bool) (n : ℕ) (r : Bool) → r ≡ (deep && (n == 0)) → r ≡ true → (deep ≡ true) × (n ≡ 0)
 is_at_bracket deep n r e h = let p = and_parts deep (n == 0) (sym e ∙ h) in (p.0, eqb-true n 0 p.1)
@@ -69,39 +69,39 @@ placed : (bytes : List ℕ) (tokens : List Token) (part : List Terminal) (n at :
 placed bytes tokens part n at e =
     e ∙ ap (byte_of bytes) (sym (drop-map (lexeme_of bytes) (length part - n) tokens) ∙ ap (λ k. drop (k - n) (lexemes_of bytes tokens)) (sym (length-map part seen)))
 
-pub form_fault : (file bytes : List ℕ) (tokens : List Token) (all part : List Terminal) (deep : Bool) (n at : ℕ) (r : Refusal) → Seen bytes tokens all part deep
-    → (b : Bool) → b ≡ (deep && (n == 0)) → b ≡ false → FirstBadWithin (seen_all part) n → at ≡ byte_of bytes (lexemes_of bytes (drop (length part - n) tokens)) → IsRefusalAt file kind.BadForm at r
-    → IsReadRefusal file bytes r
-form_fault file bytes tokens all part deep n at r s b is other w place e =
+pub form_fault : (room : ℕ) (file bytes : List ℕ) (tokens : List Token) (all part : List Terminal) (deep : Bool) (n at : ℕ) (r : Refusal) → Seen bytes tokens all part deep
+    → (b : Bool) → b ≡ (deep && (n == 0)) → b ≡ false → FirstBadWithin room (seen_all part) n → at ≡ byte_of bytes (lexemes_of bytes (drop (length part - n) tokens)) → IsRefusalAt file kind.BadForm at r
+    → IsReadRefusal room file bytes r
+form_fault room file bytes tokens all part deep n at r s b is other w place e =
     let f = bad_form bytes (lexemes_of bytes tokens) (seen_all part) deep n (part_of bytes tokens all part deep s) (is_elsewhere deep n b is other) w in
-    first_fault file bytes kind.BadForm at r e (subst (λ x. FirstReadFault bytes (record { kind = kind.BadForm; at = x })) (sym (placed bytes tokens part n at place)) (of_form s.lexed f))
+    first_fault room file bytes kind.BadForm at r e (subst (λ x. FirstReadFault room bytes (record { kind = kind.BadForm; at = x })) (sym (placed bytes tokens part n at place)) (of_form s.lexed f))
 
-pub bracket_fault : (file bytes : List ℕ) (tokens : List Token) (all part : List Terminal) (deep : Bool) (n at : ℕ) (r : Refusal) → Seen bytes tokens all part deep
-    → (b : Bool) → b ≡ (deep && (n == 0)) → b ≡ true → FirstBadWithin (seen_all part) n → at ≡ byte_of bytes (lexemes_of bytes (drop (length part - 1) tokens)) → IsRefusalAt file kind.TooDeep at r
-    → IsReadRefusal file bytes r
-bracket_fault file bytes tokens all part deep n at r s b is same w place e =
+pub bracket_fault : (room : ℕ) (file bytes : List ℕ) (tokens : List Token) (all part : List Terminal) (deep : Bool) (n at : ℕ) (r : Refusal) → Seen bytes tokens all part deep
+    → (b : Bool) → b ≡ (deep && (n == 0)) → b ≡ true → FirstBadWithin room (seen_all part) n → at ≡ byte_of bytes (lexemes_of bytes (drop (length part - 1) tokens)) → IsRefusalAt file kind.TooDeep at r
+    → IsReadRefusal room file bytes r
+bracket_fault room file bytes tokens all part deep n at r s b is same w place e =
     let h = is_at_bracket deep n b is same in
     let p = subst (IsPart (map tok_of (lexemes_of bytes tokens)) (seen_all part)) h.0 (part_of bytes tokens all part deep s) in
-    let f = deep_bracket bytes (lexemes_of bytes tokens) (seen_all part) p (subst (FirstBadWithin (seen_all part)) h.1 w) in
-    first_fault file bytes kind.TooDeep at r e (subst (λ x. FirstReadFault bytes (record { kind = kind.TooDeep; at = x })) (sym (placed bytes tokens part 1 at place)) (of_brackets s.lexed f))
+    let f = deep_bracket bytes (lexemes_of bytes tokens) (seen_all part) p (subst (FirstBadWithin room (seen_all part)) h.1 w) in
+    first_fault room file bytes kind.TooDeep at r e (subst (λ x. FirstReadFault room bytes (record { kind = kind.TooDeep; at = x })) (sym (placed bytes tokens part 1 at place)) (of_brackets s.lexed f))
 
-pub depth_fault : (file bytes : List ℕ) (tokens : List Token) (all part : List Terminal) (deep : Bool) (n at : ℕ) (r : Refusal) → Seen bytes tokens all part deep
-    → PastLimit BeginsWithDecls IsDeep (seen_all part) n → at ≡ byte_of bytes (lexemes_of bytes (drop (length part - n) tokens)) → IsRefusalAt file kind.TooDeep at r → IsReadRefusal file bytes r
-depth_fault file bytes tokens all part deep n at r s h place e =
+pub depth_fault : (room : ℕ) (file bytes : List ℕ) (tokens : List Token) (all part : List Terminal) (deep : Bool) (n at : ℕ) (r : Refusal) → Seen bytes tokens all part deep
+    → PastLimit room BeginsWithDecls IsDeep (seen_all part) n → at ≡ byte_of bytes (lexemes_of bytes (drop (length part - n) tokens)) → IsRefusalAt file kind.TooDeep at r → IsReadRefusal room file bytes r
+depth_fault room file bytes tokens all part deep n at r s h place e =
     let d = decl_at bytes (lexemes_of bytes tokens) (seen_all part) deep n (part_of bytes tokens all part deep s) h in
-    first_fault file bytes kind.TooDeep at r e
-    (subst (λ x. FirstReadFault bytes (record { kind = kind.TooDeep; at = x })) (sym (placed bytes tokens part n at place)) (of_depth h.before h.decl s.lexed d h.past))
+    first_fault room file bytes kind.TooDeep at r e
+    (subst (λ x. FirstReadFault room bytes (record { kind = kind.TooDeep; at = x })) (sym (placed bytes tokens part n at place)) (of_depth h.before h.decl s.lexed d h.past))
 
-pub counts_fault : (file bytes : List ℕ) (tokens : List Token) (all part : List Terminal) (deep : Bool) (n at : ℕ) (r : Refusal) → Seen bytes tokens all part deep
-    → PastLimit BeginsWithDecls IsMuch (seen_all part) n → at ≡ byte_of bytes (lexemes_of bytes (drop (length part - n) tokens)) → IsRefusalAt file kind.TooMany at r → IsReadRefusal file bytes r
-counts_fault file bytes tokens all part deep n at r s h place e =
+pub counts_fault : (room : ℕ) (file bytes : List ℕ) (tokens : List Token) (all part : List Terminal) (deep : Bool) (n at : ℕ) (r : Refusal) → Seen bytes tokens all part deep
+    → PastLimit room BeginsWithDecls (IsMuch room) (seen_all part) n → at ≡ byte_of bytes (lexemes_of bytes (drop (length part - n) tokens)) → IsRefusalAt file kind.TooMany at r → IsReadRefusal room file bytes r
+counts_fault room file bytes tokens all part deep n at r s h place e =
     let d = decl_at bytes (lexemes_of bytes tokens) (seen_all part) deep n (part_of bytes tokens all part deep s) h in
-    first_fault file bytes kind.TooMany at r e
-    (subst (λ x. FirstReadFault bytes (record { kind = kind.TooMany; at = x })) (sym (placed bytes tokens part n at place)) (of_counts h.before h.decl s.lexed d h.past.0 h.past.1))
+    first_fault room file bytes kind.TooMany at r e
+    (subst (λ x. FirstReadFault room bytes (record { kind = kind.TooMany; at = x })) (sym (placed bytes tokens part n at place)) (of_counts h.before h.decl s.lexed d h.past.0 h.past.1))
 
-pub reads_to : (bytes : List ℕ) (tokens : List Token) (all part : List Terminal) (deep : Bool) (m : Module) → length bytes ≤ standard_limits.file_bytes → Seen bytes tokens all part deep
-    → Reads AModule (seen_all part) m [] → decls_within m ≡ true → ReadsTo bytes m
-reads_to bytes tokens all part deep m short s d w =
+pub reads_to : (room : ℕ) (bytes : List ℕ) (tokens : List Token) (all part : List Terminal) (deep : Bool) (m : Module) → length bytes ≤ standard_limits.file_bytes → Seen bytes tokens all part deep
+    → Reads AModule (seen_all part) m [] → decls_within room m ≡ true → ReadsTo room bytes m
+reads_to room bytes tokens all part deep m short s d w =
     let p = part_is_all (map tok_of (lexemes_of bytes tokens)) (seen_all part) deep (part_of bytes tokens all part deep s) d in
     record {
       short = short;

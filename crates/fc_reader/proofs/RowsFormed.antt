@@ -393,5 +393,5 @@ pub part_formed : (p : Part) (ts : List Tok) (x : Given p) (rest : List Tok) →
 part_formed p ts x rest g e = reading_formed (IsFormedGiven p) ts (p ▸ λ x. gives x) x rest g (λ y h. h) e
 
 -- what a text spells is formed
-pub reads_formed : (bytes : List ℕ) (m : Module) → ReadsTo bytes m → IsFormed m
-reads_formed bytes m r = part_formed AModule (map tok_of r.spelled.lexemes) m [] (tokens_good bytes r.spelled.lexemes r.spelled.lexed) r.spelled.parsed
+pub reads_formed : (room : ℕ) (bytes : List ℕ) (m : Module) → ReadsTo room bytes m → IsFormed m
+reads_formed room bytes m r = part_formed AModule (map tok_of r.spelled.lexemes) m [] (tokens_good bytes r.spelled.lexemes r.spelled.lexed) r.spelled.parsed

@@ -1,7 +1,6 @@
 -- Limits on declarations together and in part.
 use Rattle.std.proofs.Common.{◌≡◌, ◌≤◌, ◌+◌, ℕ, Bool, true, false, ◌&&◌, nat_le, List, [], ◌∷◌, ◌++◌, arith, refl}
 use Rattle.std.specs.List.{list_all}
-use Rattle.fc_syntax.specs.Limits.{standard_limits}
 use Rattle.fc_syntax.specs.Measures.{decl_size, decls_size}
 use Rattle.fc_syntax.specs.Tree.{Decl}
 use Rattle.fc_model.specs.ReadFaults.{are_within, counts_fit, depth_fits}
@@ -43,35 +42,39 @@ le_true a b h = grind arith
 le_is : (a b : ℕ) → nat_le a b ≡ true → a ≤ b
 le_is a b h = grind arith
 
-pub front_within : (xs ys : List Decl) → are_within (xs ++ ys) ≡ true → are_within xs ≡ true
-front_within xs ys e =
+-- no declaration is within the limits, however little room there is
+pub nil_within : (room : ℕ) → are_within room [] ≡ true
+nil_within room = le_true 0 room (omega arith)
+
+pub front_within : (room : ℕ) (xs ys : List Decl) → are_within room (xs ++ ys) ≡ true → are_within room xs ≡ true
+front_within room xs ys e =
     let depths = list_all depth_fits (xs ++ ys) in
     let counts = list_all counts_fit (xs ++ ys) in
-    let size = nat_le (decls_size (xs ++ ys)) standard_limits.size in
+    let size = nat_le (decls_size (xs ++ ys)) room in
     let h = and_left (depths && counts) size e in
-    let s = le_is (decls_size (xs ++ ys)) standard_limits.size (and_right (depths && counts) size e) in
+    let s = le_is (decls_size (xs ++ ys)) room (and_right (depths && counts) size e) in
     and_both (and_both (all_front depth_fits xs ys (and_left depths counts h)) (all_front counts_fit xs ys (and_right depths counts h)))
-    (le_true (decls_size xs) standard_limits.size (omega (arith, size_front xs ys, s)))
+    (le_true (decls_size xs) room (omega (arith, size_front xs ys, s)))
 
 -- one declaration more, within the limits
-pub more_within : (xs : List Decl) (y : Decl) (n : ℕ) → are_within xs ≡ true → depth_fits y ≡ true → counts_fit y ≡ true
-    → n ≡ decls_size xs + decl_size y → n ≤ standard_limits.size → are_within (xs ++ y ∷ []) ≡ true
-more_within xs y n e d c m l =
+pub more_within : (room : ℕ) (xs : List Decl) (y : Decl) (n : ℕ) → are_within room xs ≡ true → depth_fits y ≡ true → counts_fit y ≡ true
+    → n ≡ decls_size xs + decl_size y → n ≤ room → are_within room (xs ++ y ∷ []) ≡ true
+more_within room xs y n e d c m l =
     let depths = list_all depth_fits xs in
     let counts = list_all counts_fit xs in
-    let h = and_left (depths && counts) (nat_le (decls_size xs) standard_limits.size) e in
+    let h = and_left (depths && counts) (nat_le (decls_size xs) room) e in
     and_both (and_both (all_more depth_fits xs y (and_left depths counts h) d) (all_more counts_fit xs y (and_right depths counts h) c))
-    (le_true (decls_size (xs ++ y ∷ [])) standard_limits.size (omega (arith, size_more xs y, m, l)))
+    (le_true (decls_size (xs ++ y ∷ [])) room (omega (arith, size_more xs y, m, l)))
 
-pub last_depth : (xs : List Decl) (y : Decl) → are_within (xs ++ y ∷ []) ≡ true → depth_fits y ≡ true
-last_depth xs y e =
+pub last_depth : (room : ℕ) (xs : List Decl) (y : Decl) → are_within room (xs ++ y ∷ []) ≡ true → depth_fits y ≡ true
+last_depth room xs y e =
     let depths = list_all depth_fits (xs ++ y ∷ []) in
     let counts = list_all counts_fit (xs ++ y ∷ []) in
-    all_last depth_fits xs y (and_left depths counts (and_left (depths && counts) (nat_le (decls_size (xs ++ y ∷ [])) standard_limits.size) e))
+    all_last depth_fits xs y (and_left depths counts (and_left (depths && counts) (nat_le (decls_size (xs ++ y ∷ [])) room) e))
 
-pub last_counts : (xs : List Decl) (y : Decl) → are_within (xs ++ y ∷ []) ≡ true → (counts_fit y && nat_le (decls_size (xs ++ y ∷ [])) standard_limits.size) ≡ true
-last_counts xs y e =
+pub last_counts : (room : ℕ) (xs : List Decl) (y : Decl) → are_within room (xs ++ y ∷ []) ≡ true → (counts_fit y && nat_le (decls_size (xs ++ y ∷ [])) room) ≡ true
+last_counts room xs y e =
     let depths = list_all depth_fits (xs ++ y ∷ []) in
     let counts = list_all counts_fit (xs ++ y ∷ []) in
-    let size = nat_le (decls_size (xs ++ y ∷ [])) standard_limits.size in
+    let size = nat_le (decls_size (xs ++ y ∷ [])) room in
     and_both (all_last counts_fit xs y (and_right depths counts (and_left (depths && counts) size e))) (and_right (depths && counts) size e)

@@ -12,7 +12,7 @@ use Rattle.fc_read_parts.specs.declared.parts.Stop.TheVariants as stop
 use Rattle.fc_reader.specs.Halting.{AllWithin}
 use Rattle.fc_reader.proofs.Bodies.{BodyParts, with_hidden, without, body_parts, module_parts}
 use Rattle.fc_reader.proofs.Fronts.{begins_longer}
-use Rattle.fc_reader.proofs.Sums.{front_within}
+use Rattle.fc_reader.proofs.Sums.{front_within, nil_within}
 use Rattle.fc_reader.proofs.Members.{member, no_members}
 use Rattle.fc_reader.proofs.Steps.{one_reading}
 
@@ -69,10 +69,10 @@ hidden_decl us d ws a = absurd cc
 
 -- ---- from the declarations that were read to all that stand whole
 
-pub some_within : {ts us : List Tok} {ds : List Decl} → SomeDeclsAt ts ds us → are_within ds ≡ true → NoDecl us → AllWithin (λ a d b. SomeDeclsAt a d b) ts
-some_within {us = us} {ds = ds} a e h es vs b = whole us ds es e h (compared a b) where
-  whole : (us : List Tok) (ds es : List Decl) → are_within ds ≡ true → NoDecl us → Compared ds es us → are_within es ≡ true
-  whole us ds es e h (no_longer more p) = front_within es more (ap are_within (sym p) ∙ e)
+pub some_within : (room : ℕ) {ts us : List Tok} {ds : List Decl} → SomeDeclsAt ts ds us → are_within room ds ≡ true → NoDecl us → AllWithin room (λ a d b. SomeDeclsAt a d b) ts
+some_within room {us = us} {ds = ds} a e h es vs b = whole us ds es e h (compared a b) where
+  whole : (us : List Tok) (ds es : List Decl) → are_within room ds ≡ true → NoDecl us → Compared ds es us → are_within room es ≡ true
+  whole us ds es e h (no_longer more p) = front_within room es more (ap (are_within room) (sym p) ∙ e)
   whole us ds es e h (longer d ws a) = absurd (h d ws a)
 
 some_of : (ds : List Decl) (ts rest : List Tok) → Reads (Many ADeclaration) ts ds rest → SomeDeclsAt ts ds (Close ∷ rest)
@@ -90,52 +90,53 @@ body_more (some_plain s) a = some_plain (some_more s a)
 pub begins_more : {ts us vs : List Tok} {ds : List Decl} {d : Decl} → BeginsWithDecls ts ds us → Reads ADeclaration us d vs → BeginsWithDecls ts (ds ++ d ∷ []) vs
 begins_more (begins_with h b) a = begins_with h (body_more b a)
 
-decls_all : {ts rest : List Tok} {ds : List Decl} → Reads (Many ADeclaration) ts ds rest → are_within ds ≡ true → AllWithin (λ a d b. SomeDeclsAt a d b) ts
-decls_all {ts = ts} {rest = rest} {ds = ds} d e = some_within (some_of ds ts rest d) e (closed_decl rest)
+decls_all : (room : ℕ) {ts rest : List Tok} {ds : List Decl} → Reads (Many ADeclaration) ts ds rest → are_within room ds ≡ true → AllWithin room (λ a d b. SomeDeclsAt a d b) ts
+decls_all room {ts = ts} {rest = rest} {ds = ds} d e = some_within room (some_of ds ts rest d) e (closed_decl rest)
 
 -- ---- the body: its hidden names, if it has any, and its declarations
 
-pub plain_all : {ts : List Tok} → NotHidden ts → AllWithin (λ a d b. SomeDeclsAt a d b) ts → AllWithin (λ a d b. SomeBodyAt a d b) ts
-plain_all h k ds rest (some_hidden n d) = absurd (h _ refl)
-plain_all h k ds rest (some_plain d) = k ds rest d
+pub plain_all : (room : ℕ) {ts : List Tok} → NotHidden ts → AllWithin room (λ a d b. SomeDeclsAt a d b) ts → AllWithin room (λ a d b. SomeBodyAt a d b) ts
+plain_all room h k ds rest (some_hidden n d) = absurd (h _ refl)
+plain_all room h k ds rest (some_plain d) = k ds rest d
 
-pub hidden_all : {us vs : List Tok} {ns : List Word} → Reads (Many AName) us ns vs → AllWithin (λ a d b. SomeDeclsAt a d b) vs → AllWithin (λ a d b. SomeBodyAt a d b) (Open ∷ Key word.Hidden ∷ us)
-hidden_all {us = us} n k ds rest (some_hidden m d) = k ds rest (some_on (one_rest (Many AName) us n m) d)
-hidden_all n k _ rest (some_plain no_decls) = refl
-hidden_all {us = us} n k _ rest (some_plain (some_decls {us = ws} {d = d} a r)) = absurd (hidden_decl us d ws a)
+pub hidden_all : (room : ℕ) {us vs : List Tok} {ns : List Word} → Reads (Many AName) us ns vs → AllWithin room (λ a d b. SomeDeclsAt a d b) vs
+    → AllWithin room (λ a d b. SomeBodyAt a d b) (Open ∷ Key word.Hidden ∷ us)
+hidden_all room {us = us} n k ds rest (some_hidden m d) = k ds rest (some_on (one_rest (Many AName) us n m) d)
+hidden_all room n k _ rest (some_plain no_decls) = nil_within room
+hidden_all room {us = us} n k _ rest (some_plain (some_decls {us = ws} {d = d} a r)) = absurd (hidden_decl us d ws a)
 
 -- the hidden names were not read
-pub hidden_stops : {us : List Tok} (n : ℕ) → StopsAt (Many AName) us (stop.Form n) → AllWithin (λ a d b. SomeBodyAt a d b) (Open ∷ Key word.Hidden ∷ us)
-hidden_stops {us = us} n h ds rest (some_hidden m d) = never_read (Many AName) us n h m
-hidden_stops n h _ rest (some_plain no_decls) = refl
-hidden_stops {us = us} n h _ rest (some_plain (some_decls {us = ws} {d = d} a r)) = absurd (hidden_decl us d ws a)
+pub hidden_stops : (room : ℕ) {us : List Tok} (n : ℕ) → StopsAt (Many AName) us (stop.Form n) → AllWithin room (λ a d b. SomeBodyAt a d b) (Open ∷ Key word.Hidden ∷ us)
+hidden_stops room {us = us} n h ds rest (some_hidden m d) = never_read (Many AName) us n h m
+hidden_stops room n h _ rest (some_plain no_decls) = nil_within room
+hidden_stops room {us = us} n h _ rest (some_plain (some_decls {us = ws} {d = d} a r)) = absurd (hidden_decl us d ws a)
 
 abbrev decls_behind : Body → List Decl
 decls_behind (BodyOf hidden ds) = ds
 
-body_all : {ts rest : List Tok} {b : Body} → Reads ABody ts b rest → are_within (decls_behind b) ≡ true → AllWithin (λ a d b. SomeBodyAt a d b) ts
-body_all {ts = ts} {rest = rest} {b = b} d e = by (body_parts ts b rest d) where
-  by : BodyParts ts b rest → AllWithin (λ a d b. SomeBodyAt a d b) ts
+body_all : (room : ℕ) {ts rest : List Tok} {b : Body} → Reads ABody ts b rest → are_within room (decls_behind b) ≡ true → AllWithin room (λ a d b. SomeBodyAt a d b) ts
+body_all room {ts = ts} {rest = rest} {b = b} d e = by (body_parts ts b rest d) where
+  by : BodyParts ts b rest → AllWithin room (λ a d b. SomeBodyAt a d b) ts
   by (with_hidden us vs ns ds p n r is) =
-      subst (λ x. AllWithin (λ a d b. SomeBodyAt a d b) x) (sym p) (hidden_all n (decls_all r (ap (λ x. are_within (decls_behind x)) (sym is) ∙ e)))
-  by (without ds h r is) = plain_all h (decls_all r (ap (λ x. are_within (decls_behind x)) (sym is) ∙ e))
+      subst (λ x. AllWithin room (λ a d b. SomeBodyAt a d b) x) (sym p) (hidden_all room n (decls_all room r (ap (λ x. are_within room (decls_behind x)) (sym is) ∙ e)))
+  by (without ds h r is) = plain_all room h (decls_all room r (ap (λ x. are_within room (decls_behind x)) (sym is) ∙ e))
 
 -- ---- the module
 
-pub begins_all : {ts us : List Tok} {h : Header} → Reads AHeader ts h us → AllWithin (λ a d b. SomeBodyAt a d b) us → WithinSoFar ts
-begins_all {ts = ts} a k ds rest (begins_with b s) = k ds rest (body_on (one_rest AHeader ts a b) s)
+pub begins_all : (room : ℕ) {ts us : List Tok} {h : Header} → Reads AHeader ts h us → AllWithin room (λ a d b. SomeBodyAt a d b) us → WithinSoFar room ts
+begins_all room {ts = ts} a k ds rest (begins_with b s) = k ds rest (body_on (one_rest AHeader ts a b) s)
 
-pub header_stops : {ts : List Tok} (n : ℕ) → StopsAt AHeader ts (stop.Form n) → WithinSoFar ts
-header_stops {ts = ts} n h ds rest (begins_with b s) = never_read AHeader ts n h b
+pub header_stops : (room : ℕ) {ts : List Tok} (n : ℕ) → StopsAt AHeader ts (stop.Form n) → WithinSoFar room ts
+header_stops room {ts = ts} n h ds rest (begins_with b s) = never_read AHeader ts n h b
 
-within_body : (h : Header) (b : Body) → decls_within (module_from h b) ≡ true → are_within (decls_behind b) ≡ true
-within_body (HeaderOf m imports exports) (BodyOf hidden ds) e = e
+within_body : (room : ℕ) (h : Header) (b : Body) → decls_within room (module_from h b) ≡ true → are_within room (decls_behind b) ≡ true
+within_body room (HeaderOf m imports exports) (BodyOf hidden ds) e = e
 
-pub module_all : {ts rest : List Tok} {m : Module} → Reads AModule ts m rest → decls_within m ≡ true → WithinSoFar ts
-module_all {ts = ts} {rest = rest} {m = m} d e =
+pub module_all : (room : ℕ) {ts rest : List Tok} {m : Module} → Reads AModule ts m rest → decls_within room m ≡ true → WithinSoFar room ts
+module_all room {ts = ts} {rest = rest} {m = m} d e =
     let p = module_parts ts m rest d in
-    begins_all p.first (body_all p.others (within_body p.header p.body (ap decls_within (sym p.is) ∙ e)))
+    begins_all room p.first (body_all room p.others (within_body room p.header p.body (ap (decls_within room) (sym p.is) ∙ e)))
 
 -- what stands whole in the front of a text stands whole in all of it
-pub front_all : (front back : List Tok) → WithinSoFar (front ++ back) → WithinSoFar front
-front_all front back h ds rest d = h ds (rest ++ back) (begins_longer back d)
+pub front_all : (room : ℕ) (front back : List Tok) → WithinSoFar room (front ++ back) → WithinSoFar room front
+front_all room front back h ds rest d = h ds (rest ++ back) (begins_longer back d)

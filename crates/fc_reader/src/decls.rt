@@ -14,14 +14,19 @@ use fc_read_terms::read_declaration;
 use fc_syntax::{Decl, Seq};
 use std::alloc::Global;
 
-/// Reads declarations up to the closing bracket, and that. Where a declaration is past a limit, the next is not read.
+/// Reads declarations up to the closing bracket, and that, where there is room for all of them. Where a declaration is past a limit,
+/// the next is not read.
 #[tactic(auto, using(fc_read_parts::proofs::Stars::star_rules))]
 #[inline(never)]
-pub(crate) fn read_decls(alloc: Global, tokens: &mut Tokens<'_>) -> Result<Seq<Decl>, Halt>
+pub(crate) fn read_decls(
+    alloc: Global,
+    tokens: &mut Tokens<'_>,
+    room: u32,
+) -> Result<Seq<Decl>, Halt>
     ensures read { IfOk result (λ x. Takes (Many ADeclaration) (ahead tokens.old) (decls_of x) (ahead tokens.new)) }
-    ensures within { IfOk result (λ x. are_within (decls_of x) ≡ true) }
+    ensures within { IfOk result (λ x. are_within room (decls_of x) ≡ true) }
     ensures shorter { IfOk result (λ _. length (ahead tokens.new) < length (ahead tokens.old)) }
-    ensures halt { IfErr result (Halts SomeDeclsAt (Many ADeclaration) (ahead tokens.old)) }
+    ensures halt { IfErr result (Halts room SomeDeclsAt (Many ADeclaration) (ahead tokens.old)) }
 {
     let mut all = Seq::new(alloc);
     let mut size = 0;
@@ -31,7 +36,7 @@ pub(crate) fn read_decls(alloc: Global, tokens: &mut Tokens<'_>) -> Result<Seq<D
         }
         let left = tokens.left();
         let decl = read_declaration(alloc, tokens)?;
-        size = match measure(&decl, size) {
+        size = match measure(&decl, size, room) {
             Measured::Deep => return Err(Halt::Depth(left)),
             Measured::Much => return Err(Halt::Counts(left)),
             Measured::Fits(all) => all,

@@ -94,20 +94,21 @@ fn read_header(alloc: Global, tokens: &mut Tokens<'_>) -> Result<Header, Stop>
     })
 }
 
-/// Reads the hidden names, where there are any, and the declarations, as long as these are within the limits.
-fn read_body(alloc: Global, tokens: &mut Tokens<'_>) -> Result<Body, Halt>
+/// Reads the hidden names, where there are any, and the declarations, as long as these are within the limits and there is room
+/// for them.
+fn read_body(alloc: Global, tokens: &mut Tokens<'_>, room: u32) -> Result<Body, Halt>
     ensures read { IfOk result (λ x. Takes ABody (ahead tokens.old) (BodyOf x.hidden (decls_of x.decls)) (ahead tokens.new)) }
-    ensures within { IfOk result (λ x. are_within (decls_of x.decls) ≡ true) }
+    ensures within { IfOk result (λ x. are_within room (decls_of x.decls) ≡ true) }
     ensures shorter { IfOk result (λ _. length (ahead tokens.new) < length (ahead tokens.old)) }
-    ensures halt { IfErr result (Halts SomeBodyAt ABody (ahead tokens.old)) }
+    ensures halt { IfErr result (Halts room SomeBodyAt ABody (ahead tokens.old)) }
 {
     if opens_hidden(tokens) {
         let hidden = read_names(alloc, tokens)?;
-        let decls = read_decls(alloc, tokens)?;
+        let decls = read_decls(alloc, tokens, room)?;
         return Ok(Body { hidden, decls });
     }
     let hidden = Seq::new(alloc);
-    let decls = read_decls(alloc, tokens)?;
+    let decls = read_decls(alloc, tokens, room)?;
     Ok(Body { hidden, decls })
 }
 
@@ -130,14 +131,18 @@ fn joined(header: Header, body: Body) -> Module
     }
 }
 
-/// Reads a module, as long as its declarations are within the limits.
-pub(crate) fn read_module_form(alloc: Global, tokens: &mut Tokens<'_>) -> Result<Module, Halt>
+/// Reads a module, as long as its declarations are within the limits and there is room for them.
+pub(crate) fn read_module_form(
+    alloc: Global,
+    tokens: &mut Tokens<'_>,
+    room: u32,
+) -> Result<Module, Halt>
     ensures read { IfOk result (λ x. Takes AModule (ahead tokens.old) (module_of x) (ahead tokens.new)) }
-    ensures within { IfOk result (λ x. decls_within (module_of x) ≡ true) }
+    ensures within { IfOk result (λ x. decls_within room (module_of x) ≡ true) }
     ensures shorter { IfOk result (λ _. length (ahead tokens.new) < length (ahead tokens.old)) }
-    ensures halt { IfErr result (Halts BeginsWithDecls AModule (ahead tokens.old)) }
+    ensures halt { IfErr result (Halts room BeginsWithDecls AModule (ahead tokens.old)) }
 {
     let header = read_header(alloc, tokens)?;
-    let body = read_body(alloc, tokens)?;
+    let body = read_body(alloc, tokens, room)?;
     Ok(joined(header, body))
 }

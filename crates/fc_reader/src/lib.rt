@@ -26,34 +26,42 @@ pub use fc_read_types::read_type;
 use fc_syntax::{Module, Refusal};
 use std::alloc::Global;
 
-/// The module that the bytes of a file spell, within the limits.
+/// The module that the bytes of a file spell, within the limits. `room` is the most size that its declarations may have together: the
+/// limit of a set, without the size of the modules read before.
 ///
 /// A fault has the name of the file as its module, no declaration, and the byte at which the first fault stands: all tokens
 /// are made first (a bad byte, a bad token, a literal out of range), then the form is read, declaration after declaration. A
 /// fault of form stands at the first token that cannot go on, or at the length of the file; brackets that nest too deep, at
-/// the first such bracket; a declaration that is too deep, has too many parts or makes the module too large, at its own
-/// opening bracket.
+/// the first such bracket; a declaration that is too deep, has too many parts or makes the module too large for the room, at
+/// its own opening bracket.
 #[tactic(auto, using(crate::proofs::RowsFormed::reads_formed))]
-pub fn read_module(alloc: Global, file: &str, bytes: &[u8]) -> Result<Module, Refusal>
+pub fn read_module(alloc: Global, file: &str, bytes: &[u8], room: u32) -> Result<Module, Refusal>
     requires { length bytes.now ≤ standard_limits.file_bytes }
-    ensures found { IfOk result (λ m. ReadsTo bytes.now (module_of m)) }
+    ensures found { IfOk result (λ m. ReadsTo room bytes.now (module_of m)) }
     ensures formed { IfOk result (λ m. IsFormed (module_of m)) }
-    ensures fault { IfErr result (IsReadRefusal file.now bytes.now) }
+    ensures fault { IfErr result (IsReadRefusal room file.now bytes.now) }
 {
     let tokens = match fc_lex::tokens(alloc, bytes) {
         Err(error) => return Err(refusal_of(alloc, file, error)),
         Ok(tokens) => tokens,
     };
     let terminals = terminals(alloc, bytes, tokens.as_slice())?;
-    read_tokens(alloc, file, bytes, tokens.as_slice(), terminals.as_slice())
+    read_tokens(
+        alloc,
+        file,
+        bytes,
+        tokens.as_slice(),
+        terminals.as_slice(),
+        room,
+    )
 }
 
-/// Bytes spell at most one module, and where there is a first fault they spell none within the limits.
+/// Bytes spell at most one module, and where there is a first fault they spell none within the limits, whatever room there is.
 pub fn a_text_has_one_module()
     ensures one { SpellsOne }
 {}
 
-/// Bytes have at most one first fault.
+/// Bytes have at most one first fault, whatever room there is.
 pub fn a_text_has_one_first_fault()
     ensures one { HasOneFirstFault }
 {}

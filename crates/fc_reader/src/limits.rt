@@ -1,7 +1,6 @@
 //! The limits on what is read.
 ghost use Rattle.std.specs.Prelude.{◌≡◌, ◌≤◌, ◌+◌, min};
 ghost use Rattle.std.specs.List.{list_all};
-ghost use Rattle.fc_syntax.specs.Limits.{standard_limits};
 ghost use Rattle.fc_syntax.specs.View.{binders_of, con_of, cons_of, decl_of};
 ghost use Rattle.fc_model.specs.ReadFaults.{co_count, con_counts_fit, type_count, counts_fit as spec_counts_fit};
 ghost use Rattle.fc_reader.specs.Halting.{IsMeasured};
@@ -120,16 +119,16 @@ fn counts_fit(decl: &Decl) -> bool
     }
 }
 
-/// What a declaration is to the limits, behind others of this size.
-pub(crate) fn measure(decl: &Decl, size: u64) -> Measured
-    requires { size ≤ standard_limits.size }
-    ensures { IsMeasured (decl_of decl.now) size result }
+/// What a declaration is to the limits, behind others of this size, where there is this much room for all of them.
+pub(crate) fn measure(decl: &Decl, size: u64, room: u32) -> Measured
+    requires { size ≤ room }
+    ensures { IsMeasured room (decl_of decl.now) size result }
 {
     let limits = Limits::standard();
     if depth(decl, limits.depth + 1) > limits.depth {
         return Measured::Deep;
     }
-    let most = limits.size as u64;
+    let most = room as u64;
     let all = size + size_of_decl(decl, most + 1);
     if !counts_fit(decl) || all > most {
         return Measured::Much;

@@ -20,14 +20,14 @@ use fc_read_parts::{Stop, Terminal, Tokens};
 use fc_syntax::{Fault, FaultKind, Module, Place, Refusal, Text, Token};
 use std::alloc::Global;
 
-/// The module within the limits that all the tokens are a text of.
-fn read_whole(alloc: Global, tokens: &[Terminal<'_>]) -> Result<Module, Halt>
+/// The module within the limits that all the tokens are a text of, where there is this much room for its declarations.
+fn read_whole(alloc: Global, tokens: &[Terminal<'_>], room: u32) -> Result<Module, Halt>
     ensures found { IfOk result (λ m. Reads AModule (seen_all tokens.now) (module_of m) []) }
-    ensures within { IfOk result (λ m. decls_within (module_of m) ≡ true) }
-    ensures fault { IfErr result (RefusesModule (seen_all tokens.now)) }
+    ensures within { IfOk result (λ m. decls_within room (module_of m) ≡ true) }
+    ensures fault { IfErr result (RefusesModule room (seen_all tokens.now)) }
 {
     let mut rest = Tokens::new(tokens);
-    let m = read_module_form(alloc, &mut rest)?;
+    let m = read_module_form(alloc, &mut rest, room)?;
     let left = rest.left();
     if left > 0 {
         return Err(Halt::Stop(Stop::Form(left)));
@@ -42,22 +42,23 @@ fn ends_at_bracket(deep: bool, left: usize) -> bool
     deep && left == 0
 }
 
-/// The module that the tokens of a file spell, within the limits.
+/// The module that the tokens of a file spell, within the limits, where there is this much room for its declarations.
 pub(crate) fn read_tokens(
     alloc: Global,
     file: &str,
     bytes: &[u8],
     tokens: &[Token],
     terminals: &[Terminal<'_>],
+    room: u32,
 ) -> Result<Module, Refusal>
     requires short { length bytes.now ≤ standard_limits.file_bytes }
     requires lexed { tokens_of bytes.now ≡ Ok (map (lexeme_of bytes.now) tokens.now) }
     requires classed { seen_all terminals.now ≡ toks bytes.now tokens.now }
-    ensures found { IfOk result (λ m. ReadsTo bytes.now (module_of m)) }
-    ensures fault { IfErr result (IsReadRefusal file.now bytes.now) }
+    ensures found { IfOk result (λ m. ReadsTo room bytes.now (module_of m)) }
+    ensures fault { IfErr result (IsReadRefusal room file.now bytes.now) }
 {
     let (part, deep) = up_to_deep_bracket(terminals);
-    match read_whole(alloc, part) {
+    match read_whole(alloc, part, room) {
         Err(Halt::Stop(Stop::Memory)) => Err(Refusal::Memory),
         Err(Halt::Stop(Stop::Form(left))) => {
             let at_bracket = ends_at_bracket(deep, left);

@@ -11,6 +11,7 @@ mod forms;
 mod headers;
 mod limits;
 mod pieces;
+mod rooms;
 mod types;
 
 use fc_reader::read_module;
@@ -39,12 +40,17 @@ fn told(fault: &Fault) -> Option<(FaultKind, u32)> {
     }
 }
 
-/// What is wrong with a text, and at which byte; `None` where nothing is.
+/// What is wrong with a text, and at which byte; `None` where nothing is. There is room for a whole set.
 fn fault(alloc: Global, text: &[u8]) -> Result<Option<(FaultKind, u32)>, Fail> {
+    fault_in(alloc, text, Limits::standard().size)
+}
+
+/// The same where there is this much room.
+fn fault_in(alloc: Global, text: &[u8], room: u32) -> Result<Option<(FaultKind, u32)>, Fail> {
     if text.len() > Limits::standard().file_bytes as usize {
         return Err("a long text".into());
     }
-    match read_module(alloc, "m.core", text) {
+    match read_module(alloc, "m.core", text, room) {
         Ok(_) => Ok(None),
         Err(Refusal::Memory) => Err("no memory".into()),
         Err(Refusal::Fault(fault)) => match told(&fault) {
@@ -129,7 +135,7 @@ fn word(words: &Seq<Text>, at: usize) -> &str {
 #[test]
 fn reads_headers(rt: HostRuntime) -> Result<(), Fail> {
     let text = b" ( module\tM_2;c(\r\n(imports)(exports f K' $x#)\n(hidden caseof _y))\n; end";
-    let m = read_module(rt.alloc(), "m.core", text)?;
+    let m = read_module(rt.alloc(), "m.core", text, Limits::standard().size)?;
     assert_eq!(rt; m.name.as_str(), "M_2");
     assert!(rt; m.imports.is_empty() && m.decls.is_empty());
     assert!(rt; m.exports.len() == 3 && m.hidden.len() == 2);
@@ -144,7 +150,7 @@ fn reads_headers(rt: HostRuntime) -> Result<(), Fail> {
 #[test]
 fn reads_names_of_modules(rt: HostRuntime) -> Result<(), Fail> {
     let text = b"(module A.B_1 (imports C D.E.F) (exports))";
-    let m = read_module(rt.alloc(), "m.core", text)?;
+    let m = read_module(rt.alloc(), "m.core", text, Limits::standard().size)?;
     assert_eq!(rt; m.name.as_str(), "A.B_1");
     assert_eq!(rt; m.imports.len(), 2);
     assert_eq!(rt; word(&m.imports, 0), "C");

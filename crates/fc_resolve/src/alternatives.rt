@@ -11,7 +11,7 @@ ghost use Rattle.fc_scope.specs.ScopeWords.{locals_of, with_binders};
 
 use crate::expressions::expr_part;
 use fc_model::{Declared, Flawed, deeper, next_part};
-use fc_resolve_parts::{Entered, declared, resolved_binders};
+use fc_resolve_parts::{Entered, declared_term, resolved_binders};
 use fc_scope::{Binders, Scope};
 use fc_syntax::{Alt, Binder, Expr, Head, Memory, NAlt, NExpr, Seq, Text, part};
 use std::alloc::Global;
@@ -23,7 +23,7 @@ fn resolved_head(alloc: Global, top: &Declared, head: &Head) -> Result<Head, Fla
     match head {
         Head::Default => Ok(Head::Default),
         Head::Lit(n) => Ok(Head::Lit(*n)),
-        Head::Con(name) => Ok(Head::Con(declared(alloc, top, &top.spaces.terms, name)?)),
+        Head::Con(name) => Ok(Head::Con(declared_term(alloc, top, name)?)),
     }
 }
 

@@ -12,7 +12,7 @@ ghost use Rattle.fc_scope.specs.ScopeWords.{locals_of};
 use crate::alternatives::alternatives_below;
 use crate::groups::{below_joins, below_values, bind_names, group, join_group, join_names};
 use fc_model::{Declared, Flawed, deeper, flaw_here, next_part};
-use fc_resolve_parts::{co_part, declared, first_binder, resolved_co, resolved_ty, ty_part};
+use fc_resolve_parts::{co_part, declared_term, first_binder, resolved_co, resolved_ty, ty_part};
 use fc_scope::{Found, Scope};
 use fc_syntax::{
     Arg, Binder, Expr, FaultKind, Memory, NArg, NExpr, Name, Ref, Seq, Text, boxed, part,
@@ -30,12 +30,12 @@ fn variable(alloc: Global, top: &Declared, scope: &Scope, name: &Name) -> Result
             Found::Value(distance) => Ok(NExpr::Var(Ref::Local(distance))),
             Found::Join(_) => Err(flaw_here(alloc, FaultKind::Unbound)),
             Found::Nowhere => {
-                let name = declared(alloc, top, &top.spaces.terms, name)?;
+                let name = declared_term(alloc, top, name)?;
                 Ok(NExpr::Var(Ref::Top(name)))
             }
         },
         Some(_) => {
-            let name = declared(alloc, top, &top.spaces.terms, name)?;
+            let name = declared_term(alloc, top, name)?;
             Ok(NExpr::Var(Ref::Top(name)))
         }
     }
@@ -52,10 +52,11 @@ fn join_point(alloc: Global, scope: &Scope, word: &Text) -> Result<u32, Flawed>
     }
 }
 
-/// An expression in a scope.
+/// An expression in a scope, where its variables become distances and its words the names of what they declare. The first word of it that is
+/// not in scope is `Unbound`, and the first that is bound twice by one group `Duplicate`, whichever comes first.
 #[cycle(resolve)]
 #[tactic(auto, using(fc_syntax::proofs::View::view_rules))]
-fn resolved_expr<'x>(
+pub fn resolved_expr<'x>(
     alloc: Global,
     top: &Declared,
     scope: &'x Scope<'x>,
@@ -98,7 +99,7 @@ fn resolved_expr<'x>(
             Ok(NExpr::Cast(boxed(alloc, e)?, g))
         }
         Expr::Con(name, args) => {
-            let name = declared(alloc, top, &top.spaces.terms, name)?;
+            let name = declared_term(alloc, top, name)?;
             let args = resolved_args(alloc, top, &*scope, args.as_slice())?;
             Ok(NExpr::Con(name, args))
         }

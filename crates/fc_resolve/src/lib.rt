@@ -14,11 +14,13 @@ ghost use Rattle.fc_model.specs.DeclaredWords.{top_by, words_by_space};
 ghost use Rattle.fc_model.specs.Faulting.{and_then};
 ghost use Rattle.fc_model.specs.Nameless.{NModuleOf};
 ghost use Rattle.fc_model.specs.NamelessView.{ndecls_of, nmodule_of};
-ghost use Rattle.fc_model.specs.Resolution.{resolved_decls as decls_resolved, resolved_or_fault};
+ghost use Rattle.fc_model.specs.OfferViews.{offers_in};
+ghost use Rattle.fc_model.specs.Resolution.{resolved_among, resolved_decls as decls_resolved, resolved_or_fault};
 ghost use Rattle.fc_model.specs.Says.{Says};
 
 use crate::declarations::resolved_decls;
-use fc_model::{Declared, Flawed, Spaces};
+pub use crate::expressions::resolved_expr;
+use fc_model::{Declared, Flawed, Offers, Spaces};
 use fc_syntax::{Memory, Module, NDecl, NModule, Seq, copy_words};
 use std::alloc::Global;
 
@@ -65,4 +67,19 @@ pub fn resolve(alloc: Global, m: &Module) -> Result<NModule, Flawed>
     let top = Declared::of_module(alloc, m)?;
     let mut earlier = Spaces::new(alloc);
     resolved_over(alloc, &top, &mut earlier, m)
+}
+
+/// The nameless form of a module that names what these modules have for others: a name of an imported module that it does not have is
+/// `NotExported`, where it stands; the other faults are those of `resolve`. What the modules have is handed back with the form; after a
+/// fault, or where memory runs out, it is gone.
+pub fn resolve_among(alloc: Global, m: &Module, offers: Offers) -> Result<(NModule, Offers), Flawed>
+    ensures form { Says (λ p. nmodule_of p.0) result (resolved_among (offers_in offers) (module_of m.now)) }
+    ensures offers { IfOk result (λ p. offers_in p.1 ≡ offers_in offers) }
+{
+    let top = Declared::among(alloc, m, offers)?;
+    let mut earlier = Spaces::new(alloc);
+    match resolved_over(alloc, &top, &mut earlier, m) {
+        Ok(form) => Ok((form, top.offers)),
+        Err(flawed) => Err(flawed),
+    }
 }

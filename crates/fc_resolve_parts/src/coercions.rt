@@ -9,7 +9,7 @@ ghost use Rattle.fc_model.specs.Resolution.{index_of, local_co, resolved_co as c
 ghost use Rattle.fc_model.specs.Says.{Says};
 ghost use Rattle.fc_scope.specs.ScopeWords.{locals_of};
 
-use crate::names::declared;
+use crate::names::{declared_axiom, declared_type};
 use crate::types::ty_part;
 use fc_model::{Declared, Flawed, deeper, flaw_here, next_part};
 use fc_scope::Scope;
@@ -54,7 +54,7 @@ pub fn resolved_co<'x>(
             Ok(NCo::Trans(boxed(alloc, g)?, boxed(alloc, h)?))
         }
         Co::Tc(role, name, parts) => {
-            let name = declared(alloc, top, &top.spaces.types, name)?;
+            let name = declared_type(alloc, top, name)?;
             let parts = resolved_cos(alloc, top, &*scope, parts.as_slice())?;
             Ok(NCo::Tc(*role, name, parts))
         }
@@ -108,7 +108,7 @@ pub fn resolved_co<'x>(
             Ok(NCo::Sub(boxed(alloc, g)?))
         }
         Co::Ax(name, parts) => {
-            let name = declared(alloc, top, &top.spaces.coercions, name)?;
+            let name = declared_axiom(alloc, top, name)?;
             let parts = resolved_cos(alloc, top, &*scope, parts.as_slice())?;
             Ok(NCo::Ax(name, parts))
         }

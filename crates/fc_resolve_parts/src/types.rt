@@ -9,7 +9,7 @@ ghost use Rattle.fc_model.specs.Resolution.{index_of, local_type, resolved_ty as
 ghost use Rattle.fc_model.specs.Says.{Says};
 ghost use Rattle.fc_scope.specs.ScopeWords.{locals_of};
 
-use crate::names::declared;
+use crate::names::declared_type;
 use fc_model::{Declared, Flawed, deeper, flaw_here, next_part};
 use fc_scope::Scope;
 use fc_syntax::{FaultKind, Memory, NTy, Seq, Text, Ty, boxed, part};
@@ -42,7 +42,7 @@ pub fn resolved_ty<'x>(
 {
     match t {
         Ty::Var(word) => variable(alloc, &*scope, word),
-        Ty::Con(name) => Ok(NTy::Con(declared(alloc, top, &top.spaces.types, name)?)),
+        Ty::Con(name) => Ok(NTy::Con(declared_type(alloc, top, name)?)),
         Ty::IntHash => Ok(NTy::IntHash),
         Ty::App(head, argument) => {
             let head = ty_part(alloc, top, &*scope, head, part::HEAD)?;

@@ -1,7 +1,7 @@
 //! Nameless forms of modules that are read, by hand from the rules of scope. First faults of names stand with those of Lint.
 use fc_reader::read_module;
 use fc_resolve::resolve;
-use fc_syntax::{NAlt, NDecl, NExpr, NModule, NTy, Name, Ref};
+use fc_syntax::{Limits, NAlt, NDecl, NExpr, NModule, NTy, Name, Ref};
 use std::alloc::Global;
 use std::process::Abort;
 use std::test::Fail;
@@ -11,7 +11,7 @@ fn nameless(alloc: Global, text: &[u8]) -> Result<NModule, Fail> {
     if text.len() > 4000 {
         return Err("a long text".into());
     }
-    let Ok(m) = read_module(alloc, "M.fc", text) else {
+    let Ok(m) = read_module(alloc, "M.fc", text, Limits::standard().size) else {
         return Err("no module".into());
     };
     match resolve(alloc, &m) {

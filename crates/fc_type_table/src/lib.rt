@@ -16,5 +16,5 @@ mod reading;
 mod spot;
 mod table;
 
-pub use node::TypeId;
+pub use node::{NameKey, Piece, TypeId};
 pub use table::TypeTable;

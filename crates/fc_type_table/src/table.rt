@@ -80,12 +80,12 @@ impl<'a> TypeTable<'a> {
         self.declared
     }
 
-    /// The outermost piece of a type.
-    pub(crate) fn piece(&self, id: TypeId) -> Piece<'a>
-        requires { id.0 < length self.now.nodes.keys }
-        ensures shown { tree_at self.now.nodes.keys id.0 ≡ piece_over (tree_at self.now.nodes.keys) result }
+    /// The outermost piece of a type, or of a kind. Its parts have smaller numbers. Takes no memory.
+    pub fn piece(&self, id: TypeId) -> Piece<'a>
+        requires { id.0 < length (nodes_of self.now) }
+        ensures shown { tree_at (nodes_of self.now) id.0 ≡ piece_over (tree_at (nodes_of self.now)) result }
         ensures parts { parts_end result ≤ id.0 }
-        ensures kinds { HasKinds (piece_over (tree_at self.now.nodes.keys) result) }
+        ensures kinds { HasKinds (piece_over (tree_at (nodes_of self.now)) result) }
     {
         let node = self.nodes[id.0 as usize];
         node.piece

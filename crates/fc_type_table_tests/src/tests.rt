@@ -11,6 +11,7 @@ use fc_type_table::{TypeId, TypeTable};
 use fc_types::{Declarations, Kinds};
 use std::alloc::Global;
 use std::process::Abort;
+use std::slice;
 use std::test::Fail;
 
 /// The kind `(-> * *)`.
@@ -146,7 +147,7 @@ fn equal_types_have_equal_numbers(rt: HostRuntime) -> Result<(), Fail> {
     let (first, second) = (identity_type(alloc, "a")?, identity_type(alloc, "b")?);
     let (inner, outer) = (NTy::Var(0), NTy::Var(1));
     let m = declaring(alloc)?;
-    let declared = Declarations::new(alloc, &m)?;
+    let declared = Declarations::new(alloc, slice::from_ref(&m))?;
     equal_types(&rt, alloc, &declared, &first, &second)?;
     variables(&rt, alloc, &declared, &inner, &outer)
 }
@@ -253,7 +254,7 @@ fn types_have_kinds(rt: HostRuntime) -> Result<(), Fail> {
     let alloc = rt.alloc();
     let words = words(alloc)?;
     let m = declaring(alloc)?;
-    let declared = Declarations::new(alloc, &m)?;
+    let declared = Declarations::new(alloc, slice::from_ref(&m))?;
     data_types(&rt, alloc, &declared, &words)?;
     families(&rt, alloc, &declared, &words)?;
     functions(&rt, alloc, &declared, &words)?;
@@ -304,7 +305,7 @@ fn deepest(rt: &impl Abort, alloc: Global, declared: &Declarations) -> Result<()
 fn foralls_at_types(rt: HostRuntime) -> Result<(), Fail> {
     let alloc = rt.alloc();
     let m = declaring(alloc)?;
-    let declared = Declarations::new(alloc, &m)?;
+    let declared = Declarations::new(alloc, slice::from_ref(&m))?;
     over_and_back(&rt, alloc, &declared)?;
     at_int(&rt, alloc, &declared)
 }
@@ -313,6 +314,6 @@ fn foralls_at_types(rt: HostRuntime) -> Result<(), Fail> {
 fn the_deepest_types_are_walked(rt: HostRuntime) -> Result<(), Fail> {
     let alloc = rt.alloc();
     let m = declaring(alloc)?;
-    let declared = Declarations::new(alloc, &m)?;
+    let declared = Declarations::new(alloc, slice::from_ref(&m))?;
     deepest(&rt, alloc, &declared)
 }

@@ -1,5 +1,8 @@
 pub mod Arities
+pub mod Building
 pub mod ByNumber
 pub mod FirstDeclared
 pub mod FirstPuts
 pub mod LocalKinds
+pub mod Owners
+pub mod WordKeys

@@ -1,3 +1,4 @@
+pub mod Built
 pub mod Codes
 pub mod Families
 pub mod FirstDeclared

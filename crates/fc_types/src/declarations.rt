@@ -1,98 +1,53 @@
-//! The declarations of a module, found by their words.
-ghost use Rattle.std.specs.Prelude.{◌≡◌, [], ◌∷◌, length, slice_get, IfOk, IfSome, if◌then◌else◌};
+//! The declarations of modules, found by their words.
+ghost use Rattle.std.specs.Prelude.{◌≡◌, length, slice_get, IfOk, IfSome};
 ghost use Rattle.std.specs.Option.{option_and_then, option_map};
 ghost use Rattle.fc_model.specs.Kinding.{decls_at, type_decl};
-ghost use Rattle.fc_model.specs.NamelessView.{ndecl_of, ndecls_of, nmodule_of, nty_of};
+ghost use Rattle.fc_model.specs.NamelessView.{ndecl_of, nty_of};
 ghost use Rattle.fc_model.specs.Calling.{constructor};
 ghost use Rattle.fc_model.specs.Coercing.{axiom_named};
 ghost use Rattle.fc_model.specs.Typing.{value_type};
-ghost use Rattle.fc_types.specs.Codes.{has_constructors_prop};
+ghost use Rattle.fc_types.specs.Codes.{has_axioms_prop, has_constructors_prop, has_definitions_prop, has_types_prop};
 ghost use Rattle.fc_types.specs.Tables.{found};
 ghost use Rattle.fc_types.specs.TableViews.{HasAxioms, HasConstructors, HasDefinitions, HasTypes, axiom_of, constructor_of};
 
-use crate::tables::{
-    DeclaredCon, axioms_by_word, constructors_by_word, definitions_by_word, types_by_word,
-};
-use fc_syntax::{Memory, NDecl, NModule, NTy, Name, Text};
-use indexmap::IndexMap;
+use crate::keys::{number_named, value_at, value_named};
+use crate::tables::{DeclaredAxiom, DeclaredCon, Tables, tables_of};
+use fc_syntax::{Memory, NDecl, NModule, NTy, Name};
 use std::alloc::Global;
 
-/// The declarations of one module. A word is found in constant time; where several declarations have it, the first counts.
+/// The declarations of modules. A name is found in constant time; where several modules have one name, or several declarations of a module
+/// one word, the first counts.
 #[derive(Drop)]
 pub struct Declarations<'a> {
-    module: &'a NModule,
-    types: IndexMap<&'a str, &'a NDecl>,
-    axioms: IndexMap<&'a str, &'a NDecl>,
-    definitions: IndexMap<&'a str, &'a NTy>,
-    constructors: IndexMap<&'a str, DeclaredCon<'a>>,
-    ghost types_are: { HasTypes module.now.decls types },
-    ghost axioms_are: { HasAxioms module.now.decls axioms },
-    ghost definitions_are: { HasDefinitions module.now.decls definitions },
-    ghost constructors_are: { HasConstructors module.now.decls constructors } by { has_constructors_prop module.now.decls constructors },
+    modules: &'a [NModule],
+    tables: Tables<'a>,
+    ghost types_are: { HasTypes modules.now tables.types } by { has_types_prop modules.now tables.types },
+    ghost axioms_are: { HasAxioms modules.now tables.axioms } by { has_axioms_prop modules.now tables.axioms },
+    ghost definitions_are: { HasDefinitions modules.now tables.definitions } by { has_definitions_prop modules.now tables.definitions },
+    ghost constructors_are: { HasConstructors modules.now tables.constructors } by { has_constructors_prop modules.now tables.constructors },
 }
 
 impl<'a> Declarations<'a> {
-    ghost use Rattle.fc_types.specs.Listed.{IsConstructor, IsDefinitionType, axioms_in, constructors_in, definition_types};
-    ghost use Rattle.fc_types.specs.ModuleViews.{module_word_of, modules_of};
+    ghost use Rattle.fc_types.specs.Listed.{IsConstructor, IsDefinitionType, axioms_in, constructors_in, definition_types, own_axiom, own_axioms, own_constructor, own_constructors};
+    ghost use Rattle.fc_types.specs.ModuleViews.{modules_of};
+    ghost use Rattle.fc_model.specs.NamelessView.{nmodules_of};
 
-    /// The declarations of a module. Fails only where memory runs out.
+    /// The declarations of modules. Fails only where memory runs out.
     #[tactic(auto, unfolding(crate::specs::ModuleViews::modules_of))]
-    pub fn new(alloc: Global, m: &'a NModule) -> Result<Declarations<'a>, Memory>
-        ensures { IfOk result (λ d. modules_of d ≡ decls_at (nmodule_of m.now ∷ [])) }
+    pub fn new(alloc: Global, modules: &'a [NModule]) -> Result<Declarations<'a>, Memory>
+        ensures { IfOk result (λ d. modules_of d ≡ decls_at (nmodules_of modules.now)) }
     {
-        let decls = m.decls.as_slice();
-        let types = types_by_word(alloc, decls)?;
-        let axioms = axioms_by_word(alloc, decls)?;
-        let definitions = definitions_by_word(alloc, decls)?;
-        let constructors = constructors_by_word(alloc, decls)?;
-        Ok(Declarations {
-            module: m,
-            types,
-            axioms,
-            definitions,
-            constructors,
-        })
-    }
-
-    /// The word of the module. Takes no memory.
-    pub fn module_word(&self) -> &'a Text
-        ensures { result.now ≡ module_word_of self.now }
-    {
-        &self.module.name
-    }
-
-    /// Whether a name is one of this module's.
-    #[tactic(auto, unfolding(crate::specs::ModuleViews::modules_of))]
-    fn has_module_of(&self, name: &Name) -> bool
-        ensures { modules_of self.now name.now.module ≡ (if result then ndecls_of self.now.module.now.decls else []) }
-    {
-        match &name.module {
-            None => false,
-            Some(word) => self.module.name.as_str() == word.as_str(),
-        }
+        let tables = tables_of(alloc, modules)?;
+        Ok(Declarations { modules, tables })
     }
 
     /// The type of a name: a data type, a newtype or a family. Takes no memory.
     pub fn type_named(&self, name: &Name) -> Option<&NDecl>
         ensures { option_map (λ d. ndecl_of d.now) result ≡ type_decl (modules_of self.now name.now.module) name.now.text }
     {
-        if !self.has_module_of(name) {
-            return None;
-        }
-        match self.types.get(name.text.as_str()) {
+        match value_named(&self.tables.types, name) {
             None => None,
             Some(decl) => Some(*decl),
-        }
-    }
-
-    /// Whether a word is this module's.
-    #[tactic(auto, unfolding(crate::specs::ModuleViews::modules_of))]
-    fn has_module(&self, word: Option<&str>) -> bool
-        ensures { modules_of self.now (option_map (λ w. w.now) word.entry) ≡ (if result then ndecls_of self.now.module.now.decls else []) }
-    {
-        match word {
-            None => false,
-            Some(word) => self.module.name.as_str() == word,
         }
     }
 
@@ -100,10 +55,7 @@ impl<'a> Declarations<'a> {
     pub fn type_at(&self, qualifier: Option<&str>, word: &str) -> Option<&NDecl>
         ensures { option_map (λ d. ndecl_of d.now) result ≡ type_decl (modules_of self.now (option_map (λ w. w.now) qualifier.entry)) word.now }
     {
-        if !self.has_module(qualifier) {
-            return None;
-        }
-        match self.types.get(word) {
+        match value_at(&self.tables.types, qualifier, word) {
             None => None,
             Some(decl) => Some(*decl),
         }
@@ -113,10 +65,7 @@ impl<'a> Declarations<'a> {
     pub fn definition_named(&self, name: &Name) -> Option<&NTy>
         ensures { found (option_map (λ t. nty_of t.now) result) ≡ value_type (modules_of self.now) name.now }
     {
-        if !self.has_module_of(name) {
-            return None;
-        }
-        match self.definitions.get(name.text.as_str()) {
+        match value_named(&self.tables.definitions, name) {
             None => None,
             Some(ty) => Some(*ty),
         }
@@ -126,10 +75,7 @@ impl<'a> Declarations<'a> {
     pub fn constructor_named(&self, name: &Name) -> Option<DeclaredCon>
         ensures { option_map constructor_of result ≡ constructor (modules_of self.now) name.now }
     {
-        if !self.has_module_of(name) {
-            return None;
-        }
-        match self.constructors.get(name.text.as_str()) {
+        match value_named(&self.tables.constructors, name) {
             None => None,
             Some(con) => Some(*con),
         }
@@ -140,7 +86,7 @@ impl<'a> Declarations<'a> {
     pub fn definition_count(&self) -> usize
         ensures { result ≡ length (definition_types self.now) }
     {
-        self.definitions.len()
+        self.tables.definitions.len()
     }
 
     /// The type of a definition by its number below `definition_count`: words are numbered in the order of their first definitions.
@@ -148,7 +94,7 @@ impl<'a> Declarations<'a> {
         ensures value { option_map (λ t. nty_of t.now) result ≡ slice_get (definition_types self.now) number }
         ensures declared { IfSome result (λ t. IsDefinitionType (modules_of self.now) (nty_of t.now)) }
     {
-        match self.definitions.get_index(number) {
+        match self.tables.definitions.get_index(number) {
             None => None,
             Some((_, ty)) => Some(*ty),
         }
@@ -158,10 +104,7 @@ impl<'a> Declarations<'a> {
     pub fn definition_number(&self, name: &Name) -> Option<usize>
         ensures { found (option_and_then (λ i. slice_get (definition_types self.now) i) result) ≡ value_type (modules_of self.now) name.now }
     {
-        if !self.has_module_of(name) {
-            return None;
-        }
-        self.definitions.get_index_of(name.text.as_str())
+        number_named(&self.tables.definitions, name)
     }
 
     /// How many words have a constructor. Takes no memory.
@@ -169,15 +112,16 @@ impl<'a> Declarations<'a> {
     pub fn constructor_count(&self) -> usize
         ensures { result ≡ length (constructors_in self.now) }
     {
-        self.constructors.len()
+        self.tables.constructors.len()
     }
 
     /// A constructor by its number below `constructor_count`: words are numbered in the order of their first constructors.
     pub fn constructor_at(&self, number: usize) -> Option<DeclaredCon<'a>>
         ensures value { option_map constructor_of result ≡ slice_get (constructors_in self.now) number }
+        ensures own { option_map own_constructor result ≡ slice_get (own_constructors self.now) number }
         ensures declared { IfSome result (λ k. IsConstructor (modules_of self.now) (constructor_of k)) }
     {
-        match self.constructors.get_index(number) {
+        match self.tables.constructors.get_index(number) {
             None => None,
             Some((_, con)) => Some(*con),
         }
@@ -185,12 +129,10 @@ impl<'a> Declarations<'a> {
 
     /// The number of the constructor of a name. Takes no memory.
     pub fn constructor_number(&self, name: &Name) -> Option<usize>
-        ensures { option_and_then (λ i. slice_get (constructors_in self.now) i) result ≡ constructor (modules_of self.now) name.now }
+        ensures value { option_and_then (λ i. slice_get (constructors_in self.now) i) result ≡ constructor (modules_of self.now) name.now }
+        ensures own { IfSome result (λ i. option_map (λ k. k.0) (slice_get (own_constructors self.now) i) ≡ name.now.module) }
     {
-        if !self.has_module_of(name) {
-            return None;
-        }
-        self.constructors.get_index_of(name.text.as_str())
+        number_named(&self.tables.constructors, name)
     }
 
     /// How many words have an axiom. Takes no memory.
@@ -198,27 +140,25 @@ impl<'a> Declarations<'a> {
     pub fn axiom_count(&self) -> usize
         ensures { result ≡ length (axioms_in self.now) }
     {
-        self.axioms.len()
+        self.tables.axioms.len()
     }
 
-    /// The newtype or the equation of a family that has an axiom, by the axiom's number below `axiom_count`: words are numbered in the
-    /// order of their first axioms.
-    pub fn axiom_at(&self, number: usize) -> Option<&'a NDecl>
-        ensures { option_map (λ d. ndecl_of d.now) result ≡ slice_get (axioms_in self.now) number }
+    /// An axiom by its number below `axiom_count`: words are numbered in the order of their first axioms.
+    pub fn axiom_at(&self, number: usize) -> Option<DeclaredAxiom<'a>>
+        ensures value { option_map (λ a. ndecl_of a.decl.now) result ≡ slice_get (axioms_in self.now) number }
+        ensures own { option_map own_axiom result ≡ slice_get (own_axioms self.now) number }
     {
-        match self.axioms.get_index(number) {
+        match self.tables.axioms.get_index(number) {
             None => None,
-            Some((_, decl)) => Some(*decl),
+            Some((_, axiom)) => Some(*axiom),
         }
     }
 
     /// The number of the axiom of a name. Takes no memory.
     pub fn axiom_number(&self, name: &Name) -> Option<usize>
-        ensures { option_and_then (axiom_of name.now.module) (option_and_then (λ i. slice_get (axioms_in self.now) i) result) ≡ axiom_named (modules_of self.now) name.now }
+        ensures value { option_and_then (axiom_of name.now.module) (option_and_then (λ i. slice_get (axioms_in self.now) i) result) ≡ axiom_named (modules_of self.now) name.now }
+        ensures own { IfSome result (λ i. option_map (λ a. a.0) (slice_get (own_axioms self.now) i) ≡ name.now.module) }
     {
-        if !self.has_module_of(name) {
-            return None;
-        }
-        self.axioms.get_index_of(name.text.as_str())
+        number_named(&self.tables.axioms, name)
     }
 }

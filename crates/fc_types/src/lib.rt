@@ -4,6 +4,7 @@
 mod declarations;
 mod declared_kinds;
 mod families;
+mod keys;
 mod kind_scope;
 mod kinds;
 mod sameness;
@@ -14,4 +15,4 @@ pub use families::{is_family_applied, params_of_family};
 pub use kind_scope::{Kinds, LocalKind};
 pub use kinds::{is_lifted, is_star, is_value_kind, kind, kind_of_name, kind_of_part};
 pub use sameness::{same_kind, same_name, same_role, same_type, same_word};
-pub use tables::DeclaredCon;
+pub use tables::{DeclaredAxiom, DeclaredCon};

@@ -1,21 +1,26 @@
-//! Tables from words to the first of what they declare.
-ghost use Rattle.std.specs.Prelude.{◌≡◌, ℕ, List, ◌∷◌, Option, Some, None, OnOk, IfOk, if◌then◌else◌, length};
+//! Tables from the words of modules to the first of what they declare.
+ghost use Rattle.std.specs.Prelude.{◌≡◌, ◌&&◌, ◌||◌, ◌++◌, [], ℕ, List, ◌∷◌, Option, Some, None, OnOk, IfOk, if◌then◌else◌, length};
 ghost use Rattle.std.specs.Str.{bytes_eq};
 ghost use Rattle.fc_syntax.specs.Tree.{Word};
 ghost use Rattle.fc_syntax.specs.declared.module.Decl.{Decl};
+ghost use Rattle.fc_syntax.specs.declared.module.Module as trees;
 ghost use Rattle.fc_syntax.specs.declared.ty.Ref.{Ref};
 ghost use Rattle.fc_model.specs.Calling.{constructor_binders, first_of};
-ghost use Rattle.fc_types.specs.FirstDeclared.{Numbered, first_axiom, first_constructor, first_definition, first_type_decl, numbered_among};
-ghost use Rattle.fc_types.specs.Tables.{at};
-ghost use Rattle.fc_types.specs.TableViews.{HasAxioms, HasConstructors, HasDefinitions, HasTypes, decl_at, definition_at, numbered_at};
+ghost use Rattle.fc_types.specs.FirstDeclared.{Numbered, first_axiom, first_constructor, first_definition, first_type_decl, in_module, numbered_among};
+ghost use Rattle.fc_types.specs.Tables.{at, has_word};
+ghost use Rattle.fc_types.specs.TableViews.{axiom_entry, decl_at, definition_at, numbered_at};
+ghost use Rattle.fc_types.specs.Built.{Adds, AreTables};
 
-use fc_syntax::{Memory, NConDecl, NDecl, NTy, Param, Seq, Text};
-use indexmap::IndexMap;
+use crate::keys::WordKey;
+use fc_syntax::{Memory, NConDecl, NDecl, NModule, NTy, Param, Seq, Text};
+use indexmap::{IndexMap, IndexSet};
 use std::alloc::Global;
 
 /// A constructor that a module declares.
 #[derive(Clone, Copy)]
 pub struct DeclaredCon<'a> {
+    /// The word of the module.
+    pub module: &'a Text,
     /// The word of its data type.
     pub data_word: &'a Text,
     /// The parameters of its data type.
@@ -45,144 +50,191 @@ impl<'a> DeclaredCon<'a> {
     }
 }
 
-/// Puts a value at a word that has none yet.
+/// An axiom that a module declares.
+#[derive(Clone, Copy)]
+pub struct DeclaredAxiom<'a> {
+    /// The word of the module.
+    pub module: &'a Text,
+    /// The newtype or the equation of a family that has it.
+    pub decl: &'a NDecl,
+}
+
+/// The tables of what modules declare.
+#[derive(Drop)]
+pub struct Tables<'a> {
+    words: IndexSet<&'a str>,
+    /// The types.
+    pub types: IndexMap<WordKey<'a>, &'a NDecl>,
+    /// The axioms.
+    pub axioms: IndexMap<WordKey<'a>, DeclaredAxiom<'a>>,
+    /// The types of the definitions.
+    pub definitions: IndexMap<WordKey<'a>, &'a NTy>,
+    /// The constructors.
+    pub constructors: IndexMap<WordKey<'a>, DeclaredCon<'a>>,
+}
+
+/// Puts a value at a word of a module that has none yet.
 fn put_first<'a, V: Drop>(
-    table: &mut IndexMap<&'a str, V>,
-    word: &'a str,
+    table: &mut IndexMap<WordKey<'a>, V>,
+    qualifier: &'a Text,
+    word: &'a Text,
     value: V,
 ) -> Result<(), Memory>
-    ensures { OnOk result ((w : Word) → at table.new w ≡ first_of (at table.old w) (if bytes_eq word.now w then Some value else None)) }
+    ensures { OnOk result ((m w : Word) → at table.new m w ≡ first_of (at table.old m w) (if bytes_eq qualifier.now m && bytes_eq word.now w then Some value else None)) }
 {
-    if table.contains_key(word) {
+    let key = WordKey {
+        module: qualifier.as_str(),
+        word: word.as_str(),
+    };
+    if table.contains_key(&key) {
         Ok(())
     } else {
-        table.insert(word, value)?;
+        table.insert(key, value)?;
         Ok(())
     }
 }
 
-/// Puts a declaration in, where it is the first type of its word.
+/// Puts a declaration of a module in, where it is the first type of its word.
 #[tactic(auto, using(crate::proofs::FirstPuts::put_seen))]
-fn add_type<'a>(types: &mut IndexMap<&'a str, &'a NDecl>, decl: &'a NDecl) -> Result<(), Memory>
-    ensures { OnOk result ((w : Word) (rest : List (Decl ℕ Ref)) → first_of (decl_at types.new w) (first_type_decl rest w) ≡ first_of (decl_at types.old w) (first_type_decl (decl.now ∷ rest) w)) }
+fn add_type<'a>(
+    types: &mut IndexMap<WordKey<'a>, &'a NDecl>,
+    qualifier: &'a Text,
+    decl: &'a NDecl,
+) -> Result<(), Memory>
+    ensures { OnOk result ((m w : Word) (rest : List (Decl ℕ Ref)) → first_of (decl_at types.new m w) (in_module qualifier.now m (first_type_decl rest w)) ≡ first_of (decl_at types.old m w) (in_module qualifier.now m (first_type_decl (decl.now ∷ rest) w))) }
 {
     match decl {
-        NDecl::DataType(word, _, _) => put_first(types, word.as_str(), decl),
-        NDecl::NewType(word, _, _, _) => put_first(types, word.as_str(), decl),
-        NDecl::Family(word, _, _) => put_first(types, word.as_str(), decl),
+        NDecl::DataType(word, _, _) => put_first(types, qualifier, word, decl),
+        NDecl::NewType(word, _, _, _) => put_first(types, qualifier, word, decl),
+        NDecl::Family(word, _, _) => put_first(types, qualifier, word, decl),
         NDecl::Axiom(_, _, _, _) => Ok(()),
         NDecl::Def(_, _, _) => Ok(()),
         NDecl::Wrap(_, _, _) => Ok(()),
     }
 }
 
-/// The types of a module by their words.
-pub fn types_by_word<'a>(
-    alloc: Global,
+/// Puts the types of a module in, where they are the first of their words.
+#[tactic(auto, using(crate::proofs::FirstPuts::none_more))]
+fn add_types<'a>(
+    types: &mut IndexMap<WordKey<'a>, &'a NDecl>,
+    qualifier: &'a Text,
     decls: &'a [NDecl],
-) -> Result<IndexMap<&'a str, &'a NDecl>, Memory>
-    ensures { IfOk result (λ table. HasTypes decls.now table) }
+) -> Result<(), Memory>
+    ensures { OnOk result ((m w : Word) → decl_at types.new m w ≡ first_of (decl_at types.old m w) (in_module qualifier.now m (first_type_decl decls.now w))) }
 {
-    let mut types = IndexMap::new(alloc);
     for decl in decls {
-        add_type(&mut types, decl)?;
+        add_type(types, qualifier, decl)?;
     }
-    Ok(types)
+    Ok(())
 }
 
-/// Puts a declaration in, where it has the first axiom of its word.
+/// Puts a declaration of a module in, where it has the first axiom of its word.
 #[tactic(auto, using(crate::proofs::FirstPuts::put_seen))]
-fn add_axiom<'a>(axioms: &mut IndexMap<&'a str, &'a NDecl>, decl: &'a NDecl) -> Result<(), Memory>
-    ensures { OnOk result ((w : Word) (rest : List (Decl ℕ Ref)) → first_of (decl_at axioms.new w) (first_axiom rest w) ≡ first_of (decl_at axioms.old w) (first_axiom (decl.now ∷ rest) w)) }
+fn add_axiom<'a>(
+    axioms: &mut IndexMap<WordKey<'a>, DeclaredAxiom<'a>>,
+    qualifier: &'a Text,
+    decl: &'a NDecl,
+) -> Result<(), Memory>
+    ensures { OnOk result ((m w : Word) (rest : List (Decl ℕ Ref)) → first_of (axiom_entry axioms.new m w) (in_module qualifier.now m (first_axiom qualifier.now rest w)) ≡ first_of (axiom_entry axioms.old m w) (in_module qualifier.now m (first_axiom qualifier.now (decl.now ∷ rest) w))) }
 {
+    let declared = DeclaredAxiom {
+        module: qualifier,
+        decl,
+    };
     match decl {
         NDecl::DataType(_, _, _) => Ok(()),
-        NDecl::NewType(_, _, _, word) => put_first(axioms, word.as_str(), decl),
+        NDecl::NewType(_, _, _, word) => put_first(axioms, qualifier, word, declared),
         NDecl::Family(_, _, _) => Ok(()),
-        NDecl::Axiom(word, _, _, _) => put_first(axioms, word.as_str(), decl),
+        NDecl::Axiom(word, _, _, _) => put_first(axioms, qualifier, word, declared),
         NDecl::Def(_, _, _) => Ok(()),
         NDecl::Wrap(_, _, _) => Ok(()),
     }
 }
 
-/// The newtypes and the equations of families of a module by the words of their axioms.
-pub fn axioms_by_word<'a>(
-    alloc: Global,
+/// Puts the axioms of a module in, where they are the first of their words.
+#[tactic(auto, using(crate::proofs::FirstPuts::none_more))]
+fn add_axioms<'a>(
+    axioms: &mut IndexMap<WordKey<'a>, DeclaredAxiom<'a>>,
+    qualifier: &'a Text,
     decls: &'a [NDecl],
-) -> Result<IndexMap<&'a str, &'a NDecl>, Memory>
-    ensures { IfOk result (λ table. HasAxioms decls.now table) }
+) -> Result<(), Memory>
+    ensures { OnOk result ((m w : Word) → axiom_entry axioms.new m w ≡ first_of (axiom_entry axioms.old m w) (in_module qualifier.now m (first_axiom qualifier.now decls.now w))) }
 {
-    let mut axioms = IndexMap::new(alloc);
     for decl in decls {
-        add_axiom(&mut axioms, decl)?;
+        add_axiom(axioms, qualifier, decl)?;
     }
-    Ok(axioms)
+    Ok(())
 }
 
-/// Puts a definition in, where it is the first of its word.
+/// Puts a definition of a module in, where it is the first of its word.
 #[tactic(auto, using(crate::proofs::FirstPuts::put_seen))]
 fn add_definition<'a>(
-    definitions: &mut IndexMap<&'a str, &'a NTy>,
+    definitions: &mut IndexMap<WordKey<'a>, &'a NTy>,
+    qualifier: &'a Text,
     decl: &'a NDecl,
 ) -> Result<(), Memory>
-    ensures { OnOk result ((w : Word) (rest : List (Decl ℕ Ref)) → first_of (definition_at definitions.new w) (first_definition rest w) ≡ first_of (definition_at definitions.old w) (first_definition (decl.now ∷ rest) w)) }
+    ensures { OnOk result ((m w : Word) (rest : List (Decl ℕ Ref)) → first_of (definition_at definitions.new m w) (in_module qualifier.now m (first_definition rest w)) ≡ first_of (definition_at definitions.old m w) (in_module qualifier.now m (first_definition (decl.now ∷ rest) w))) }
 {
     match decl {
         NDecl::DataType(_, _, _) => Ok(()),
         NDecl::NewType(_, _, _, _) => Ok(()),
         NDecl::Family(_, _, _) => Ok(()),
         NDecl::Axiom(_, _, _, _) => Ok(()),
-        NDecl::Def(word, ty, _) => put_first(definitions, word.as_str(), ty),
-        NDecl::Wrap(word, ty, _) => put_first(definitions, word.as_str(), ty),
+        NDecl::Def(word, ty, _) => put_first(definitions, qualifier, word, ty),
+        NDecl::Wrap(word, ty, _) => put_first(definitions, qualifier, word, ty),
     }
 }
 
-/// The types of a module's definitions by their words.
-pub fn definitions_by_word<'a>(
-    alloc: Global,
+/// Puts the types of a module's definitions in, where they are the first of their words.
+#[tactic(auto, using(crate::proofs::FirstPuts::none_more))]
+fn add_definitions<'a>(
+    definitions: &mut IndexMap<WordKey<'a>, &'a NTy>,
+    qualifier: &'a Text,
     decls: &'a [NDecl],
-) -> Result<IndexMap<&'a str, &'a NTy>, Memory>
-    ensures { IfOk result (λ table. HasDefinitions decls.now table) }
+) -> Result<(), Memory>
+    ensures { OnOk result ((m w : Word) → definition_at definitions.new m w ≡ first_of (definition_at definitions.old m w) (in_module qualifier.now m (first_definition decls.now w))) }
 {
-    let mut definitions = IndexMap::new(alloc);
     for decl in decls {
-        add_definition(&mut definitions, decl)?;
+        add_definition(definitions, qualifier, decl)?;
     }
-    Ok(definitions)
+    Ok(())
 }
 
-/// Puts the constructors of a data type in, where they are the first of their words.
+/// Puts the constructors of a data type of a module in, where they are the first of their words.
 #[tactic(auto, using(crate::proofs::FirstPuts::put_seen))]
-fn add_constructors<'a>(
-    constructors: &mut IndexMap<&'a str, DeclaredCon<'a>>,
+fn add_data<'a>(
+    constructors: &mut IndexMap<WordKey<'a>, DeclaredCon<'a>>,
+    qualifier: &'a Text,
     data_word: &'a Text,
     params: &'a Seq<Param>,
     cons: &'a [NConDecl],
 ) -> Result<(), Memory>
-    ensures { OnOk result ((w : Word) (rest : Option Numbered) → first_of (numbered_at constructors.new w) rest ≡ first_of (numbered_at constructors.old w) (first_of (numbered_among data_word.now params.now 0 cons.now w) rest)) }
+    ensures { OnOk result ((m w : Word) (rest : Option Numbered) → first_of (numbered_at constructors.new m w) (in_module qualifier.now m rest) ≡ first_of (numbered_at constructors.old m w) (in_module qualifier.now m (first_of (numbered_among qualifier.now data_word.now params.now 0 cons.now w) rest))) }
 {
     for (number, con) in cons.iter().enumerate() {
         let declared = DeclaredCon {
+            module: qualifier,
             data_word,
             params,
             number,
             con,
         };
-        put_first(constructors, con.name.as_str(), declared)?;
+        put_first(constructors, qualifier, &con.name, declared)?;
     }
     Ok(())
 }
 
-/// Puts the constructors of a declaration in, where they are the first of their words.
+/// Puts the constructors of a declaration of a module in, where they are the first of their words.
 fn add_declared<'a>(
-    constructors: &mut IndexMap<&'a str, DeclaredCon<'a>>,
+    constructors: &mut IndexMap<WordKey<'a>, DeclaredCon<'a>>,
+    qualifier: &'a Text,
     decl: &'a NDecl,
 ) -> Result<(), Memory>
-    ensures { OnOk result ((w : Word) (rest : List (Decl ℕ Ref)) → first_of (numbered_at constructors.new w) (first_constructor rest w) ≡ first_of (numbered_at constructors.old w) (first_constructor (decl.now ∷ rest) w)) }
+    ensures { OnOk result ((m w : Word) (rest : List (Decl ℕ Ref)) → first_of (numbered_at constructors.new m w) (in_module qualifier.now m (first_constructor qualifier.now rest w)) ≡ first_of (numbered_at constructors.old m w) (in_module qualifier.now m (first_constructor qualifier.now (decl.now ∷ rest) w))) }
 {
     match decl {
         NDecl::DataType(word, params, cons) => {
-            add_constructors(constructors, word, params, cons.as_slice())
+            add_data(constructors, qualifier, word, params, cons.as_slice())
         }
         NDecl::NewType(_, _, _, _) => Ok(()),
         NDecl::Family(_, _, _) => Ok(()),
@@ -192,16 +244,66 @@ fn add_declared<'a>(
     }
 }
 
-/// The constructors of a module by their words.
-pub fn constructors_by_word<'a>(
-    alloc: Global,
+/// Puts the constructors of a module in, where they are the first of their words.
+#[tactic(auto, using(crate::proofs::FirstPuts::none_more))]
+fn add_constructors<'a>(
+    constructors: &mut IndexMap<WordKey<'a>, DeclaredCon<'a>>,
+    qualifier: &'a Text,
     decls: &'a [NDecl],
-) -> Result<IndexMap<&'a str, DeclaredCon<'a>>, Memory>
-    ensures { IfOk result (λ table. HasConstructors decls.now table) }
+) -> Result<(), Memory>
+    ensures { OnOk result ((m w : Word) → numbered_at constructors.new m w ≡ first_of (numbered_at constructors.old m w) (in_module qualifier.now m (first_constructor qualifier.now decls.now w))) }
 {
-    let mut constructors = IndexMap::new(alloc);
     for decl in decls {
-        add_declared(&mut constructors, decl)?;
+        add_declared(constructors, qualifier, decl)?;
     }
-    Ok(constructors)
+    Ok(())
+}
+
+/// Puts the word of a module in.
+fn add_word<'a>(words: &mut IndexSet<&'a str>, word: &'a Text) -> Result<(), Memory>
+    ensures { OnOk result ((m : Word) → has_word words.new m ≡ (bytes_eq word.now m || has_word words.old m)) }
+{
+    words.insert(word.as_str())?;
+    Ok(())
+}
+
+/// Puts what a module declares in, where its words are the first.
+fn add_module<'a>(tables: &mut Tables<'a>, m: &'a NModule) -> Result<(), Memory>
+    ensures { OnOk result (Adds tables.old tables.new m.now) }
+{
+    let word = &m.name;
+    let decls = m.decls.as_slice();
+    add_word(&mut tables.words, word)?;
+    add_types(&mut tables.types, word, decls)?;
+    add_axioms(&mut tables.axioms, word, decls)?;
+    add_definitions(&mut tables.definitions, word, decls)?;
+    add_constructors(&mut tables.constructors, word, decls)
+}
+
+/// Puts what a module declares in; nothing where a module before it has its word.
+fn add_first<'a>(tables: &mut Tables<'a>, m: &'a NModule) -> Result<(), Memory>
+    ensures { OnOk result ((ms : List (trees.Module ℕ Ref)) → AreTables ms tables.old → AreTables (ms ++ m.now ∷ []) tables.new) }
+{
+    if tables.words.contains(m.name.as_str()) {
+        Ok(())
+    } else {
+        add_module(tables, m)
+    }
+}
+
+/// The tables of modules.
+pub fn tables_of<'a>(alloc: Global, modules: &'a [NModule]) -> Result<Tables<'a>, Memory>
+    ensures { IfOk result (λ tables. AreTables modules.now tables) }
+{
+    let mut tables = Tables {
+        words: IndexSet::new(alloc),
+        types: IndexMap::new(alloc),
+        axioms: IndexMap::new(alloc),
+        definitions: IndexMap::new(alloc),
+        constructors: IndexMap::new(alloc),
+    };
+    for m in modules {
+        add_first(&mut tables, m)?;
+    }
+    Ok(tables)
 }

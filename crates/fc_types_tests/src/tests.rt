@@ -3,10 +3,13 @@
 use fc_model::{Flaw, Flawed};
 use fc_reader::read_module;
 use fc_resolve::resolve;
-use fc_syntax::{FaultKind, Kind, Memory, NDecl, NModule, NTy, Name, Param, Role, Seq, Text};
+use fc_syntax::{
+    FaultKind, Kind, Limits, Memory, NDecl, NModule, NTy, Name, Param, Role, Seq, Text,
+};
 use fc_types::{Declarations, Kinds, kind, kind_of_part, same_type};
 use std::alloc::Global;
 use std::process::Abort;
+use std::slice;
 use std::test::Fail;
 
 /// The nameless form of a text. Fails where it has none.
@@ -14,7 +17,7 @@ fn nameless(alloc: Global, text: &[u8]) -> Result<NModule, Fail> {
     if text.len() > 4000 {
         return Err("a long text".into());
     }
-    let Ok(m) = read_module(alloc, "M.fc", text) else {
+    let Ok(m) = read_module(alloc, "M.fc", text, Limits::standard().size) else {
         return Err("no module".into());
     };
     match resolve(alloc, &m) {
@@ -90,7 +93,7 @@ fn are_all_same_alone(
 fn types_and_copies_are_the_same_by_their_parts(rt: HostRuntime) -> Result<(), Fail> {
     let alloc = rt.alloc();
     let m = nameless(alloc, DIFFERENT)?;
-    let declared = Declarations::new(alloc, &m)?;
+    let declared = Declarations::new(alloc, slice::from_ref(&m))?;
     let words = ["a", "b", "c", "d", "e", "f", "g", "h", "i"];
     are_all_same_alone(&rt, alloc, &declared, words.as_slice())
 }
@@ -163,7 +166,7 @@ fn names_are_found_in_their_space(rt: HostRuntime) -> Result<(), Fail> {
         alloc,
         b"(module M (imports) (exports) (data T () (J ()) (K () Int#)) (data K () (T ())) (def x Int# 0#) (def y T x))",
     )?;
-    let declared = Declarations::new(alloc, &m)?;
+    let declared = Declarations::new(alloc, slice::from_ref(&m))?;
     let rows: [Named<'_>; 7] = [
         ("M", "T", false, false, false),
         ("M", "K", true, true, false),
@@ -176,6 +179,147 @@ fn names_are_found_in_their_space(rt: HostRuntime) -> Result<(), Fail> {
     for (number, row) in rows.iter().enumerate() {
         assert!(rt; is_found(alloc, &declared, row)?, "row {number}");
     }
+    Ok(())
+}
+
+/// The nameless forms of modules, of which the last has the name of the first, and two declare a `T` and a `P`.
+fn several(alloc: Global) -> Result<Seq<NModule>, Fail> {
+    let mut modules = Seq::new(alloc);
+    let first = nameless(
+        alloc,
+        b"(module M (imports) (exports) (data T () (A ()) (B ())) (data U ()) (newtype P () Int# Q) (def x Int# 0#))",
+    )?;
+    modules.push(first)?;
+    let second = nameless(
+        alloc,
+        b"(module N (imports) (exports) (data T () (C ())) (data V () (D ()) (E ())) (newtype P () T Q) (def z Int# 0#))",
+    )?;
+    modules.push(second)?;
+    let third = nameless(
+        alloc,
+        b"(module M (imports) (exports) (data T ()) (data W () (F ())) (newtype O () Int# S) (def y Int# 0#))",
+    )?;
+    modules.push(third)?;
+    Ok(modules)
+}
+
+/// How many constructors the data type of a name has.
+fn constructors_of(declared: &Declarations, name: &Name) -> Option<usize> {
+    match declared.type_named(name) {
+        Some(NDecl::DataType(_, _, cons)) => Some(cons.len()),
+        _ => None,
+    }
+}
+
+/// The number of the constructor of a name among those of its data type, if it says that it is of this module.
+fn number_in_data(declared: &Declarations, name: &Name, module: &str) -> Option<usize> {
+    match declared.constructor_named(name) {
+        Some(con) => {
+            if con.module.as_str() == module {
+                Some(con.number)
+            } else {
+                None
+            }
+        }
+        None => None,
+    }
+}
+
+/// Adds a letter and a number, where there is one.
+fn tell(told: &mut String, letter: char, number: Option<usize>) -> Result<(), Fail> {
+    if let Some(number) = number {
+        write!(told, "{letter}{number}")?;
+    }
+    Ok(())
+}
+
+/// What each word of a module is, each before a comma: `t` with the number of constructors of its data type, `c` with the number of its constructor in
+/// the data type, and `i` for a definition of an integer.
+fn told_in_module(
+    alloc: Global,
+    declared: &Declarations,
+    module: &str,
+    words: &str,
+) -> Result<String, Fail> {
+    let mut told = String::new(alloc);
+    for word in words.split(' ') {
+        let name = name(alloc, module, word)?;
+        tell(&mut told, 't', constructors_of(declared, &name))?;
+        tell(&mut told, 'c', number_in_data(declared, &name, module))?;
+        if is_integer(declared.definition_named(&name)) {
+            told.push('i')?;
+        }
+        told.push(',')?;
+    }
+    Ok(told)
+}
+
+/// Two modules may have one word. A module of a name that one before it has adds nothing.
+#[test]
+fn names_are_found_in_their_module(rt: HostRuntime) -> Result<(), Fail> {
+    let alloc = rt.alloc();
+    let modules = several(alloc)?;
+    let declared = Declarations::new(alloc, modules.as_slice())?;
+    let rows = [
+        ("M", "T U V W B F x y", "t2,t0,,,c1,,i,,"),
+        ("N", "T U V B E x z", "t1,,t2,,c1,,i,"),
+        ("L", "T", ","),
+    ];
+    for (module, words, want) in &rows {
+        let told = told_in_module(alloc, &declared, *module, *words)?;
+        assert_eq!(rt; told.as_str(), *want);
+    }
+    Ok(())
+}
+
+/// The number of each word of a module, each before a comma: `c` of a constructor, `d` of a definition, `a` of an axiom.
+fn told_numbers(
+    alloc: Global,
+    declared: &Declarations,
+    module: &str,
+    words: &str,
+) -> Result<String, Fail> {
+    let mut told = String::new(alloc);
+    for word in words.split(' ') {
+        let name = name(alloc, module, word)?;
+        tell(&mut told, 'c', declared.constructor_number(&name))?;
+        tell(&mut told, 'd', declared.definition_number(&name))?;
+        tell(&mut told, 'a', declared.axiom_number(&name))?;
+        told.push(',')?;
+    }
+    Ok(told)
+}
+
+/// Whether the constructor and the axiom of these numbers are of the modules of these words.
+fn are_of(declared: &Declarations, constructor: (usize, &str), axiom: (usize, &str)) -> bool {
+    let (Some(con), Some(of_axiom)) = (
+        declared.constructor_at(constructor.0),
+        declared.axiom_at(axiom.0),
+    ) else {
+        return false;
+    };
+    con.module.as_str() == constructor.1 && of_axiom.module.as_str() == axiom.1
+}
+
+/// Words are numbered from module to module.
+#[test]
+fn numbers_go_on_in_the_next_module(rt: HostRuntime) -> Result<(), Fail> {
+    let alloc = rt.alloc();
+    let modules = several(alloc)?;
+    let declared = Declarations::new(alloc, modules.as_slice())?;
+    let rows = [
+        ("M", "A B F x y Q", "c0,c1,,d0,,a0,"),
+        ("N", "C D E z Q", "c2,c3,c4,d1,a1,"),
+    ];
+    for (module, words, want) in &rows {
+        let told = told_numbers(alloc, &declared, *module, *words)?;
+        assert_eq!(rt; told.as_str(), *want);
+    }
+    assert!(rt; declared.constructor_count() == 5);
+    assert!(rt; declared.definition_count() == 2);
+    assert!(rt; declared.axiom_count() == 2);
+    assert!(rt; are_of(&declared, (1, "M"), (0, "M")));
+    assert!(rt; are_of(&declared, (2, "N"), (1, "N")));
     Ok(())
 }
 
@@ -217,7 +361,7 @@ fn with_definition(alloc: Global, of_type: &[u8]) -> Result<NModule, Fail> {
 /// Whether the kind of a row's type is told as there.
 fn is_row_told(alloc: Global, declared: &Declarations, row: &Row<'_>) -> Result<bool, Fail> {
     let n = with_definition(alloc, row.0)?;
-    let more = Declarations::new(alloc, &n)?;
+    let more = Declarations::new(alloc, slice::from_ref(&n))?;
     let t = type_of(alloc, &more, "M", "x")?;
     Ok(is_told(alloc, t, declared, row))
 }
@@ -228,7 +372,7 @@ fn are_told(rt: &impl Abort, alloc: Global, rows: &[Row<'_>]) -> Result<(), Fail
         alloc,
         b"(module M (imports) (exports) (data T () (K () Int#)) (data U () (L () T)))",
     )?;
-    let declared = Declarations::new(alloc, &m)?;
+    let declared = Declarations::new(alloc, slice::from_ref(&m))?;
     for (number, row) in rows.iter().enumerate() {
         assert!(rt; is_row_told(alloc, &declared, row)?, "row {number}");
     }
@@ -325,7 +469,7 @@ fn list_of(alloc: Global, t: Result<NTy, Memory>) -> Result<NTy, Memory> {
 fn kinds_of_applications_and_foralls(rt: HostRuntime) -> Result<(), Fail> {
     let alloc = rt.alloc();
     let m = with_parameter(alloc)?;
-    let declared = Declarations::new(alloc, &m)?;
+    let declared = Declarations::new(alloc, slice::from_ref(&m))?;
     let bound = for_all(alloc, Kind::Star, NTy::Var(0));
     assert!(rt; has_kind(alloc, &declared, bound, "*")?);
     let unbound = for_all(alloc, Kind::Star, NTy::Var(1));

@@ -1,5 +1,5 @@
 -- The nameless modules whose names all mean something: each distance reaches a binder, and each name is known.
-use Rattle.std.specs.Prelude.{◌≡◌, ℕ, suc, ◌<◌, true, List, [], ◌∷◌, Option, Some, None, if◌then◌else◌}
+use Rattle.std.specs.Prelude.{◌&&◌, ◌≡◌, ℕ, suc, ◌<◌, true, List, [], ◌∷◌, Option, Some, None, if◌then◌else◌}
 use Rattle.std.specs.Str.{bytes_eq}
 use Rattle.fc_syntax.specs.declared.ty.Name.{Name}
 use Rattle.fc_syntax.specs.declared.expr.Head.{Head}
@@ -197,13 +197,13 @@ HoldsDecls P (d ∷ ds) = HoldsDecl P d × HoldsDecls P ds
 
 -- NAMES THAT MEAN SOMETHING
 
--- a name is known: its module is this one, which declares its word among these, or one that is imported
-abbrev pub IsKnownIn : Top → WordSet → Option Word → Word → Type 0
-IsKnownIn top words None w = ⊥
-IsKnownIn top words (Some m) w = (if bytes_eq m top.own then words w else top.imports m) ≡ true
+-- a name is known: its module is this one, which declares its word among these, or one that is imported and has the word for others
+abbrev pub IsKnownIn : Top → WordSet → (Word → WordSet) → Option Word → Word → Type 0
+IsKnownIn top words offered None w = ⊥
+IsKnownIn top words offered (Some m) w = (if bytes_eq m top.own then words w else top.imports m && offered m w) ≡ true
 
-abbrev pub IsKnown : Top → WordSet → Name → Type 0
-IsKnown top words n = IsKnownIn top words n.module n.text
+abbrev pub IsKnown : Top → WordSet → (Word → WordSet) → Name → Type 0
+IsKnown top words offered n = IsKnownIn top words offered n.module n.text
 
 -- a distance is below the number of binders of its space, and a name is known in its space
 abbrev pub is_meant : Top → Saying
@@ -212,10 +212,10 @@ is_meant top = record {
   value_at = λ many i. i < many;
   join_at = λ many i. i < many;
   coercion_at = λ many i. i < many;
-  type_name = IsKnown top top.types;
-  axiom_name = IsKnown top top.coercions;
-  constructor = IsKnown top top.terms;
-  definition = IsKnown top top.terms;
+  type_name = IsKnown top top.types top.offers.types;
+  axiom_name = IsKnown top top.coercions top.offers.coercions;
+  constructor = IsKnown top top.terms top.offers.terms;
+  definition = IsKnown top top.terms top.offers.terms;
 }
 
 -- words are declared once in each space, and every name means something

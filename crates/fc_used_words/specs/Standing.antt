@@ -33,12 +33,12 @@ abbrev pub FindsJoin : WordSet → List TermWord → ℕ → Type 0
 FindsJoin set xs i = (w : Word) × (join_word xs i ≡ Some w) × (found_term xs w ≡ IsJoin i) × (set w ≡ true)
 
 -- a name of a declaration is known as it is written
-abbrev pub IsDeclared : Top → WordSet → Name → Type 0
-IsDeclared top words n = declared_name top words (outside top.own n.module) n.text ≡ Ok n
+abbrev pub IsDeclared : Top → WordSet → (Word → WordSet) → Name → Type 0
+IsDeclared top words offered n = declared_name top words offered (outside top.own n.module) n.text ≡ Ok n
 
 -- a definition is known as it is written, and one of the module has a word of the set and the word of no binder
 abbrev pub FindsDefinition : Top → WordSet → Locals → Name → Type 0
-FindsDefinition top set s n = IsDeclared top top.terms n × (outside top.own n.module ≡ None → (found_term s.terms n.text ≡ Nowhere) × (set n.text ≡ true))
+FindsDefinition top set s n = IsDeclared top top.terms top.offers.terms n × (outside top.own n.module ≡ None → (found_term s.terms n.text ≡ Nowhere) × (set n.text ≡ true))
 
 -- each name is found again by a word of these sets, below binders with words and then some without
 abbrev pub is_found_by : Top → Words → Locals → Saying
@@ -47,9 +47,9 @@ is_found_by top ws s = record {
   value_at = Beyond (FindsValue ws.terms s.terms);
   join_at = Beyond (FindsJoin ws.terms s.terms);
   coercion_at = Beyond (FindsType ws.coercions s.coercions);
-  type_name = IsDeclared top top.types;
-  axiom_name = IsDeclared top top.coercions;
-  constructor = IsDeclared top top.terms;
+  type_name = IsDeclared top top.types top.offers.types;
+  axiom_name = IsDeclared top top.coercions top.offers.coercions;
+  constructor = IsDeclared top top.terms top.offers.terms;
   definition = FindsDefinition top ws.terms s;
 }
 

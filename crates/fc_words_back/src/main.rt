@@ -35,11 +35,11 @@ fn comes_back(alloc: Global, m: &Module) -> Option<bool> {
 
 /// The line for a file.
 fn line_of<F: Files>(alloc: Global, files: &mut F, file: &str) -> &'static [u8] {
-    let most = Limits::standard().file_bytes as u64;
-    let ReadAnswer::Ok(bytes) = files.read(alloc, file, most) else {
+    let limits = Limits::standard();
+    let ReadAnswer::Ok(bytes) = files.read(alloc, file, limits.file_bytes as u64) else {
         return b"unread\n";
     };
-    let Ok(m) = read_module(alloc, file, &bytes) else {
+    let Ok(m) = read_module(alloc, file, &bytes, limits.size) else {
         return b"no module\n";
     };
     match comes_back(alloc, &m) {

@@ -1,13 +1,15 @@
-use Rattle.fc_model.proofs.LintedIs.{lint_is}
+use Rattle.fc_model.specs.Kinding.{decls_at}
+use Rattle.fc_model.specs.Linting.{nameless_forms}
 use Rattle.fc_meaning.proofs.ArgSorts.{sort_is, sorts_of_arguments}
-use Rattle.fc_meaning.proofs.SortedErasure.{form_lints, formed_is_sorted}
+use Rattle.fc_meaning.proofs.HeldSets.{set_is_held}
+use Rattle.fc_meaning.proofs.SortedErasure.{linted_is_sorted}
 use Rattle.fc_meaning.proofs.what_lints_is_sorted.Goals as goal
 
 pub returns-clause-sorted : goal.returns-clause-sorted
-returns-clause-sorted c m n formed resolves lints x t is = formed_is_sorted resolves formed ((lint_is n).0 (form_lints resolves lints)) x t is
+returns-clause-sorted c ms formed lints = linted_is_sorted ms formed lints
 
 pub returns-clause-sorts : goal.returns-clause-sorts
-returns-clause-sorts c m lint k s agree n args t = sorts_of_arguments m ((lint_is m).0 lint) k s agree n args t
+returns-clause-sorts c ms lints k s agree n args t = sorts_of_arguments (decls_at (nameless_forms ms)) (set_is_held ms lints) k s agree n args t
 
 pub returns-clause-arguments : goal.returns-clause-arguments
-returns-clause-arguments c m lint k s agree a t typed fits = sort_is m ((lint_is m).0 lint) typed s agree fits
+returns-clause-arguments c ms lints k s agree a t typed fits = sort_is (decls_at (nameless_forms ms)) (set_is_held ms lints) typed s agree fits

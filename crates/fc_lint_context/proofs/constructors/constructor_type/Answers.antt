@@ -24,5 +24,5 @@ returns-clause-view c =
     let con = c.args.con.now in
     let k = constructor_of con in
     whole_over c.over_params.result (nodes_of c.over_params.new.types) (nodes_of c.over_own_binders.new.types) c.as_slice-2.result.now c.as_slice-3.result.now (words.param_kinds k.params) c.in_ok-body.body k.binders k.fields
-    (constructed_type (name_in c.args.word.now con.data_word.now) k) (c.as_slice-2.ensures ∙ sym c.as_slice-3.ensures)
+    (constructed_type (name_in con.module.now con.data_word.now) k) (c.as_slice-2.ensures ∙ sym c.as_slice-3.ensures)
     (ap own_kinds c.as_slice-3.ensures ∙ c.in_ok-kinds.ensures ∙ ap (λ (ps : List Param). words.param_kinds (nparams_of ps)) c.as_slice.ensures) c.in_ok-body.ensures.view c.over_params.ensures.view

@@ -15,5 +15,5 @@ returns-clause-view c =
     let k = c.args.con.now in
     let bs = nbinders_of k.con.now.binders in
     let made =
-    made_behind c.args.entered.now.kinds bs k.params.now c.args.word.now k.data_word.now _ _ _ _ c.requires c.len.ensures c.len-2.ensures c.in_ok-head.ensures.view c.in_ok-answer.ensures.view in
+    made_behind c.args.entered.now.kinds bs k.params.now k.module.now k.data_word.now _ _ _ _ c.requires c.len.ensures c.len-2.ensures c.in_ok-head.ensures.view c.in_ok-answer.ensures.view in
     made_over c.over_fields.result (nodes_of c.over_fields.new.types) _ _ k.con.now.fields _ _ _ (entered_kinds c.args.scope.now _ bs _ c.kinds_behind-kinds.ensures c.requires) c.as_slice.ensures made c.over_fields.ensures.view

@@ -1,6 +1,6 @@
 use Rattle.std.proofs.Common.{Result, Ok, Err, OnOk}
-use Rattle.fc_model.specs.NamelessView.{ndecl_of}
 use Rattle.fc_type_table.specs.TypeTables.{nodes_of}
+use Rattle.fc_types.specs.Listed.{own_axiom}
 use Rattle.fc_lint_context.proofs.Declared.{left_pushed, right_pushed}
 use Rattle.fc_lint_context.proofs.declared_types.add_axiom.Goals as goal
 
@@ -15,11 +15,11 @@ always (Err e) p = tt
 pub returns-in_ok-push-in-Some-clause-lefts : goal.returns-in_ok-push-in-Some-clause-lefts
 returns-in_ok-push-in-Some-clause-lefts c =
     let own = c.in_ok-own-in-Some in
-    always c.push-in-Some.result (left_pushed (nodes_of c.args.types.now) (nodes_of c.axiom_sides.new.types) c.args.declared.now c.args.sides.now.lefts c.push.new.self own.own.left c.args.number (ndecl_of c.in-Some.decl.now) _
-    c.module_word.ensures own.ensures.grows.nodes c.requires.lefts_in c.requires.lefts c.in-Some.ensures own.ensures.left c.in_ok-push-in-Some.ensures.ok)
+    always c.push-in-Some.result (left_pushed (nodes_of c.args.types.now) (nodes_of c.axiom_sides.new.types) c.args.declared.now c.args.sides.now.lefts c.push.new.self own.own.left c.args.number (own_axiom c.in-Some.axiom)
+    own.ensures.grows.nodes c.requires.lefts_in c.requires.lefts c.in-Some.ensures.own own.ensures.left c.in_ok-push-in-Some.ensures.ok)
 
 pub returns-in_ok-push-in-Some-clause-rights : goal.returns-in_ok-push-in-Some-clause-rights
 returns-in_ok-push-in-Some-clause-rights c =
     let own = c.in_ok-own-in-Some in
-    on_ok c.push-in-Some.result (right_pushed (nodes_of c.args.types.now) (nodes_of c.axiom_sides.new.types) c.args.declared.now c.args.sides.now.rights c.push-in-Some.new.self own.own.right c.args.number (ndecl_of c.in-Some.decl.now) _
-    c.module_word.ensures own.ensures.grows.nodes c.requires.rights_in c.requires.rights c.in-Some.ensures own.ensures.right) c.push-in-Some.ensures.ok
+    on_ok c.push-in-Some.result (right_pushed (nodes_of c.args.types.now) (nodes_of c.axiom_sides.new.types) c.args.declared.now c.args.sides.now.rights c.push-in-Some.new.self own.own.right c.args.number (own_axiom c.in-Some.axiom)
+    own.ensures.grows.nodes c.requires.rights_in c.requires.rights c.in-Some.ensures.own own.ensures.right) c.push-in-Some.ensures.ok

@@ -1,5 +1,4 @@
 use Rattle.std.proofs.Common.{◌≡◌, ◌≤◌, true, length}
-use Rattle.fc_syntax.specs.Limits.{standard_limits}
 use Rattle.fc_syntax.specs.Measures.{decls_size}
 use Rattle.fc_syntax.specs.View.{decls_of}
 use Rattle.fc_model.specs.Grammar.{ADeclaration}
@@ -16,7 +15,7 @@ abbrev pub invariant-each : goal.invariant-each
 invariant-each l = record {
   star : Star ADeclaration (many_at ADeclaration (ahead l.fn.tokens)) (ahead l.fn.tokens) (decls_of l.all) (ahead l.tokens);
   read : SomeDeclsAt (ahead l.fn.tokens) (decls_of l.all) (ahead l.tokens);
-  within : are_within (decls_of l.all) ≡ true;
+  within : are_within l.fn.room (decls_of l.all) ≡ true;
   size : l.size ≡ decls_size (decls_of l.all);
-  small : l.size ≤ standard_limits.size;
+  small : l.size ≤ l.fn.room;
 }

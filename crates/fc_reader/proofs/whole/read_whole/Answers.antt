@@ -12,13 +12,13 @@ use Rattle.fc_reader.proofs.whole.read_whole.Goals as goal
 pub returns-in_err-m-clause-fault : goal.returns-in_err-m-clause-fault
 returns-in_err-m-clause-fault c =
     let h = c.in_err-m.field-0.0 in
-    err_is (RefusesModule (seen_all c.args.tokens.now)) _ h c.from_residual.ensures.1
-    (refused (seen_all c.args.tokens.now) h (subst (λ ts. Halts BeginsWithDecls AModule ts h) c.new-rest.ensures c.in_err-m.ensures.halt))
+    err_is (RefusesModule c.args.room (seen_all c.args.tokens.now)) _ h c.from_residual.ensures.1
+    (refused c.args.room (seen_all c.args.tokens.now) h (subst (λ ts. Halts c.args.room BeginsWithDecls AModule ts h) c.new-rest.ensures c.in_err-m.ensures.halt))
 
 pub returns-then-left-gt0-clause-fault : goal.returns-then-left-gt0-clause-fault
 returns-then-left-gt0-clause-fault c =
     let rest = ahead c.read_module_form.new.tokens in
-    refused_behind rest (subst (λ ts. Takes AModule ts (module_of c.in_ok-m.m) rest) c.new-rest.ensures c.in_ok-m.ensures.read) c.left-left.ensures c.if-left-gt0.true c.in_ok-m.ensures.within
+    refused_behind c.args.room rest (subst (λ ts. Takes AModule ts (module_of c.in_ok-m.m) rest) c.new-rest.ensures c.in_ok-m.ensures.read) c.left-left.ensures c.if-left-gt0.true c.in_ok-m.ensures.within
 
 pub returns-clause-found : goal.returns-clause-found
 returns-clause-found c =

@@ -1,11 +1,10 @@
-use Rattle.std.proofs.Common.{◌≡◌, drop, Option}
+use Rattle.std.proofs.Common.{◌≡◌, drop}
 use Rattle.fc_syntax.specs.Tree.{Word}
 use Rattle.fc_model.specs.Calling.{first_of}
-use Rattle.fc_types.specs.FirstDeclared.{Numbered, numbered_among}
+use Rattle.fc_types.specs.FirstDeclared.{first_constructor, in_module}
 use Rattle.fc_types.specs.TableViews.{numbered_at}
 use Rattle.fc_types.proofs.tables.add_constructors.Given as goal
 
-abbrev pub invariant-loop-number : goal.invariant-loop-number
-invariant-loop-number l = (w : Word) (rest : Option Numbered) →
-    first_of (numbered_at l.constructors w) (first_of (numbered_among l.data_word l.params l.number (drop l.number l.cons) w) rest)
-    ≡ first_of (numbered_at l.initial.constructors w) (first_of (numbered_among l.data_word l.params 0 l.cons w) rest)
+abbrev pub invariant-loop-decl : goal.invariant-loop-decl
+invariant-loop-decl l = (m w : Word) →
+    first_of (numbered_at l.constructors m w) (in_module l.qualifier m (first_constructor l.qualifier (drop l.decl-index l.decls) w)) ≡ first_of (numbered_at l.initial.constructors m w) (in_module l.qualifier m (first_constructor l.qualifier l.decls w))

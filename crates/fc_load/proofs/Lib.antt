@@ -1,0 +1,4 @@
+pub mod Laws
+pub mod NextFile
+pub mod OneFiles
+pub mod SoFar

@@ -1,0 +1,30 @@
+use Rattle.std.proofs.Common.{◌≡◌, ◌∙◌, [], ◌∷◌, ◌++◌, map, ap, arith, rules}
+use Rattle.std.proofs.lemmas.List.{map-append}
+use Rattle.std.proofs.lemmas.List.Elements.{All-push}
+use Rattle.fc_syntax.specs.View.{module_of}
+use Rattle.fc_model.specs.Formed.{IsFormed}
+use Rattle.fc_load.proofs.NextFile.{all_read, reached_next, read_next, refused_next}
+use Rattle.fc_load.proofs.loading.load.Goals as goal
+
+pub returns-in-Refused-clause-answer : goal.returns-in-Refused-clause-answer
+returns-in-Refused-clause-answer g c =
+    refused_next (λ s. s.now) c.args.names.now c.loop-name.name-index _ _ _ _ _ _ c.loop-name-test.true c.loop-name.invariant.held c.loop-name.invariant.so_far c.in-Refused.ensures.answer
+
+pub returns-in-ReadFault-clause-answer : goal.returns-in-ReadFault-clause-answer
+returns-in-ReadFault-clause-answer g c = reached_next (λ s. s.now) c.args.names.now c.loop-name.name-index _ _ _ _ c.loop-name-test.true c.loop-name.invariant.so_far
+
+pub loop-name-preserved : goal.loop-name-preserved
+loop-name-preserved g c =
+    let items : c.push.new.self.items ≡ c.loop-name.modules.items ++ c.in-Module.m ∷ [] = search rules in
+    let modules : map module_of c.push.new.self.items ≡ map module_of c.loop-name.modules.items ++ module_of c.in-Module.m ∷ [] =
+    ap (map module_of) items ∙ map-append module_of c.loop-name.modules.items (c.in-Module.m ∷ []) in
+    record {
+      held = c.in-Module.ensures.held ∙ c.loop-name.invariant.held;
+      writes = c.in-Module.ensures.writes ∙ c.loop-name.invariant.writes;
+      reads = omega (arith, c.in-Module.ensures.reads);
+      so_far = read_next (λ s. s.now) c.args.names.now c.loop-name.name-index _ _ _ _ _ _ _ _ c.loop-name-test.true c.loop-name.invariant.held modules c.loop-name.invariant.so_far c.in-Module.ensures.answer;
+      formed = rw modules (All-push IsFormed _ _ c.loop-name.invariant.formed c.in-Module.ensures.formed);
+    }
+
+pub returns-clause-answer : goal.returns-clause-answer
+returns-clause-answer g c = all_read (λ s. s.now) c.args.names.now c.loop-name.name-index _ _ _ c.loop-name-test.false c.loop-name.invariant.so_far

@@ -1,0 +1,4 @@
+pub mod Loading
+pub mod Amounts
+pub mod OneFile
+pub mod Answers

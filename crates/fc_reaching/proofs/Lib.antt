@@ -1,0 +1,5 @@
+mod Listed
+mod Mentioning
+mod Numbered
+mod Reached
+mod Searching

@@ -1,0 +1,4 @@
+pub mod DefinitionsView
+pub mod Graphs
+pub mod Numbering
+pub mod Reaching

@@ -1,0 +1,7 @@
+//! Tests of `fc_reaching`, which is proved once without them.
+#![tactic(auto)]
+
+#[cfg(test)]
+mod by_hand;
+#[cfg(test)]
+mod tests;

@@ -1,0 +1,4 @@
+pub mod NumberKinds
+pub mod Meanings
+pub mod Seen
+pub mod Shown

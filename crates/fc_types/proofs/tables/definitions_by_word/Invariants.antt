@@ -1,9 +1,0 @@
-use Rattle.std.proofs.Common.{◌≡◌, drop}
-use Rattle.fc_syntax.specs.Tree.{Word}
-use Rattle.fc_model.specs.Calling.{first_of}
-use Rattle.fc_types.specs.FirstDeclared.{first_definition}
-use Rattle.fc_types.specs.TableViews.{definition_at}
-use Rattle.fc_types.proofs.tables.definitions_by_word.Given as goal
-
-abbrev pub invariant-loop-decl : goal.invariant-loop-decl
-invariant-loop-decl l = (w : Word) → first_of (definition_at l.definitions w) (first_definition (drop l.decl-index l.decls) w) ≡ first_definition l.decls w

@@ -1,0 +1,3 @@
+pub mod BinderWords
+pub mod EqualityLemmas
+pub mod Imported

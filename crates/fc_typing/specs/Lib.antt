@@ -1,0 +1,5 @@
+pub mod Behind
+pub mod Environments
+pub mod Equality
+pub mod Told
+pub mod Wording

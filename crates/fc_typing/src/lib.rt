@@ -1,0 +1,19 @@
+//! Types, coercions and expressions of the named tree, judged where binders are in scope. Each call finds the nameless form of its piece,
+//! judges that, and writes its answer with words again.
+#![tactic(auto)]
+
+mod coercions;
+mod environment;
+mod equality;
+mod expressions;
+mod instances;
+mod kinds;
+mod naming;
+
+pub use coercions::ends;
+pub use environment::TypeEnv;
+pub use equality::equal;
+pub use expressions::lint;
+pub use instances::instantiate;
+pub use kinds::kind_of;
+pub use naming::Ends;

@@ -1,0 +1,5 @@
+//! Tests of `fc_typing`, from texts.
+#![tactic(auto)]
+
+#[cfg(test)]
+mod tests;
