@@ -128,14 +128,6 @@ fn is_integer(t: Option<&NTy>) -> bool {
     }
 }
 
-/// Whether a name is that of a data type of one constructor.
-fn is_type(declared: &Declarations, name: &Name) -> bool {
-    match declared.type_named(name) {
-        Some(NDecl::DataType(_, _, cons)) => cons.len() == 1,
-        _ => false,
-    }
-}
-
 /// Whether a name is that of the second constructor of `T`, which has an integer.
 fn is_constructor(declared: &Declarations, name: &Name) -> bool {
     match declared.constructor_named(name) {
@@ -144,42 +136,6 @@ fn is_constructor(declared: &Declarations, name: &Name) -> bool {
             && is_integer(con.con.fields.get(0)),
         None => false,
     }
-}
-
-/// A module and a word of it; whether that has a type, a constructor and a definition, as the module below declares them.
-type Named<'a> = (&'a str, &'a str, bool, bool, bool);
-
-fn is_found(alloc: Global, declared: &Declarations, row: &Named<'_>) -> Result<bool, Memory> {
-    let (module, word, of_type, constructor, definition) = row;
-    let name = name(alloc, module, word)?;
-    Ok(
-        is_type(declared, &name) == *of_type
-            && is_constructor(declared, &name) == *constructor
-            && is_integer(declared.definition_named(&name)) == *definition,
-    )
-}
-
-#[test]
-fn names_are_found_in_their_space(rt: HostRuntime) -> Result<(), Fail> {
-    let alloc = rt.alloc();
-    let m = nameless(
-        alloc,
-        b"(module M (imports) (exports) (data T () (J ()) (K () Int#)) (data K () (T ())) (def x Int# 0#) (def y T x))",
-    )?;
-    let declared = Declarations::new(alloc, slice::from_ref(&m))?;
-    let rows: [Named<'_>; 7] = [
-        ("M", "T", false, false, false),
-        ("M", "K", true, true, false),
-        ("M", "J", false, false, false),
-        ("M", "x", false, false, true),
-        ("M", "y", false, false, false),
-        ("N", "K", false, false, false),
-        ("N", "x", false, false, false),
-    ];
-    for (number, row) in rows.iter().enumerate() {
-        assert!(rt; is_found(alloc, &declared, row)?, "row {number}");
-    }
-    Ok(())
 }
 
 /// The nameless forms of modules, of which the last has the name of the first, and two declare a `T` and a `P`.
@@ -254,6 +210,24 @@ fn told_in_module(
     Ok(told)
 }
 
+/// A type and a constructor may have one word. No other module has them.
+#[test]
+fn names_are_found_in_their_space(rt: HostRuntime) -> Result<(), Fail> {
+    let alloc = rt.alloc();
+    let m = nameless(
+        alloc,
+        b"(module M (imports) (exports) (data T () (J ()) (K () Int#)) (data K () (T ())) (def x Int# 0#) (def y T x))",
+    )?;
+    let declared = Declarations::new(alloc, slice::from_ref(&m))?;
+    let told = told_in_module(alloc, &declared, "M", "T K J x y")?;
+    assert_eq!(rt; told.as_str(), "t2c0,t1c1,c0,i,,");
+    let told = told_in_module(alloc, &declared, "N", "K x")?;
+    assert_eq!(rt; told.as_str(), ",,");
+    assert!(rt; is_constructor(&declared, &name(alloc, "M", "K")?));
+    assert!(rt; !is_constructor(&declared, &name(alloc, "M", "J")?));
+    Ok(())
+}
+
 /// Two modules may have one word. A module of a name that one before it has adds nothing.
 #[test]
 fn names_are_found_in_their_module(rt: HostRuntime) -> Result<(), Fail> {
@@ -323,28 +297,26 @@ fn numbers_go_on_in_the_next_module(rt: HostRuntime) -> Result<(), Fail> {
     Ok(())
 }
 
-/// A type; the part that it is judged as, where it is judged as one; its kind, or `20` for `Unbound`; and the place of that, the
-/// innermost part number first. The types `T` and `U` are declared where it is judged, with constructors `K` and `L`.
-type Row<'a> = (&'a [u8], Option<u32>, &'a str, &'a [u32]);
-
-fn is_unbound_at(flaw: &Flaw, path: &[u32]) -> bool {
-    flaw.kind == FaultKind::Unbound && flaw.def.is_none() && flaw.path.as_slice() == path
+/// What the kind of a type is, or `20` for `Unbound` with its place, the innermost part number first.
+fn told_kind(alloc: Global, judged: Result<Kind, Flawed>) -> Result<String, Fail> {
+    match judged {
+        Ok(Kind::Star) => Ok(String::from_str(alloc, "*")?),
+        Ok(Kind::Hash) => Ok(String::from_str(alloc, "#")?),
+        Ok(Kind::Arrow(_, _)) => Err("an arrow".into()),
+        Err(Flawed::Flaw(flaw)) => told_flaw(alloc, &flaw),
+        Err(Flawed::Memory) => Err("out of memory".into()),
+    }
 }
 
-/// Whether the kind of a type is told as in a row.
-fn is_told(alloc: Global, t: &NTy, declared: &Declarations, row: &Row<'_>) -> bool {
-    let (_, part, told, path) = row;
-    let judged = match part {
-        None => kind(alloc, t, declared, &Kinds::End),
-        Some(part) => kind_of_part(alloc, t, declared, &Kinds::End, *part),
-    };
-    match judged {
-        Ok(Kind::Star) => *told == "*",
-        Ok(Kind::Hash) => *told == "#",
-        Ok(Kind::Arrow(_, _)) => false,
-        Err(Flawed::Flaw(flaw)) => *told == "20" && is_unbound_at(&flaw, path),
-        Err(Flawed::Memory) => false,
+fn told_flaw(alloc: Global, flaw: &Flaw) -> Result<String, Fail> {
+    if flaw.kind != FaultKind::Unbound || flaw.def.is_some() {
+        return Err("another fault".into());
     }
+    let mut told = String::from_str(alloc, "20")?;
+    for part in flaw.path.as_slice() {
+        write!(told, " {part}")?;
+    }
+    Ok(told)
 }
 
 /// A module with a definition `x` of a type, in which more types are declared.
@@ -358,53 +330,67 @@ fn with_definition(alloc: Global, of_type: &[u8]) -> Result<NModule, Fail> {
     nameless(alloc, text.as_slice())
 }
 
-/// Whether the kind of a row's type is told as there.
-fn is_row_told(alloc: Global, declared: &Declarations, row: &Row<'_>) -> Result<bool, Fail> {
-    let n = with_definition(alloc, row.0)?;
+/// What the kind of a type is where `T` and `U` are declared, with constructors `K` and `L`; as the part 7 where it is one.
+fn told_of_type(
+    alloc: Global,
+    declared: &Declarations,
+    of_type: &[u8],
+    is_part: bool,
+) -> Result<String, Fail> {
+    let n = with_definition(alloc, of_type)?;
     let more = Declarations::new(alloc, slice::from_ref(&n))?;
     let t = type_of(alloc, &more, "M", "x")?;
-    Ok(is_told(alloc, t, declared, row))
+    if is_part {
+        told_kind(alloc, kind_of_part(alloc, t, declared, &Kinds::End, 7))
+    } else {
+        told_kind(alloc, kind(alloc, t, declared, &Kinds::End))
+    }
 }
 
-/// Judges the type of each row where `T` and `U` are declared.
-fn are_told(rt: &impl Abort, alloc: Global, rows: &[Row<'_>]) -> Result<(), Fail> {
+/// A type, and what its kind is.
+type Row<'a> = (&'a [u8], &'a str);
+
+fn are_told(rt: &impl Abort, alloc: Global, is_part: bool, rows: &[Row<'_>]) -> Result<(), Fail> {
     let m = nameless(
         alloc,
         b"(module M (imports) (exports) (data T () (K () Int#)) (data U () (L () T)))",
     )?;
     let declared = Declarations::new(alloc, slice::from_ref(&m))?;
-    for (number, row) in rows.iter().enumerate() {
-        assert!(rt; is_row_told(alloc, &declared, row)?, "row {number}");
+    for (of_type, want) in rows {
+        let told = told_of_type(alloc, &declared, *of_type, is_part)?;
+        assert_eq!(rt; told.as_str(), *want);
     }
     Ok(())
 }
 
 #[test]
 fn kinds_of_types(rt: HostRuntime) -> Result<(), Fail> {
-    let rows: [Row<'_>; 17] = [
-        (b"Int#", None, "#", &[]),
-        (b"T", None, "*", &[]),
-        (b"U", None, "*", &[]),
+    let rows = [
+        (b"Int#".as_slice(), "#"),
+        (b"T", "*"),
+        (b"U", "*"),
         // a word without a declaration, and one that only a constructor has
-        (b"V", None, "20", &[]),
-        (b"K", None, "20", &[]),
+        (b"V", "20"),
+        (b"K", "20"),
         // functions are lifted, whatever the kinds of their ends
-        (b"(fun T U)", None, "*", &[]),
-        (b"(fun Int# T)", None, "*", &[]),
-        (b"(fun T Int#)", None, "*", &[]),
-        (b"(fun (fun T Int#) U)", None, "*", &[]),
+        (b"(fun T U)", "*"),
+        (b"(fun Int# T)", "*"),
+        (b"(fun T Int#)", "*"),
+        (b"(fun (fun T Int#) U)", "*"),
         // the parts of a function type are its ends, from left to right
-        (b"(fun V T)", None, "20", &[0]),
-        (b"(fun T V)", None, "20", &[1]),
-        (b"(fun V W)", None, "20", &[0]),
-        (b"(fun (fun T V) W)", None, "20", &[1, 0]),
-        (b"(fun T (fun V W))", None, "20", &[0, 1]),
-        // as a part
-        (b"Int#", Some(7), "#", &[]),
-        (b"V", Some(7), "20", &[7]),
-        (b"(fun (fun T V) W)", Some(7), "20", &[1, 0, 7]),
+        (b"(fun V T)", "20 0"),
+        (b"(fun T V)", "20 1"),
+        (b"(fun V W)", "20 0"),
+        (b"(fun (fun T V) W)", "20 1 0"),
+        (b"(fun T (fun V W))", "20 0 1"),
     ];
-    are_told(&rt, rt.alloc(), rows.as_slice())
+    are_told(&rt, rt.alloc(), false, rows.as_slice())?;
+    let parts = [
+        (b"Int#".as_slice(), "#"),
+        (b"V", "20 7"),
+        (b"(fun (fun T V) W)", "20 1 0 7"),
+    ];
+    are_told(&rt, rt.alloc(), true, parts.as_slice())
 }
 
 /// A data type `T`, and a data type `L` with one parameter of kind `*`, which no text gives yet.
