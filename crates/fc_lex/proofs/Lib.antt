@@ -1,4 +1,5 @@
 pub mod Literals
 pub mod Names
+pub mod Plain
 pub mod Printed
 pub mod Steps

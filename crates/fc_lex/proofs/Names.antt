@@ -18,7 +18,7 @@ any_by_run p (x ∷ xs) =
     let e : 1 + length xs ≡ length (x ∷ xs) = omega arith in
     any_step (p x) (list_any p xs) (prefix_len (λ x. not (p x)) xs) (length xs) (any_by_run p xs) ∙ ap (nat_lt (cond (not (p x)) (1 + prefix_len (λ x. not (p x)) xs) 0)) e
 
-any_by_last : {X : Type 0} (p : X → Bool) (xs : List X) → list_any p xs ≡ nat_lt (suffix_len (λ x. not (p x)) xs) (length xs)
+pub any_by_last : {X : Type 0} (p : X → Bool) (xs : List X) → list_any p xs ≡ nat_lt (suffix_len (λ x. not (p x)) xs) (length xs)
 any_by_last p xs =
     list_any-IsPermutation p xs (reverse xs) (IsPermutation-reverse xs)
     ∙ (any_by_run p (reverse xs) ∙ ap (nat_lt (suffix_len (λ x. not (p x)) xs)) (length-reverse xs))

@@ -14,7 +14,7 @@ use Rattle.fc_lex.specs.Pieces.{then_piece}
 use Rattle.fc_syntax.proofs.Lexing.{lexed_first, plain_class, class_plain, lexed_apart}
 
 -- the rest of a word, as far as it goes
-one_more : (n : ℕ) → 1 + n ≡ suc n
+pub one_more : (n : ℕ) → 1 + n ≡ suc n
 one_more n = omega arith
 
 run_step : (t : Bool) (at b : ℕ) (bs : List ℕ) → is_plain b ≡ t → lexed InWord (at + 1) bs ≡ lexed Between (at + 1 + prefix_len is_plain bs) (drop (prefix_len is_plain bs) bs)

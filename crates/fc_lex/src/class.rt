@@ -28,6 +28,7 @@ pub(crate) enum Class {
 }
 
 /// The class of a byte.
+#[inline(always)]
 pub(crate) fn class_of(byte: u8) -> Class
     ensures { as_byte_class result ≡ byte_class byte }
 {
@@ -42,6 +43,13 @@ pub(crate) fn class_of(byte: u8) -> Class
     }
 }
 
+/// Whether a byte is part of a word.
+pub(crate) fn is_plain_byte(byte: u8) -> bool
+    ensures { result ≡ is_plain byte }
+{
+    matches!(byte, b'!'..=b'~') && !matches!(byte, b'(' | b')' | b';')
+}
+
 /// The end of the word that goes on at `at`: the first byte from there on that is no part of it.
 pub(crate) fn word_end(bytes: &[u8], at: usize) -> usize
     requires { at ≤ length bytes.now }
@@ -49,7 +57,7 @@ pub(crate) fn word_end(bytes: &[u8], at: usize) -> usize
     ensures within { result ≤ length bytes.now }
 {
     let mut end = at;
-    while end < bytes.len() && class_of(bytes[end]) == Class::Plain {
+    while end < bytes.len() && is_plain_byte(bytes[end]) {
         end += 1;
     }
     end

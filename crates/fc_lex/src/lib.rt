@@ -45,6 +45,7 @@ impl From<Memory> for LexError {
 }
 
 /// The tokens of a text of at most 4 MiB, in their order; or the first byte or word that is no part of one.
+#[inline(never)]
 pub fn tokens(alloc: Global, bytes: &[u8]) -> Result<Seq<Token>, LexError>
     requires { length bytes.now ≤ standard_limits.file_bytes }
     ensures found { IfOk result (λ ts. tokens_of bytes.now ≡ Ok (map (lexeme_of bytes.now) ts)) }

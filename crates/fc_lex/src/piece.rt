@@ -1,13 +1,13 @@
 //! A text a piece at a time.
-ghost use Rattle.std.specs.Prelude.{◌≡◌, ◌≤◌, ◌<◌, drop, length, IfOk, IfErr};
+ghost use Rattle.std.specs.Prelude.{◌≡◌, ◌≤◌, ◌<◌, drop, length, slice_index, IfOk, IfErr};
 ghost use Rattle.fc_syntax.specs.Limits.{standard_limits};
-ghost use Rattle.fc_syntax.specs.Tokens.{lexed, Between};
+ghost use Rattle.fc_syntax.specs.Tokens.{byte_class, lexed, Between, Plain};
 ghost use Rattle.fc_lex.specs.Faults.{IsFirstFault};
 ghost use Rattle.fc_lex.specs.Pieces.{then_piece};
 
 use crate::LexError;
 use crate::class::{Class, class_of, comment_end, word_end};
-use crate::word::word_kind;
+use crate::word::{name_bytes_end, starts_name, word_kind};
 use fc_syntax::TokenKind;
 
 /// A blank, a comment or a token.
@@ -36,6 +36,27 @@ fn token(end: usize, kind: TokenKind) -> Piece
     }
 }
 
+/// The word that begins at a byte between tokens. Most words are names without a dot, and end where their bytes of names do.
+fn word_at(bytes: &[u8], at: usize) -> Result<Piece, LexError>
+    requires inside { at < length bytes.now }
+    requires room { length bytes.now ≤ standard_limits.file_bytes }
+    requires plain { byte_class (slice_index bytes.now at) ≡ Plain }
+    ensures read { IfOk result (λ p. lexed Between at (drop at bytes.now)
+        ≡ then_piece bytes.now at p.end p.kind (lexed Between p.end (drop p.end bytes.now))) }
+    ensures forward { IfOk result (λ p. at < p.end) }
+    ensures within { IfOk result (λ p. p.end ≤ length bytes.now) }
+    ensures fault { IfErr result (IsFirstFault (lexed Between at (drop at bytes.now))) }
+{
+    let names = name_bytes_end(bytes, at + 1);
+    let end = word_end(bytes, names);
+    if end == names && starts_name(bytes[at]) {
+        Ok(token(end, TokenKind::Word))
+    } else {
+        let kind = word_kind(&bytes[at..end], at as u32)?;
+        Ok(token(end, kind))
+    }
+}
+
 /// The piece that begins at a byte between tokens.
 pub(crate) fn piece_at(bytes: &[u8], at: usize) -> Result<Piece, LexError>
     requires inside { at < length bytes.now }
@@ -54,11 +75,7 @@ pub(crate) fn piece_at(bytes: &[u8], at: usize) -> Result<Piece, LexError>
         }
         Class::Opening => Ok(token(at + 1, TokenKind::Open)),
         Class::Closing => Ok(token(at + 1, TokenKind::Close)),
-        Class::Plain => {
-            let end = word_end(bytes, at);
-            let kind = word_kind(&bytes[at..end], at as u32)?;
-            Ok(token(end, kind))
-        }
+        Class::Plain => word_at(bytes, at),
         Class::Foreign => Err(LexError::BadByte(at as u32)),
     }
 }

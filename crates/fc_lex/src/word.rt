@@ -1,8 +1,9 @@
 //! What words are.
-ghost use Rattle.std.specs.Prelude.{◌≡◌, ◌+◌, ◌≤◌, ◌<◌, ◌↔◌, IsTrue, not, length, IfOk, IfErr, SomeIff, Ok};
-ghost use Rattle.std.specs.List.{list_all, list_any, suffix_len};
+ghost use Rattle.std.specs.Prelude.{◌≡◌, ◌+◌, ◌≤◌, ◌<◌, ◌↔◌, IsTrue, not, length, drop, IfOk, IfErr, SomeIff, Ok};
+ghost use Rattle.std.specs.List.{list_all, list_any, prefix_len, suffix_len};
 ghost use Rattle.std.specs.Str.Parse.{digits_value};
 ghost use Rattle.fc_syntax.specs.Tokens as spec;
+ghost use Rattle.fc_lex.specs.Classes.{starts_names};
 ghost use Rattle.fc_lex.specs.Faults.{IsWordFault};
 
 use crate::LexError;
@@ -30,11 +31,30 @@ fn is_module_byte(byte: u8) -> bool
     matches!(byte, b'a'..=b'z' | b'A'..=b'Z' | b'0'..=b'9' | b'_')
 }
 
+/// For each byte whether it may stand in a name: `s` anywhere, as a letter, `_` or `$`, `n` only after the first, as a digit, `'` or `#`,
+/// and a dot nowhere.
+static IN_NAMES: [u8; 256] = *b"\
+    ................................\
+    ...ns..n........nnnnnnnnnn......\
+    .ssssssssssssssssssssssssss....s\
+    .ssssssssssssssssssssssssss.....\
+    ................................\
+    ................................\
+    ................................\
+    ................................";
+
 /// A byte of a name after its first.
 fn is_name_byte(byte: u8) -> bool
     ensures { result ≡ spec.is_name_byte byte }
 {
-    is_module_byte(byte) || matches!(byte, b'\'' | b'#' | b'$')
+    IN_NAMES[byte as usize] != b'.'
+}
+
+/// Whether a name may start with a byte: a letter, `_` or `$`.
+pub(crate) fn starts_name(byte: u8) -> bool
+    ensures { result ≡ starts_names byte }
+{
+    IN_NAMES[byte as usize] == b's'
 }
 
 /// Whether each byte is a decimal digit.
@@ -56,6 +76,19 @@ fn all_name_bytes(bytes: &[u8]) -> bool
     ensures { result ≡ list_all spec.is_name_byte bytes.now }
 {
     bytes.iter().all(|b| is_name_byte(*b))
+}
+
+/// The first byte from `at` on that may not stand in a name after its first.
+pub(crate) fn name_bytes_end(bytes: &[u8], at: usize) -> usize
+    requires { at ≤ length bytes.now }
+    ensures value { result ≡ at + prefix_len spec.is_name_byte (drop at bytes.now) }
+    ensures within { result ≤ length bytes.now }
+{
+    let mut end = at;
+    while end < bytes.len() && is_name_byte(bytes[end]) {
+        end += 1;
+    }
+    end
 }
 
 /// Whether a word is a lower name, as variables and definitions have: a lower letter, `_` or `$`, then letters, digits, `_`, `'`,

@@ -9,7 +9,7 @@ use Rattle.std.specs.List.{list_all}
 use Rattle.fc_syntax.specs.declared.ty.Name.{Name}
 use Rattle.fc_syntax.specs.Tree.{Word, Kind, KStar, Decl}
 use Rattle.fc_model.specs.Calling.{Constructor, applied_to_variables, con_among, con_decl, constructed_type, first_of, constructor_type, data_name, over_binders, type_count}
-use Rattle.fc_model.specs.Coercing.{Axiom, axiom_decl, axiom_named, family_axiom, newtype_axiom}
+use Rattle.fc_model.specs.Coercing.{Axiom, axiom_decl, family_axiom, newtype_axiom}
 use Rattle.fc_model.specs.CoercionLaws.{HaveOneKind}
 use Rattle.fc_model.specs.Declaring.{ntype_words, nwords_by}
 use Rattle.fc_model.specs.Faulting.{F, at_distance}

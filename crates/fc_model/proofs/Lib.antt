@@ -30,6 +30,7 @@ pub mod ResolvedModulesAre
 pub mod ResolvedMore
 pub mod ResolvedTypesAre
 pub mod Sameness
+mod SharedWords
 pub mod SetWritten
 pub mod Substitutions
 pub mod TypedIs

@@ -8,7 +8,7 @@ use Rattle.fc_syntax.specs.Roles.{role_below}
 use Rattle.fc_syntax.specs.Tree.{Kind, KStar, KHash, KArrow}
 use Rattle.fc_model.specs.Declaring.{ndecl_word, ndeclared_words}
 use Rattle.fc_model.specs.Faulting.{F, need, under, within, and_then}
-use Rattle.fc_model.specs.Kinding.{Modules, HasKind, decls_at, is_family_applied, is_lifted, is_star, is_value_kind, kind_or_fault, param_kinds, same_kind, same_type}
+use Rattle.fc_model.specs.Kinding.{Modules, HasKind, is_family_applied, is_lifted, is_star, is_value_kind, kind_or_fault, param_kinds, same_kind, same_type}
 use Rattle.fc_model.specs.Linting.{Done, done, con_binder_judged, con_binders_judged, con_judged, cons_judged, def_type_judged, def_types_judged, definition_kind, exports_judged, fields_judged}
 use Rattle.fc_model.specs.Linting.{kinds_behind_all, lint_or_fault, right_judged, right_side_judged, rights_judged, roles_judged, type_decl_judged, type_decls_judged, variables_judged}
 use Rattle.fc_model.specs.LintingRules.{AreValueTypes, no_types, one_type, ConHolds, holds_fields, holds_type, holds_coercion, ConsHold, no_cons, one_con, RolesHold, no_roles, one_role}

@@ -1,5 +1,5 @@
 -- A module that resolves mentions only modules that it imports.
-use Rattle.std.proofs.Common.{◌≡◌, true, Bool, ◌&&◌, List, [], ◌∷◌, ◌++◌, Option, Some, None, Ok, refl, ap, ◌∙◌}
+use Rattle.std.proofs.Common.{◌≡◌, true, List, ◌∷◌, ◌++◌, Option, Some, None, Ok, refl, ap, ◌∙◌}
 use Rattle.std.specs.List.{flat_map, list_all}
 use Rattle.std.proofs.lemmas.List.Concat.{flat_map-cons}
 use Rattle.std.proofs.lemmas.List.Folds.{list_all-append}
@@ -7,7 +7,6 @@ use Rattle.fc_syntax.specs.declared.ty.Name.{Name}
 use Rattle.fc_syntax.specs.declared.expr.Head.{Head}
 use Rattle.fc_syntax.specs.declared.fault.FaultKind.TheVariants.{Unbound}
 use Rattle.fc_syntax.specs.Tree.{Word, Ty, Co, Cos, Binder, Arg, Args, Expr, Exprs, Binds, Joins, Alts, ConDecl, ConOf, Decl}
-use Rattle.fc_model.specs.Faulting.{need}
 use Rattle.fc_model.specs.Mentioning.{in_alts, in_arg, in_args, in_binder, in_binds, in_coercion, in_coercions, in_constructor, in_decl, in_expr, in_exprs, in_head, in_joins, in_name, in_type, mentioned_in}
 use Rattle.fc_model.specs.Nameless.{NTy, NCo, NCos, NBinder, NArg, NArgs, NExpr, NExprs, NBinds, NJoins, NAlts, NConDecl, NDecl}
 use Rattle.fc_model.specs.Resolution.{Locals, Top, WordSet, Words, declared_name}

@@ -1,10 +1,10 @@
 -- What resolves among modules resolves alike where modules have more for others.
-use Rattle.std.proofs.Common.{◌≡◌, true, Bool, ◌&&◌, List, Option, Some, None, Result, Ok, refl, sym, ap, ◌∙◌, subst}
+use Rattle.std.proofs.Common.{◌≡◌, true, List, Option, Some, None, Ok, refl, sym, ap, ◌∙◌, subst}
 use Rattle.fc_syntax.specs.declared.ty.Name.{Name}
 use Rattle.fc_syntax.specs.declared.expr.Head.{Head}
 use Rattle.fc_syntax.specs.declared.fault.FaultKind.TheVariants.{NotExported, Unbound}
 use Rattle.fc_syntax.specs.Tree.{Word, Ty, Co, Cos, Binder, Arg, Args, Expr, Exprs, Binds, Joins, Alts, ConDecl, Decl, Module, ModuleOf}
-use Rattle.fc_model.specs.Faulting.{F, and_then, need}
+use Rattle.fc_model.specs.Faulting.{and_then, need}
 use Rattle.fc_model.specs.Nameless.{NTy, NCo, NCos, NBinder, NArg, NArgs, NExpr, NExprs, NBinds, NJoins, NAlts, NConDecl, NDecl, NModule, NModuleOf}
 use Rattle.fc_model.specs.Resolution.{Locals, Offers, Top, WordSet, Words, declared_name, no_words, resolved_among, resolved_decls, top_among}
 use Rattle.fc_model.specs.ResolutionRules.{ResolvesTy, resolves_type_variable, resolves_type_name, resolves_int, resolves_type_application, resolves_function, resolves_forall, resolves_coforall}

@@ -1,5 +1,5 @@
 -- A set that lints does so as it is written: under their written headers its modules import no others, hide more words, and declare the same.
-use Rattle.std.proofs.Common.{◌≡◌, Bool, true, false, not, ◌&&◌, bytes_eq, if◌then◌else◌, All, List, [], ◌∷◌, ◌++◌, Option, Some, None, Result, Ok, Err, map, append-nil, refl, sym, ap, ◌∙◌, subst}
+use Rattle.std.proofs.Common.{◌≡◌, Bool, true, false, not, ◌&&◌, bytes_eq, if◌then◌else◌, List, [], ◌∷◌, ◌++◌, Option, Some, None, Result, Ok, Err, map, append-nil, refl, sym, ap, ◌∙◌, subst}
 use Rattle.std.proofs.Math.Path.{fun_ext}
 use Rattle.std.proofs.lemmas.Bool.{and_parts}
 use Rattle.std.specs.List.{list_all}
@@ -8,11 +8,11 @@ use Rattle.fc_syntax.specs.Tree.{Word, Decl, Module, ModuleOf}
 use Rattle.fc_model.specs.Declaring.{declared_words, ncoercion_words, ndeclared_words, nterm_words, ntype_words, nwords_by}
 use Rattle.fc_model.specs.Faulting.{F, and_then}
 use Rattle.fc_model.specs.Headers.{hidden_of, imports_among, name_of, ndecls_in, others, set_written, words_but, written_among, written_of}
-use Rattle.fc_model.specs.Kinding.{Modules, decls_at, decls_of_module}
-use Rattle.fc_model.specs.Linting.{Done, done, SetLints, InModule, In, declarations_judged, exports_judged, form_before, in_module, module_judged, modules_judged, nameless_forms, offered_by, offers_of, set_judged, told_by}
+use Rattle.fc_model.specs.Kinding.{decls_at, decls_of_module}
+use Rattle.fc_model.specs.Linting.{Done, done, SetLints, InModule, declarations_judged, exports_judged, form_before, in_module, module_judged, modules_judged, nameless_forms, offered_by, offers_of, told_by}
 use Rattle.fc_model.specs.Mentioning.{mentioned_in}
 use Rattle.fc_model.specs.Nameless.{NDecl, NModule, NModuleOf}
-use Rattle.fc_model.specs.Resolution.{WordSet, no_word, no_words, offers_all, plus, plus_all, resolved_among, resolved_decls, resolved_or_fault, top_among, top_of}
+use Rattle.fc_model.specs.Resolution.{WordSet, no_word, no_words, plus, plus_all, resolved_among, resolved_decls, resolved_or_fault, top_among, top_of}
 use Rattle.fc_model.proofs.MentionedImported.{mentioned_are_imported}
 use Rattle.fc_model.proofs.Parts.{and_then_inv, need_inv, ok_ok}
 use Rattle.fc_model.proofs.Resolved.{decls_have_words}

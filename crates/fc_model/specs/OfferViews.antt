@@ -1,5 +1,5 @@
 -- What the tables of what modules have for others say.
-use Rattle.std.specs.Prelude.{◌≡◌, ◌&&◌, ⊤, String, Bool, false, List, Option, Some, None, if◌then◌else◌, [], ◌∷◌}
+use Rattle.std.specs.Prelude.{◌≡◌, ◌&&◌, ⊤, String, false, List, Option, Some, None, if◌then◌else◌, [], ◌∷◌}
 use Rattle.std.specs.Str.{bytes_eq}
 use Rattle.std.specs.HashMap.{get_by_text}
 use Rattle.indexmap.specs.IndexMap.{IndexMap}
@@ -59,3 +59,8 @@ Offered (Some n) None = ⊥
 -- tables are those of the first modules of their names
 abbrev pub AreOffersOf : {Y S : Type 0} → List NModule → IndexMap (String Y) Offer S → Type 0
 AreOffersOf ns table = (w : Word) → Offered (first_named ns w) (get_by_text table w)
+
+-- the tables are those of these modules
+abbrev pub HaveOffers : List NModule → Offers → Type 0
+HaveOffers ns offers.All = ⊥
+HaveOffers ns (offers.Of table) = AreOffersOf ns table

@@ -1,6 +1,6 @@
 -- Laws of typing: what stands in place of variables keeps the types of what it stands in, and what has a type has one of the kind of
 -- values.
-use Rattle.std.specs.Prelude.{◌≡◌, ℕ, All, Bool, true, false, List, [], ◌∷◌, length, Some, Ok}
+use Rattle.std.specs.Prelude.{◌≡◌, ℕ, All, Bool, true, false, List, [], length, Some, Ok}
 use Rattle.fc_syntax.specs.declared.ty.Name.{Name}
 use Rattle.fc_syntax.specs.Tree.{Kind, KStar, Module}
 use Rattle.fc_model.specs.Calling.{Constructor, Given, Takes, binders_to, constructor, constructor_type, is_int, type_count}

@@ -1,11 +1,11 @@
 //! What modules have for others.
-ghost use Rattle.std.specs.Prelude.{◌≡◌, ◌∷◌, List, Some, OnOk, IfOk};
+ghost use Rattle.std.specs.Prelude.{◌≡◌, [], ◌∷◌, ◌++◌, List, Some, OnOk, IfOk};
 ghost use Rattle.std.specs.HashMap.{get_by_text};
 ghost use Rattle.std.specs.Option.{option_map};
 ghost use Rattle.fc_model.specs.Linting.{offers_of};
 ghost use Rattle.fc_model.specs.Nameless as nameless;
 ghost use Rattle.fc_model.specs.NamelessView.{nmodule_of, nmodules_of};
-ghost use Rattle.fc_model.specs.OfferViews.{AreOffersOf, IsOfferOf, offered};
+ghost use Rattle.fc_model.specs.OfferViews.{AreOffersOf, HaveOffers, IsOfferOf, offered};
 ghost use Rattle.fc_syntax.specs.Tree as trees;
 
 use crate::declared::{Spaces, spaces_of};
@@ -55,6 +55,19 @@ fn put_offer(alloc: Global, offers: &mut IndexMap<String, Offer>, m: &NModule) -
     Ok(())
 }
 
+/// Puts what a module has for others in, if no module of its name was put in before.
+fn put_first(alloc: Global, offers: &mut IndexMap<String, Offer>, m: &NModule) -> Result<(), Memory>
+    ensures { OnOk result ((ns : List nameless.NModule) → AreOffersOf ns offers.old → AreOffersOf (ns ++ nmodule_of m.now ∷ []) offers.new) }
+{
+    if offers.get(m.name.as_str()).is_some() {
+        return Ok(());
+    }
+    let offer = Offer::of_module(alloc, m)?;
+    let name = String::from_str(alloc, m.name.as_str())?;
+    offers.insert(name, offer)?;
+    Ok(())
+}
+
 /// The tables of modules by their names; where several have one name, that of the first.
 fn offers_by_name(alloc: Global, modules: &[NModule]) -> Result<IndexMap<String, Offer>, Memory>
     ensures { IfOk result (λ table. AreOffersOf (nmodules_of modules.now) table) }
@@ -86,6 +99,24 @@ impl Offers {
     {
         let offers = offers_by_name(alloc, modules)?;
         Ok(Offers::Of(offers))
+    }
+
+    /// What no module has.
+    pub fn none(alloc: Global) -> Offers
+        ensures { HaveOffers [] result }
+    {
+        Offers::Of(IndexMap::new(alloc))
+    }
+
+    /// Puts what one module more has in, behind those before it: where a module of its name was put in before, that one counts. Of whatever all
+    /// modules have, nothing changes. Where memory runs out, what the modules before have is left.
+    pub fn add(&mut self, alloc: Global, m: &NModule) -> Result<(), Memory>
+        ensures { OnOk result ((ns : List nameless.NModule) → HaveOffers ns self.old → HaveOffers (ns ++ nmodule_of m.now ∷ []) self.new) }
+    {
+        match self {
+            Offers::All => Ok(()),
+            Offers::Of(offers) => put_first(alloc, offers, m),
+        }
     }
 
     /// Whether what a name says stands for a type that its module has for others; whatever a name without a module says.

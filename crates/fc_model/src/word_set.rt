@@ -5,11 +5,12 @@ ghost use Rattle.fc_model.specs.Resolution.{no_word, plus, plus_all};
 use fc_syntax::{Memory, Text};
 use indexmap::IndexSet;
 use std::alloc::Global;
+use std::rc::RcStr;
 
-/// A set of words, in which a word is found in constant time.
+/// A set of words, in which a word is found in constant time. It shares the bytes of its words with the texts that they were put in from.
 #[derive(Drop)]
 pub struct WordSet {
-    words: IndexSet<String>,
+    words: IndexSet<RcStr>,
 }
 
 impl WordSet {
@@ -35,11 +36,11 @@ impl WordSet {
 
     /// Puts a word in. Where memory runs out, the set is as before.
     #[tactic(auto, unfolding(crate::specs::WordSets::set_of))]
-    pub fn add(&mut self, alloc: Global, word: &Text) -> Result<(), Memory>
+    pub fn add(&mut self, _alloc: Global, word: &Text) -> Result<(), Memory>
         ensures ok { OnOk result (set_of self.new ≡ plus word.now (set_of self.old)) }
         ensures err { OnErr result (set_of self.new ≡ set_of self.old) }
     {
-        let word = String::from_str(alloc, word.as_str())?;
+        let word = word.shared()?;
         self.words.insert(word)?;
         Ok(())
     }

@@ -2,4 +2,3 @@ mod Listed
 mod Mentioning
 mod Numbered
 mod Reached
-mod Searching

@@ -1,5 +1,5 @@
 -- What a definition reaches by words is what its number leads to in the graph of mentions.
-use Rattle.std.proofs.Common.{◌≡◌, ◌∙◌, ◌+◌, ◌<◌, ◌&&◌, ◌||◌, ℕ, suc, Bool, true, false, nat_eq, bytes_eq, if◌then◌else◌, List, [], ◌∷◌, get_or, inl, inr, length, Option, Some, None, refl, sym, ap, subst, arith}
+use Rattle.std.proofs.Common.{◌≡◌, ◌∙◌, ◌+◌, ◌<◌, ◌&&◌, ◌||◌, ℕ, zero, suc, Bool, true, false, nat_eq, bytes_eq, if◌then◌else◌, List, [], ◌∷◌, get_or, inl, inr, length, Option, Some, None, refl, sym, ap, subst, arith}
 use Rattle.std.specs.List.{cons_option, filter, filter_map, list_any}
 use Rattle.std.specs.Option.{option_map_or}
 use Rattle.std.proofs.lemmas.Bool.{or_cases}
@@ -9,10 +9,11 @@ use Rattle.fc_syntax.specs.Tree.{Word}
 use Rattle.fc_model.proofs.Sameness.{bytes_eq_eq, bytes_eq_refl, false_true, name_of, nat_eq_eq, nat_eq_refl}
 use Rattle.fc_model.specs.Kinding.{same_name, same_word}
 use Rattle.fc_model.specs.Nameless.{NExpr, NDecl, NData, NNew, NFamily, NAxiom, NDef, NWrap, NModule, NModuleOf}
-use Rattle.fc_reaching.specs.Graphs.{HasPath, IsEdge, edge_then, is_in, is_marked, last_edge, next_of}
+use Rattle.fc_graph.specs.Graphs.{AreOnCycles, HasPath, IsEdge, edge_then, is_in, is_marked, last_edge, next_of}
 use Rattle.fc_reaching.specs.Numbering.{AreFound, has_mark, meant_in, mention_graph, names_of_decl, number_from, number_in, number_meant}
 use Rattle.fc_reaching.specs.Reaching.{AreReached, MentionsDefinition, ReachesDefinition, at_once, decls_in, defined_words, names_in, right_side, through}
-use Rattle.fc_reaching.proofs.Searching.{by_test}
+use Rattle.fc_reaching.specs.Recursion.{AreRecursive, IsRecursive}
+use Rattle.fc_graph.proofs.Searching.{by_test}
 
 -- THE FIRST DEFINITION OF A WORD
 
@@ -254,6 +255,33 @@ module _ (own : Word) (imports exports hidden : List Word) (ds : List NDecl) whe
   none_reached v h (at_once u w d) = let i = has_number ds 0 u d.right d.defined in absurd cc
   none_reached v h (through t u w d r) = let i = has_number ds 0 u d.right d.defined in absurd cc
 
+  -- what an edge leads to is the number of a word
+  edge_word : (rest : List NDecl) (i j : ℕ) → is_in j (next_of (mention_graph meant rest) i) ≡ true → (w : Word) × (number w ≡ Some j)
+  edge_word [] i j h = false_true h
+  edge_word (d ∷ rest) zero j h = word_meant own ds j (names_of_decl d) h
+  edge_word (d ∷ rest) (suc i) j h = edge_word rest i j h
+
+  path_word : {i j : ℕ} → HasPath graph i j → (w : Word) × (number w ≡ Some j)
+  path_word (last_edge i j e) = edge_word ds i j e.listed
+  path_word (edge_then h i j e p) = path_word p
+
+  cycle_recursive : (k : ℕ) → HasPath graph k k → IsRecursive m k
+  cycle_recursive k p =
+      let v = path_word p in
+      let r = path_reaches p v.0 v.1 in
+      record { word = v.0; first = v.1; reached = subst (λ u. ReachesDefinition m v.0 u) (one_word ds k r.0 v.0 r.1 v.1) r.2 }
+
+  recursive_cycle : (k : ℕ) → IsRecursive m k → HasPath graph k k
+  recursive_cycle k r =
+      let p = reaches_path r.reached k r.first in
+      subst (λ j. HasPath graph k j) (some_some p.0 k (sym p.1 ∙ r.first)) p.2
+
+  are_recursive : (marks : List Bool) → AreOnCycles graph marks → AreRecursive m marks
+  are_recursive marks a = record {
+    count = a.count ∙ length-map ds (λ (d : NDecl). filter_map meant (names_of_decl d));
+    recursive = λ k. (λ h. cycle_recursive k ((a.on_cycle k).0 h), λ r. (a.on_cycle k).1 (recursive_cycle k r));
+  }
+
 filter_none : (ws : List Word) → filter (λ w. false) ws ≡ []
 filter_none [] = refl
 filter_none (w ∷ ws) = filter_none ws
@@ -282,3 +310,13 @@ none_in (NModuleOf own imports exports hidden ds) v ws h empty = record {
 -- a word without a definition reaches none
 pub nothing_reached : (m : NModule) (number : Word → Option ℕ) → number ≡ number_in m → (v : Word) (ws : List Word) → number v ≡ None → ws ≡ [] → AreReached m v ws
 nothing_reached m number same v ws h empty = none_in m v ws (sym (ap (λ f. f v) same) ∙ h) empty
+
+recursive_in : (m : NModule) (marks : List Bool) → AreOnCycles (mention_graph (meant_in m) (decls_in m)) marks → AreRecursive m marks
+recursive_in (NModuleOf own imports exports hidden ds) marks a = are_recursive own imports exports hidden ds marks a
+
+-- the definitions whose numbers lie on a cycle are those that reach themselves
+pub cycles_recursive : (m : NModule) (meant : Name → Option ℕ) (ds : List NDecl) (graph : List (List ℕ)) (marks : List Bool) → meant ≡ meant_in m → ds ≡ decls_in m
+    → graph ≡ mention_graph meant ds → AreOnCycles graph marks → AreRecursive m marks
+cycles_recursive m meant ds graph marks same_meant same_decls is a =
+    let same : graph ≡ mention_graph (meant_in m) (decls_in m) = is ∙ ap (λ f. mention_graph f ds) same_meant ∙ ap (mention_graph (meant_in m)) same_decls in
+    recursive_in m marks (subst (λ g. AreOnCycles g marks) same a)

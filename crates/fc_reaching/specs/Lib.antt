@@ -1,4 +1,4 @@
 pub mod DefinitionsView
-pub mod Graphs
 pub mod Numbering
 pub mod Reaching
+pub mod Recursion

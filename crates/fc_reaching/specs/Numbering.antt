@@ -8,7 +8,7 @@ use Rattle.fc_syntax.specs.declared.ty.Name.{Name}
 use Rattle.fc_syntax.specs.Tree.{Word}
 use Rattle.fc_model.specs.Kinding.{same_word}
 use Rattle.fc_model.specs.Nameless.{NDecl, NData, NNew, NFamily, NAxiom, NDef, NWrap, NModule, NModuleOf}
-use Rattle.fc_reaching.specs.Graphs.{AreMarked, is_marked}
+use Rattle.fc_graph.specs.Graphs.{AreMarked, is_marked}
 use Rattle.fc_reaching.specs.Reaching.{decls_in, defined_words, names_in}
 use denote.Ref.{Bor}
 

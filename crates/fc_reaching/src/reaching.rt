@@ -7,8 +7,8 @@ ghost use Rattle.fc_reaching.specs.Numbering.{AreFound, has_mark, mention_graph,
 ghost use Rattle.fc_reaching.specs.Reaching.{AreReached, defined_words};
 
 use crate::definitions::Definitions;
-use crate::graph::reached;
 use crate::mentions::mention_decl;
+use fc_graph::reached;
 use fc_syntax::{Memory, NDecl, NModule, Seq, Text};
 use std::alloc::Global;
 
@@ -22,7 +22,7 @@ fn mentions_in(alloc: Global, definitions: &Definitions, decl: &NDecl) -> Result
 }
 
 /// The numbers of the definitions that each declaration mentions.
-fn graph_of(
+pub(crate) fn graph_of(
     alloc: Global,
     definitions: &Definitions,
     decls: &[NDecl],

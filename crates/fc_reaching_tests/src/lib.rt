@@ -4,4 +4,6 @@
 #[cfg(test)]
 mod by_hand;
 #[cfg(test)]
+mod recursion;
+#[cfg(test)]
 mod tests;

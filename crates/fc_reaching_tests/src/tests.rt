@@ -12,7 +12,7 @@ use std::test::Fail;
 type Row<'a> = (&'a [u8], &'a str, &'a str);
 
 /// The nameless form of a module of the data type and definitions.
-fn nameless(alloc: Global, definitions: &[u8]) -> Result<NModule, Fail> {
+pub(crate) fn nameless(alloc: Global, definitions: &[u8]) -> Result<NModule, Fail> {
     let mut text = Vec::new(alloc);
     text.extend_from_slice(b"(module M (imports) (exports) (data T () (K ()) (L () T)) ")?;
     text.extend_from_slice(definitions)?;

@@ -6,8 +6,8 @@ mod terminal;
 mod words;
 
 pub use parts::{
-    Stop, Tokens, closes, name_in, opens_hidden, plain_name, read_close, read_equality_role,
-    read_lower, read_module_name, read_name, read_number, read_open, read_operator, read_role,
-    read_upper, read_upper_name, read_word, takes_co, takes_type,
+    Stop, Tokens, closes, opens_hidden, read_close, read_equality_role, read_lower,
+    read_module_name, read_name, read_number, read_open, read_operator, read_role, read_upper,
+    read_upper_name, read_word, takes_co, takes_type,
 };
 pub use terminal::{Terminal, terminals};

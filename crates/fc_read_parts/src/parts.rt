@@ -29,7 +29,7 @@ ghost use Rattle.fc_read_parts.specs.declared.parts.Stop.TheVariants.{Memory as 
 
 use crate::terminal::Terminal;
 use fc_lex::is_module_part;
-use fc_syntax::{Keyword, Memory, Name, PrimOp, Role, Text};
+use fc_syntax::{Keyword, Memory, Name, PrimOp, Role, Text, WordTable};
 use std::alloc::Global;
 
 /// Why a reader stopped.
@@ -49,18 +49,52 @@ impl From<Memory> for Stop {
     }
 }
 
-/// The tokens that are still to be read.
+/// The tokens that are still to be read, and the words that were made of those before.
 #[derive(Debug, Drop)]
 pub struct Tokens<'a> {
     rest: &'a [Terminal<'a>],
+    words: WordTable,
 }
 
 impl<'a> Tokens<'a> {
-    /// All of these tokens.
-    pub fn new(tokens: &'a [Terminal<'a>]) -> Tokens<'a>
+    /// All of these tokens, of which no word was made yet.
+    pub fn new(alloc: Global, tokens: &'a [Terminal<'a>]) -> Tokens<'a>
         ensures { ahead result ≡ seen_all tokens.now }
     {
-        Tokens { rest: tokens }
+        Tokens {
+            rest: tokens,
+            words: WordTable::new(alloc),
+        }
+    }
+
+    /// A word as text, which shares its bytes with those that were made of it before. Fails only where memory runs out.
+    pub fn text(&mut self, alloc: Global, word: &str) -> Result<Text, Memory>
+        ensures text { IfOk result (λ t. t ≡ word.now) }
+        ensures ahead { ahead self.new ≡ ahead self.old }
+    {
+        self.words.text(alloc, word)
+    }
+
+    /// A word without a dot, as a name. Fails only where memory runs out.
+    pub fn plain_name(&mut self, alloc: Global, word: &str) -> Result<Name, Memory>
+        ensures name { IfOk result (λ n. n ≡ spec_plain_name word.now) }
+        ensures ahead { ahead self.new ≡ ahead self.old }
+    {
+        let text = self.text(alloc, word)?;
+        Ok(Name { module: None, text })
+    }
+
+    /// A name of a module. Fails only where memory runs out.
+    pub fn name_in(&mut self, alloc: Global, front: &str, word: &str) -> Result<Name, Memory>
+        ensures name { IfOk result (λ n. n ≡ spec_name_in front.now word.now) }
+        ensures ahead { ahead self.new ≡ ahead self.old }
+    {
+        let module = self.text(alloc, front)?;
+        let text = self.text(alloc, word)?;
+        Ok(Name {
+            module: Some(module),
+            text,
+        })
     }
 
     /// How many tokens are ahead.
@@ -205,7 +239,7 @@ pub fn read_lower(alloc: Global, tokens: &mut Tokens<'_>) -> Result<Text, Stop>
 {
     let left = tokens.left();
     match tokens.next() {
-        Some(Terminal::Lower(word)) => Ok(Text::from_str(alloc, word)?),
+        Some(Terminal::Lower(word)) => Ok(tokens.text(alloc, word)?),
         _ => Err(Stop::Form(left)),
     }
 }
@@ -218,7 +252,7 @@ pub fn read_upper(alloc: Global, tokens: &mut Tokens<'_>) -> Result<Text, Stop>
 {
     let left = tokens.left();
     match tokens.next() {
-        Some(Terminal::Upper(word)) => Ok(Text::from_str(alloc, word)?),
+        Some(Terminal::Upper(word)) => Ok(tokens.text(alloc, word)?),
         _ => Err(Stop::Form(left)),
     }
 }
@@ -231,8 +265,8 @@ pub fn read_name(alloc: Global, tokens: &mut Tokens<'_>) -> Result<Text, Stop>
 {
     let left = tokens.left();
     match tokens.next() {
-        Some(Terminal::Lower(word)) => Ok(Text::from_str(alloc, word)?),
-        Some(Terminal::Upper(word)) => Ok(Text::from_str(alloc, word)?),
+        Some(Terminal::Lower(word)) => Ok(tokens.text(alloc, word)?),
+        Some(Terminal::Upper(word)) => Ok(tokens.text(alloc, word)?),
         _ => Err(Stop::Form(left)),
     }
 }
@@ -256,33 +290,13 @@ pub fn read_module_name(alloc: Global, tokens: &mut Tokens<'_>) -> Result<Text, 
     let left = tokens.left();
     match tokens.next() {
         Some(Terminal::Upper(word)) if is_module_part(word.as_bytes()) => {
-            Ok(Text::from_str(alloc, word)?)
+            Ok(tokens.text(alloc, word)?)
         }
         Some(Terminal::UpperOf(front, word)) if is_module_part(word.as_bytes()) => {
             Ok(dotted(alloc, front, word)?)
         }
         _ => Err(Stop::Form(left)),
     }
-}
-
-/// A word without a dot, as a name.
-pub fn plain_name(alloc: Global, word: &str) -> Result<Name, Memory>
-    ensures { IfOk result (λ n. n ≡ spec_plain_name word.now) }
-{
-    Ok(Name {
-        module: None,
-        text: Text::from_str(alloc, word)?,
-    })
-}
-
-/// A name of a module.
-pub fn name_in(alloc: Global, front: &str, word: &str) -> Result<Name, Memory>
-    ensures { IfOk result (λ n. n ≡ spec_name_in front.now word.now) }
-{
-    Ok(Name {
-        module: Some(Text::from_str(alloc, front)?),
-        text: Text::from_str(alloc, word)?,
-    })
 }
 
 /// Reads an upper name, which may be one of a module. Stops at any other token.
@@ -293,8 +307,8 @@ pub fn read_upper_name(alloc: Global, tokens: &mut Tokens<'_>) -> Result<Name, S
 {
     let left = tokens.left();
     match tokens.next() {
-        Some(Terminal::Upper(word)) => Ok(plain_name(alloc, word)?),
-        Some(Terminal::UpperOf(front, word)) => Ok(name_in(alloc, front, word)?),
+        Some(Terminal::Upper(word)) => Ok(tokens.plain_name(alloc, word)?),
+        Some(Terminal::UpperOf(front, word)) => Ok(tokens.name_in(alloc, front, word)?),
         _ => Err(Stop::Form(left)),
     }
 }

@@ -1,7 +1,7 @@
 //! What tokens are to the grammar.
-ghost use Rattle.std.specs.Prelude.{◌≡◌, ◌≤◌, length, true, IfOk};
+ghost use Rattle.std.specs.Prelude.{◌≡◌, ◌≤◌, length, true, false, None, IfOk};
 ghost use Rattle.fc_syntax.specs.Tokens.{AreSlices, is_module_name as spec_is_module_name, is_plain_name, lexeme_of};
-ghost use Rattle.fc_model.specs.Words.{dotted_tok, name_tok, name_in_tok, tok_of, toks, undotted_tok, word_tok, keyword_of as spec_keyword_of};
+ghost use Rattle.fc_model.specs.Words.{dotted_tok, name_in_tok, tok_of, toks, word_tok, keyword_of as spec_keyword_of};
 ghost use Rattle.fc_read_parts.specs.Seen.{seen, seen_all};
 
 use crate::words::{keyword_of, sign_of};
@@ -67,32 +67,6 @@ fn module_text(word: &[u8]) -> &str
     }
 }
 
-/// What a word is that is no word of a form, no sign and has no dot.
-fn terminal_of_name(word: &[u8]) -> Terminal<'_>
-    ensures { seen result ≡ name_tok word.now }
-{
-    if is_lower_name(word) {
-        Terminal::Lower(name_text(word))
-    } else if is_upper_name(word) {
-        Terminal::Upper(name_text(word))
-    } else {
-        Terminal::Other
-    }
-}
-
-/// What a word without a dot is.
-fn terminal_of_undotted(word: &[u8]) -> Terminal<'_>
-    ensures { seen result ≡ undotted_tok (spec_keyword_of word.now) word.now }
-{
-    if let Some(key) = keyword_of(word) {
-        return Terminal::Key(key);
-    }
-    match sign_of(word) {
-        Some(sign) => sign,
-        None => terminal_of_name(word),
-    }
-}
-
 /// What a word behind the dot of a module is.
 fn terminal_in_module<'a>(front: &'a [u8], word: &'a [u8]) -> Terminal<'a>
     requires { spec_is_module_name front.now ≡ true }
@@ -117,15 +91,45 @@ fn terminal_of_dotted<'a>(front: &'a [u8], word: &'a [u8]) -> Terminal<'a>
     }
 }
 
+/// What a word is that is no word of a form and no name without a dot.
+fn terminal_of_other(word: &[u8]) -> Terminal<'_>
+    requires no_keyword { spec_keyword_of word.now ≡ None }
+    requires no_name { is_plain_name word.now ≡ false }
+    ensures { seen result ≡ word_tok word.now }
+{
+    let start = last_part(word);
+    if start > 0 {
+        terminal_of_dotted(&word[..start - 1], &word[start..])
+    } else {
+        match sign_of(word) {
+            Some(sign) => sign,
+            None => Terminal::Other,
+        }
+    }
+}
+
+/// What a word is that is no word of a form.
+#[tactic(auto, using(crate::proofs::Names::name_rules))]
+fn terminal_of_name(word: &[u8]) -> Terminal<'_>
+    requires { spec_keyword_of word.now ≡ None }
+    ensures { seen result ≡ word_tok word.now }
+{
+    if is_lower_name(word) {
+        Terminal::Lower(name_text(word))
+    } else if is_upper_name(word) {
+        Terminal::Upper(name_text(word))
+    } else {
+        terminal_of_other(word)
+    }
+}
+
 /// What a word is.
 fn terminal_of_word(word: &[u8]) -> Terminal<'_>
     ensures { seen result ≡ word_tok word.now }
 {
-    let start = last_part(word);
-    if start == 0 {
-        terminal_of_undotted(word)
-    } else {
-        terminal_of_dotted(&word[..start - 1], &word[start..])
+    match keyword_of(word) {
+        Some(key) => Terminal::Key(key),
+        None => terminal_of_name(word),
     }
 }
 
@@ -145,6 +149,7 @@ fn terminal_of<'a>(bytes: &'a [u8], token: &Token) -> Terminal<'a>
 }
 
 /// What the tokens of a text are, each found once. Fails only where memory runs out.
+#[inline(never)]
 pub fn terminals<'a>(
     alloc: Global,
     bytes: &'a [u8],
@@ -153,7 +158,7 @@ pub fn terminals<'a>(
     requires { AreSlices bytes.now tokens.now }
     ensures { IfOk result (λ ts. seen_all ts ≡ toks bytes.now tokens.now) }
 {
-    let mut all = Seq::new(alloc);
+    let mut all = Seq::with_capacity(alloc, tokens.len())?;
     for token in tokens {
         all.push(terminal_of(bytes, token))?;
     }

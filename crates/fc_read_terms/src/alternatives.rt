@@ -9,9 +9,7 @@ ghost use Rattle.fc_read_parts.specs.Reading.{StopsAt, Takes};
 ghost use Rattle.fc_read_parts.specs.Seen.{ahead};
 
 use crate::expressions::read_expression;
-use fc_read_parts::{
-    Stop, Terminal, Tokens, closes, name_in, plain_name, read_close, read_lower, read_open,
-};
+use fc_read_parts::{Stop, Terminal, Tokens, closes, read_close, read_lower, read_open};
 use fc_read_types::{read_binders, read_type};
 use fc_syntax::{Alt, Binder, Expr, Head, Keyword, Seq};
 use std::alloc::Global;
@@ -82,7 +80,7 @@ fn read_alternative_form(alloc: Global, tokens: &mut Tokens<'_>) -> Result<Alt, 
             Ok(branch(Head::Lit(n), Seq::new(alloc), body))
         }
         Some(Terminal::Upper(word)) => {
-            let name = plain_name(alloc, word)?;
+            let name = tokens.plain_name(alloc, word)?;
             read_open(tokens)?;
             let binders = read_binders(alloc, tokens)?;
             let body = read_expression(alloc, tokens)?;
@@ -90,7 +88,7 @@ fn read_alternative_form(alloc: Global, tokens: &mut Tokens<'_>) -> Result<Alt, 
             Ok(branch(Head::Con(name), binders, body))
         }
         Some(Terminal::UpperOf(front, word)) => {
-            let name = name_in(alloc, front, word)?;
+            let name = tokens.name_in(alloc, front, word)?;
             read_open(tokens)?;
             let binders = read_binders(alloc, tokens)?;
             let body = read_expression(alloc, tokens)?;

@@ -13,8 +13,8 @@ use crate::trees::{
     applied_to, construction, failure, jump, lambdas, literal, primitive, variable,
 };
 use fc_read_parts::{
-    Stop, Terminal, Tokens, closes, name_in, plain_name, read_close, read_lower, read_open,
-    read_operator, read_upper_name, takes_co, takes_type,
+    Stop, Terminal, Tokens, closes, read_close, read_lower, read_open, read_operator,
+    read_upper_name, takes_co, takes_type,
 };
 use fc_read_types::{read_coercion, read_some_binders, read_type};
 use fc_syntax::{Arg, Expr, Keyword, Seq};
@@ -30,8 +30,8 @@ pub fn read_expression(alloc: Global, tokens: &mut Tokens<'_>) -> Result<Expr, S
 {
     let left = tokens.left();
     match tokens.next() {
-        Some(Terminal::Lower(word)) => Ok(variable(plain_name(alloc, word)?)),
-        Some(Terminal::LowerOf(front, word)) => Ok(variable(name_in(alloc, front, word)?)),
+        Some(Terminal::Lower(word)) => Ok(variable(tokens.plain_name(alloc, word)?)),
+        Some(Terminal::LowerOf(front, word)) => Ok(variable(tokens.name_in(alloc, front, word)?)),
         Some(Terminal::Literal(n)) => Ok(literal(n)),
         Some(Terminal::Open) => read_expression_form(alloc, tokens),
         _ => Err(Stop::Form(left)),
@@ -170,9 +170,9 @@ fn read_argument(alloc: Global, tokens: &mut Tokens<'_>) -> Result<Arg, Stop>
 {
     let left = tokens.left();
     match tokens.next() {
-        Some(Terminal::Lower(word)) => Ok(Arg::Term(variable(plain_name(alloc, word)?))),
+        Some(Terminal::Lower(word)) => Ok(Arg::Term(variable(tokens.plain_name(alloc, word)?))),
         Some(Terminal::LowerOf(front, word)) => {
-            Ok(Arg::Term(variable(name_in(alloc, front, word)?)))
+            Ok(Arg::Term(variable(tokens.name_in(alloc, front, word)?)))
         }
         Some(Terminal::Literal(n)) => Ok(Arg::Term(literal(n))),
         Some(Terminal::Open) => read_argument_form(alloc, tokens),

@@ -10,7 +10,7 @@ ghost use Rattle.fc_read_parts.specs.Seen.{ahead};
 use crate::kinds::read_kind;
 use crate::types::read_type;
 use fc_read_parts::{Stop, Terminal, Tokens, closes, read_close, read_equality_role, read_lower};
-use fc_syntax::{Binder, Keyword, Seq, Text};
+use fc_syntax::{Binder, Keyword, Seq};
 use std::alloc::Global;
 
 /// Reads a binder. Stops at the first token that cannot go on.
@@ -36,7 +36,7 @@ fn read_binder_form(alloc: Global, tokens: &mut Tokens<'_>) -> Result<Binder, St
     let left = tokens.left();
     match tokens.next() {
         Some(Terminal::Lower(word)) => {
-            let name = Text::from_str(alloc, word)?;
+            let name = tokens.text(alloc, word)?;
             let t = read_type(alloc, tokens)?;
             read_close(tokens)?;
             Ok(Binder::Value(name, t))

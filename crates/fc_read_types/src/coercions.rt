@@ -62,7 +62,7 @@ pub fn read_coercion(alloc: Global, tokens: &mut Tokens<'_>) -> Result<Co, Stop>
 {
     let left = tokens.left();
     match tokens.next() {
-        Some(Terminal::Lower(word)) => Ok(variable(Text::from_str(alloc, word)?)),
+        Some(Terminal::Lower(word)) => Ok(variable(tokens.text(alloc, word)?)),
         Some(Terminal::Open) => read_coercion_form(alloc, tokens),
         _ => Err(Stop::Form(left)),
     }

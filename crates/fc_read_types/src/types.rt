@@ -10,8 +10,7 @@ ghost use Rattle.fc_read_parts.specs.Seen.{ahead};
 
 use crate::kinds::read_kind;
 use fc_read_parts::{
-    Stop, Terminal, Tokens, closes, name_in, plain_name, read_close, read_equality_role,
-    read_lower, read_open,
+    Stop, Terminal, Tokens, closes, read_close, read_equality_role, read_lower, read_open,
 };
 use fc_syntax::{Keyword, Memory, Name, Seq, Text, Ty};
 use std::alloc::Global;
@@ -73,9 +72,11 @@ pub fn read_type(alloc: Global, tokens: &mut Tokens<'_>) -> Result<Ty, Stop>
 {
     let left = tokens.left();
     match tokens.next() {
-        Some(Terminal::Lower(word)) => Ok(variable(Text::from_str(alloc, word)?)),
-        Some(Terminal::Upper(word)) => Ok(constructor(plain_name(alloc, word)?)),
-        Some(Terminal::UpperOf(front, word)) => Ok(constructor(name_in(alloc, front, word)?)),
+        Some(Terminal::Lower(word)) => Ok(variable(tokens.text(alloc, word)?)),
+        Some(Terminal::Upper(word)) => Ok(constructor(tokens.plain_name(alloc, word)?)),
+        Some(Terminal::UpperOf(front, word)) => Ok(constructor(tokens.name_in(
+            alloc, front, word,
+        )?)),
         Some(Terminal::Key(Keyword::IntHash)) => Ok(integer()),
         Some(Terminal::Open) => read_type_form(alloc, tokens),
         _ => Err(Stop::Form(left)),
@@ -96,17 +97,17 @@ fn read_type_form(alloc: Global, tokens: &mut Tokens<'_>) -> Result<Ty, Stop>
         Some(Terminal::Key(Keyword::Forall)) => read_for_all(alloc, tokens),
         Some(Terminal::Key(Keyword::CoForall)) => read_for_all_coercions(alloc, tokens),
         Some(Terminal::Lower(word)) => {
-            let head = variable(Text::from_str(alloc, word)?);
+            let head = variable(tokens.text(alloc, word)?);
             let types = read_some_types(alloc, tokens)?;
             Ok(applied_to(alloc, head, types)?)
         }
         Some(Terminal::Upper(word)) => {
-            let head = constructor(plain_name(alloc, word)?);
+            let head = constructor(tokens.plain_name(alloc, word)?);
             let types = read_some_types(alloc, tokens)?;
             Ok(applied_to(alloc, head, types)?)
         }
         Some(Terminal::UpperOf(front, word)) => {
-            let head = constructor(name_in(alloc, front, word)?);
+            let head = constructor(tokens.name_in(alloc, front, word)?);
             let types = read_some_types(alloc, tokens)?;
             Ok(applied_to(alloc, head, types)?)
         }

@@ -7,6 +7,7 @@ ghost use Rattle.fc_reader.specs.Nested.{IsDeepBefore, IsPart, IsTooDeep, StepsT
 
 use fc_read_parts::{Terminal, Tokens};
 use fc_syntax::Limits;
+use std::alloc::Global;
 
 /// The level behind a token, none where it is a bracket that nests too deep.
 fn level_behind(token: Terminal<'_>, level: usize) -> Option<usize>
@@ -28,13 +29,13 @@ fn level_behind(token: Terminal<'_>, level: usize) -> Option<usize>
 }
 
 /// How many tokens stand behind the first bracket that nests too deep.
-fn behind_deep_bracket(tokens: &[Terminal<'_>]) -> Option<usize>
+fn behind_deep_bracket(alloc: Global, tokens: &[Terminal<'_>]) -> Option<usize>
     ensures none { IfNone result (NestsWithin (seen_all tokens.now)) }
     ensures some { IfSome result (λ n. IsDeepBefore (seen_all tokens.now) n) }
     ensures inside { IfSome result (λ n. n < length tokens.now) }
 {
     let mut level = 0;
-    let mut rest = Tokens::new(tokens);
+    let mut rest = Tokens::new(alloc, tokens);
     'each: loop {
         let Some(token) = rest.next() else {
             return None;
@@ -48,10 +49,13 @@ fn behind_deep_bracket(tokens: &[Terminal<'_>]) -> Option<usize>
 
 /// The tokens up to and with the first bracket that nests too deep, and whether there is one. The readers work on these alone,
 /// so that they never go deeper.
-pub fn up_to_deep_bracket<'a, 'b>(tokens: &'b [Terminal<'a>]) -> (&'b [Terminal<'a>], bool)
+pub fn up_to_deep_bracket<'a, 'b>(
+    alloc: Global,
+    tokens: &'b [Terminal<'a>],
+) -> (&'b [Terminal<'a>], bool)
     ensures { IsPart (seen_all tokens.now) (seen_all result.0.now) result.1 }
 {
-    match behind_deep_bracket(tokens) {
+    match behind_deep_bracket(alloc, tokens) {
         None => (tokens, false),
         Some(behind) => (&tokens[..tokens.len() - behind], true),
     }

@@ -26,7 +26,7 @@ fn read_whole(alloc: Global, tokens: &[Terminal<'_>], room: u32) -> Result<Modul
     ensures within { IfOk result (λ m. decls_within room (module_of m) ≡ true) }
     ensures fault { IfErr result (RefusesModule room (seen_all tokens.now)) }
 {
-    let mut rest = Tokens::new(tokens);
+    let mut rest = Tokens::new(alloc, tokens);
     let m = read_module_form(alloc, &mut rest, room)?;
     let left = rest.left();
     if left > 0 {
@@ -57,7 +57,7 @@ pub(crate) fn read_tokens(
     ensures found { IfOk result (λ m. ReadsTo room bytes.now (module_of m)) }
     ensures fault { IfErr result (IsReadRefusal room file.now bytes.now) }
 {
-    let (part, deep) = up_to_deep_bracket(terminals);
+    let (part, deep) = up_to_deep_bracket(alloc, terminals);
     match read_whole(alloc, part, room) {
         Err(Halt::Stop(Stop::Memory)) => Err(Refusal::Memory),
         Err(Halt::Stop(Stop::Form(left))) => {

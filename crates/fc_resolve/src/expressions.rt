@@ -69,34 +69,34 @@ pub fn resolved_expr<'x>(
         Expr::Var(name) => variable(alloc, top, &*scope, name),
         Expr::Lit(n) => Ok(NExpr::Lit(*n)),
         Expr::App(f, a) => {
-            let f = expr_part(alloc, top, &*scope, f, part::HEAD)?;
-            let a = arg_part(alloc, top, &*scope, a, part::ARGUMENT)?;
-            Ok(NExpr::App(boxed(alloc, f)?, boxed(alloc, a)?))
+            let f = boxed_part(alloc, top, &*scope, f, part::HEAD)?;
+            let a = boxed_arg(alloc, top, &*scope, a, part::ARGUMENT)?;
+            Ok(NExpr::App(f, a))
         }
         Expr::Lam(binder, e) => {
             let b = first_binder(alloc, top, &*scope, binder)?;
             let e = below(alloc, top, &*scope, e, binder)?;
-            Ok(NExpr::Lam(boxed(alloc, b)?, boxed(alloc, e)?))
+            Ok(NExpr::Lam(boxed(alloc, b)?, e))
         }
         Expr::Let(recursive, binds, e) => {
             let binds = binds.as_slice();
             let names = bind_names(alloc, binds)?;
             let members = group(alloc, top, &*scope, binds, *recursive, &names)?;
             let e = below_values(alloc, top, &*scope, e, binds, &names)?;
-            Ok(NExpr::Let(*recursive, members, boxed(alloc, e)?))
+            Ok(NExpr::Let(*recursive, members, e))
         }
         Expr::Case(e, word, t, u, alts) => {
-            let e = expr_part(alloc, top, &*scope, e, part::SCRUTINEE)?;
+            let e = boxed_part(alloc, top, &*scope, e, part::SCRUTINEE)?;
             let t = ty_part(alloc, top, &*scope, t, part::SCRUTINEE_TYPE)?;
             let u = ty_part(alloc, top, &*scope, u, part::ANSWER_TYPE)?;
             let alts = alternatives_below(alloc, top, &*scope, alts.as_slice(), word)?;
             let word = word.copy(alloc)?;
-            Ok(NExpr::Case(boxed(alloc, e)?, word, t, u, alts))
+            Ok(NExpr::Case(e, word, t, u, alts))
         }
         Expr::Cast(e, g) => {
-            let e = expr_part(alloc, top, &*scope, e, 0)?;
+            let e = boxed_part(alloc, top, &*scope, e, 0)?;
             let g = co_part(alloc, top, &*scope, g, 1)?;
-            Ok(NExpr::Cast(boxed(alloc, e)?, g))
+            Ok(NExpr::Cast(e, g))
         }
         Expr::Con(name, args) => {
             let name = declared_term(alloc, top, name)?;
@@ -114,7 +114,7 @@ pub fn resolved_expr<'x>(
             let names = join_names(alloc, joins)?;
             let members = join_group(alloc, top, &*scope, joins, *recursive, &names)?;
             let e = below_joins(alloc, top, &*scope, e, joins, &names)?;
-            Ok(NExpr::Join(*recursive, t, members, boxed(alloc, e)?))
+            Ok(NExpr::Join(*recursive, t, members, e))
         }
         Expr::Jump(word, args) => {
             let distance = join_point(alloc, &*scope, word)?;
@@ -142,6 +142,24 @@ pub fn expr_part<'x>(
     }
 }
 
+/// The same in a box. What takes parts of an expression holds them so, since a function pays at entry for the size of what it holds.
+#[cycle(resolve)]
+pub fn boxed_part<'x>(
+    alloc: Global,
+    top: &Declared,
+    scope: &'x Scope<'x>,
+    e: &Expr,
+    part: u32,
+) -> Result<Box<NExpr>, Flawed>
+    ensures form { Says (λ n. nexpr_of n.value) result (under part (expr_resolved (top_by top.now) (locals_of scope.now) (expr_of e.now))) }
+    ensures words { IfOk result (λ n. kept.expr_hints (expr_of n.value) ≡ kept.expr_hints (expr_of e.now)) }
+{
+    match resolved_expr(alloc, top, &*scope, e) {
+        Ok(n) => Ok(boxed(alloc, n)?),
+        Err(flawed) => Err(deeper(flawed, part)),
+    }
+}
+
 /// The body of a lambda, which is part 1, in the scope of its binder.
 #[cycle(resolve)]
 fn below<'x>(
@@ -150,22 +168,22 @@ fn below<'x>(
     scope: &'x Scope<'x>,
     e: &Expr,
     binder: &'x Binder,
-) -> Result<NExpr, Flawed>
-    ensures form { Says nexpr_of result (under 1 (expr_resolved (top_by top.now) (enter (binder_of binder.now) (locals_of scope.now)) (expr_of e.now))) }
-    ensures words { IfOk result (λ n. kept.expr_hints (expr_of n) ≡ kept.expr_hints (expr_of e.now)) }
+) -> Result<Box<NExpr>, Flawed>
+    ensures form { Says (λ n. nexpr_of n.value) result (under 1 (expr_resolved (top_by top.now) (enter (binder_of binder.now) (locals_of scope.now)) (expr_of e.now))) }
+    ensures words { IfOk result (λ n. kept.expr_hints (expr_of n.value) ≡ kept.expr_hints (expr_of e.now)) }
 {
     match binder {
         Binder::Value(word, _) => {
             let inner = Scope::Value(&*word, &*scope);
-            expr_part(alloc, top, &inner, e, part::BODY)
+            boxed_part(alloc, top, &inner, e, part::BODY)
         }
         Binder::OfType(word, _) => {
             let inner = Scope::Type(&*word, &*scope);
-            expr_part(alloc, top, &inner, e, part::BODY)
+            boxed_part(alloc, top, &inner, e, part::BODY)
         }
         Binder::OfCo(word, _, _, _) => {
             let inner = Scope::Coercion(&*word, &*scope);
-            expr_part(alloc, top, &inner, e, part::BODY)
+            boxed_part(alloc, top, &inner, e, part::BODY)
         }
     }
 }
@@ -202,6 +220,24 @@ fn arg_part<'x>(
 {
     match resolved_arg(alloc, top, &*scope, arg) {
         Ok(n) => Ok(n),
+        Err(flawed) => Err(deeper(flawed, part)),
+    }
+}
+
+/// The same in a box.
+#[cycle(resolve)]
+fn boxed_arg<'x>(
+    alloc: Global,
+    top: &Declared,
+    scope: &'x Scope<'x>,
+    arg: &Arg,
+    part: u32,
+) -> Result<Box<NArg>, Flawed>
+    ensures form { Says (λ n. narg_of n.value) result (under part (arg_resolved (top_by top.now) (locals_of scope.now) (arg_of arg.now))) }
+    ensures words { IfOk result (λ n. kept.arg_hints (arg_of n.value) ≡ kept.arg_hints (arg_of arg.now)) }
+{
+    match resolved_arg(alloc, top, &*scope, arg) {
+        Ok(n) => Ok(boxed(alloc, n)?),
         Err(flawed) => Err(deeper(flawed, part)),
     }
 }

@@ -12,7 +12,7 @@ ghost use Rattle.fc_scope.specs.Among.{among};
 ghost use Rattle.fc_scope.specs.ScopeWords.{locals_of};
 
 use crate::alternatives::below_binders;
-use crate::expressions::expr_part;
+use crate::expressions::{boxed_part, expr_part};
 use fc_model::{Declared, Flawed, deeper, flaw_here, next_part};
 use fc_resolve_parts::{Entered, resolved_binders, ty_part};
 use fc_scope::{Names, Scope};
@@ -72,13 +72,13 @@ pub fn below_values<'x>(
     e: &Expr,
     binds: &[Bind],
     names: &'x Names,
-) -> Result<NExpr, Flawed>
+) -> Result<Box<NExpr>, Flawed>
     requires { names.now ≡ reverse (bind_words (binds_of binds.now)) }
-    ensures form { Says nexpr_of result (under (length (bind_words (binds_of binds.now))) (expr_resolved (top_by top.now) (enter_values (bind_words (binds_of binds.now)) (locals_of scope.now)) (expr_of e.now))) }
-    ensures words { IfOk result (λ n. kept.expr_hints (expr_of n) ≡ kept.expr_hints (expr_of e.now)) }
+    ensures form { Says (λ n. nexpr_of n.value) result (under (length (bind_words (binds_of binds.now))) (expr_resolved (top_by top.now) (enter_values (bind_words (binds_of binds.now)) (locals_of scope.now)) (expr_of e.now))) }
+    ensures words { IfOk result (λ n. kept.expr_hints (expr_of n.value) ≡ kept.expr_hints (expr_of e.now)) }
 {
     let inner = Scope::Values(&*names, &*scope);
-    expr_part(alloc, top, &inner, e, names.len())
+    boxed_part(alloc, top, &inner, e, names.len())
 }
 
 /// Members of a let group, which are the parts from 0 on. One whose word was there before is `Duplicate`.
@@ -176,14 +176,14 @@ pub fn below_joins<'x>(
     e: &Expr,
     joins: &[JoinBind],
     names: &'x Names,
-) -> Result<NExpr, Flawed>
+) -> Result<Box<NExpr>, Flawed>
     requires { names.now ≡ reverse (join_words (joins_of joins.now)) }
-    ensures form { Says nexpr_of result (under (1 + length (join_words (joins_of joins.now))) (expr_resolved (top_by top.now) (enter_joins (join_words (joins_of joins.now)) (locals_of scope.now)) (expr_of e.now))) }
-    ensures words { IfOk result (λ n. kept.expr_hints (expr_of n) ≡ kept.expr_hints (expr_of e.now)) }
+    ensures form { Says (λ n. nexpr_of n.value) result (under (1 + length (join_words (joins_of joins.now))) (expr_resolved (top_by top.now) (enter_joins (join_words (joins_of joins.now)) (locals_of scope.now)) (expr_of e.now))) }
+    ensures words { IfOk result (λ n. kept.expr_hints (expr_of n.value) ≡ kept.expr_hints (expr_of e.now)) }
 {
     let part = next_part(names.len())?;
     let inner = Scope::Joins(&*names, &*scope);
-    expr_part(alloc, top, &inner, e, part)
+    boxed_part(alloc, top, &inner, e, part)
 }
 
 /// Join points, which are the parts from 1 on. One whose word was there before is `Duplicate`.

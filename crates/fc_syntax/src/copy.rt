@@ -19,15 +19,6 @@ pub trait Variable: Drop {
         ensures { IfOk result (λ x. x ≡ self.now) };
 }
 
-impl Text {
-    /// The same word again. Fails only where memory runs out.
-    pub fn copy(&self, alloc: Global) -> Result<Text, Memory>
-        ensures { IfOk result (λ t. t ≡ self.now) }
-    {
-        Text::from_str(alloc, self.as_str())
-    }
-}
-
 impl Name {
     /// The same name again. Fails only where memory runs out.
     pub fn copy(&self, alloc: Global) -> Result<Name, Memory>

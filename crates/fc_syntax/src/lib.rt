@@ -19,6 +19,7 @@ mod seq;
 mod text;
 mod token;
 mod ty;
+mod words;
 
 pub use boxes::{boxed, boxed_copy};
 pub use copy::Variable;
@@ -36,3 +37,4 @@ pub use seq::Seq;
 pub use text::Text;
 pub use token::{Token, TokenKind};
 pub use ty::{Kind, Name, Ref, Role};
+pub use words::WordTable;

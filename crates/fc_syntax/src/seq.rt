@@ -1,5 +1,5 @@
 //! Lists that contracts see as their items.
-ghost use Rattle.std.specs.Prelude.{◌≡◌, [], ◌∷◌, ◌++◌, ◌<◌, ◌↔◌, IsTrue, length, slice_get, slice_set, OnOk, OnErr};
+ghost use Rattle.std.specs.Prelude.{◌≡◌, [], ◌∷◌, ◌++◌, ◌<◌, ◌↔◌, IsTrue, length, slice_get, slice_set, IfOk, OnOk, OnErr};
 ghost use Rattle.std.specs.Borrow.{Lends, sem};
 ghost use Rattle.fc_syntax.specs.contracts.seq.Seq.{the_row};
 ghost use Rattle.std.specs.Option.{option_copied};
@@ -37,6 +37,15 @@ impl<T> Seq<T> {
         Seq {
             items: Vec::new(alloc),
         }
+    }
+
+    /// The empty list, with room for so many items. Fails only where memory runs out.
+    pub fn with_capacity(alloc: Global, count: usize) -> Result<Seq<T>, Memory>
+        ensures { IfOk result (λ s. s ≡ []) }
+    {
+        Ok(Seq {
+            items: Vec::with_capacity(alloc, count)?,
+        })
     }
 
     /// The vector of the items, which are not copied.

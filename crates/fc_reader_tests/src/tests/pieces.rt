@@ -41,7 +41,7 @@ fn left_at<T: Drop>(answer: &Result<T, Stop>) -> Option<usize> {
 fn an_expression_is_read_and_what_is_behind_it_left(rt: HostRuntime) -> Result<(), Fail> {
     let alloc = rt.alloc();
     let all = seen(alloc, b"(app f x) (type T) y")?;
-    let mut ahead = Tokens::new(all.as_slice());
+    let mut ahead = Tokens::new(alloc, all.as_slice());
     let Ok(e) = read_expr(alloc, &mut ahead) else {
         return Err("no expression".into());
     };
@@ -61,7 +61,7 @@ fn an_expression_is_read_and_what_is_behind_it_left(rt: HostRuntime) -> Result<(
 fn a_type_is_read_and_what_is_behind_it_left(rt: HostRuntime) -> Result<(), Fail> {
     let alloc = rt.alloc();
     let all = seen(alloc, b"(fun a T) )")?;
-    let mut ahead = Tokens::new(all.as_slice());
+    let mut ahead = Tokens::new(alloc, all.as_slice());
     let Ok(t) = read_type(alloc, &mut ahead) else {
         return Err("no type".into());
     };
@@ -81,7 +81,7 @@ fn a_type_is_read_and_what_is_behind_it_left(rt: HostRuntime) -> Result<(), Fail
 fn a_declaration_is_read_to_its_bracket(rt: HostRuntime) -> Result<(), Fail> {
     let alloc = rt.alloc();
     let all = seen(alloc, b"(def x T y)")?;
-    let mut ahead = Tokens::new(all.as_slice());
+    let mut ahead = Tokens::new(alloc, all.as_slice());
     let Ok(decl) = read_decl(alloc, &mut ahead) else {
         return Err("no declaration".into());
     };
@@ -98,13 +98,13 @@ fn a_declaration_is_read_to_its_bracket(rt: HostRuntime) -> Result<(), Fail> {
 fn each_stops_at_the_first_token_that_cannot_go_on(rt: HostRuntime) -> Result<(), Fail> {
     let alloc = rt.alloc();
     let case = seen(alloc, b"(case x) y")?;
-    let found = read_expr(alloc, &mut Tokens::new(case.as_slice()));
+    let found = read_expr(alloc, &mut Tokens::new(alloc, case.as_slice()));
     assert_eq!(rt; left_at(&found), Some(2));
     let literal = seen(alloc, b"1# T")?;
-    let found = read_type(alloc, &mut Tokens::new(literal.as_slice()));
+    let found = read_type(alloc, &mut Tokens::new(alloc, literal.as_slice()));
     assert_eq!(rt; left_at(&found), Some(2));
     let open = seen(alloc, b"(def x T")?;
-    let found = read_decl(alloc, &mut Tokens::new(open.as_slice()));
+    let found = read_decl(alloc, &mut Tokens::new(alloc, open.as_slice()));
     assert_eq!(rt; left_at(&found), Some(0));
     Ok(())
 }
@@ -115,11 +115,11 @@ fn tokens_are_cut_at_a_bracket_that_nests_too_deep(rt: HostRuntime) -> Result<()
     let most = Limits::standard().brackets as usize;
     let text = vec![in alloc; b'('; most + 2]?;
     let fits = seen(alloc, &text[..most])?;
-    let (part, deep) = up_to_deep_bracket(fits.as_slice());
+    let (part, deep) = up_to_deep_bracket(alloc, fits.as_slice());
     assert_eq!(rt; part.len(), most);
     assert!(rt; !deep);
     let deeper = seen(alloc, text.as_slice())?;
-    let (part, deep) = up_to_deep_bracket(deeper.as_slice());
+    let (part, deep) = up_to_deep_bracket(alloc, deeper.as_slice());
     assert_eq!(rt; part.len(), most + 1);
     assert!(rt; deep);
     Ok(())

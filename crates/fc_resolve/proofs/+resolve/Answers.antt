@@ -24,9 +24,9 @@ pub groups::below_values-returns-clause-form : goal.groups::below_values-returns
 groups::below_values-returns-clause-form t c =
     let s = locals_of c.args.scope.now in
     let ws = bind_words (binds_of c.args.binds.now) in
-    let says = λ (i : ℕ) (z : Locals). Says nexpr_of c.expr_part.result (under i (resolved_expr (top_by c.args.top.now) z (expr_of c.args.e.now))) in
+    let says = λ (i : ℕ) (z : Locals). Says (λ n. nexpr_of n.value) c.boxed_part.result (under i (resolved_expr (top_by c.args.top.now) z (expr_of c.args.e.now))) in
     subst (λ i. says i (enter_values ws s)) (c.len.ensures ∙ as_many c.args.names.now ws c.requires)
-    (subst (λ z. says c.len.result z) (values_entered c.args.names.now ws s c.requires) c.expr_part.ensures.form)
+    (subst (λ z. says c.len.result z) (values_entered c.args.names.now ws s c.requires) c.boxed_part.ensures.form)
 
 pub groups::join_group-returns-then-recursive-clause-form : goal.groups::join_group-returns-then-recursive-clause-form
 groups::join_group-returns-then-recursive-clause-form t c =
@@ -41,8 +41,8 @@ groups::below_joins-returns-clause-form t c =
     let ws = join_words (joins_of c.args.joins.now) in
     let many = as_many c.args.names.now ws c.requires in
     let part : c.in_ok-part.part ≡ 1 + length ws = omega (arith, many, c.len.ensures, c.in_ok-part.ensures.next) in
-    let says = λ (i : ℕ) (z : Locals). Says nexpr_of c.expr_part.result (under i (resolved_expr (top_by c.args.top.now) z (expr_of c.args.e.now))) in
-    subst (λ i. says i (enter_joins ws s)) part (subst (λ z. says c.in_ok-part.part z) (joins_entered c.args.names.now ws s c.requires) c.expr_part.ensures.form)
+    let says = λ (i : ℕ) (z : Locals). Says (λ n. nexpr_of n.value) c.boxed_part.result (under i (resolved_expr (top_by c.args.top.now) z (expr_of c.args.e.now))) in
+    subst (λ i. says i (enter_joins ws s)) part (subst (λ z. says c.in_ok-part.part z) (joins_entered c.args.names.now ws s c.requires) c.boxed_part.ensures.form)
 
 pub groups::resolved_binds-returns-in_err-next-clause-form : goal.groups::resolved_binds-returns-in_err-next-clause-form
 groups::resolved_binds-returns-in_err-next-clause-form t c =

@@ -1,0 +1,3 @@
+mod Certified
+mod Checked
+pub mod Searching
