@@ -1,6 +1,6 @@
 #!/usr/bin/env python3
 """Lints a set of a hundred modules, each of which imports the one before, and one module with the same definitions, with the program `coreopt`, and prints
-for each size the bytes, the seconds of the processor (the least of so many runs), the bytes a second and the peak memory. Half of the functions of a module
+for each size the bytes, the seconds of the processor (the least of nine runs), the bytes a second and the peak memory. Half of the functions of a module
 call others of their own module, half take a value of the type of the module before and call one of its functions. The same definitions are written in two
 ways: in as few bytes as they take, with names of one letter and a number (dense), and with whole words, and lines as the examples have them (plain). Run it
 from anywhere, on a machine where the program is built (`./coreopt lint examples/Shapes.fc`), or with another program as its only word."""

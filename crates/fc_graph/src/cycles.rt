@@ -45,8 +45,8 @@ fn marks_of(alloc: Global, findings: &[Finding]) -> Result<Vec<bool>, Memory>
 }
 
 /// The numbers that lie on a cycle, marked among those of the graph: those from which a path of one edge or more leads back. Takes time
-/// in numbers and edges, since the certificate that is found is right; what is marked does not rest on that. Fails only where memory runs
-/// out.
+/// in numbers and edges where the certificate that is found is right, and a search for each number where it is not; what is marked is the
+/// same. Fails only where memory runs out.
 pub fn on_cycles(alloc: Global, graph: &[Seq<usize>]) -> Result<Vec<bool>, Memory>
     ensures { IfOk result (λ marks. AreOnCycles graph.now marks.items) }
 {

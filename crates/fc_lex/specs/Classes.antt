@@ -1,6 +1,5 @@
 -- The classes of bytes in src, as the definition of tokens names them.
-use Rattle.std.specs.Prelude.{ℕ, Bool, ◌||◌, ◌==◌}
-use Rattle.fc_syntax.specs.Tokens.{ByteClass, Blank, LineFeed, Opening, Closing, Semicolon, Plain, Foreign, is_lower_letter, is_upper_letter}
+use Rattle.fc_syntax.specs.Tokens.{ByteClass, Blank, LineFeed, Opening, Closing, Semicolon, Plain, Foreign}
 use Rattle.fc_lex.specs.declared.class.Class.{Class}
 use Rattle.fc_lex.specs.declared.class.Class.TheVariants as c
 
@@ -13,7 +12,3 @@ as_byte_class c.Closing = Closing
 as_byte_class c.Semicolon = Semicolon
 as_byte_class c.Plain = Plain
 as_byte_class c.Foreign = Foreign
-
--- a lower or an upper name starts with one of these
-abbrev pub starts_names : ℕ → Bool
-starts_names b = ((is_lower_letter b || is_upper_letter b) || b == 95) || b == 36

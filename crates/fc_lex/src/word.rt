@@ -3,7 +3,6 @@ ghost use Rattle.std.specs.Prelude.{◌≡◌, ◌+◌, ◌≤◌, ◌<◌, ◌�
 ghost use Rattle.std.specs.List.{list_all, list_any, prefix_len, suffix_len};
 ghost use Rattle.std.specs.Str.Parse.{digits_value};
 ghost use Rattle.fc_syntax.specs.Tokens as spec;
-ghost use Rattle.fc_lex.specs.Classes.{starts_names};
 ghost use Rattle.fc_lex.specs.Faults.{IsWordFault};
 
 use crate::LexError;
@@ -52,7 +51,7 @@ fn is_name_byte(byte: u8) -> bool
 
 /// Whether a name may start with a byte: a letter, `_` or `$`.
 pub(crate) fn starts_name(byte: u8) -> bool
-    ensures { result ≡ starts_names byte }
+    ensures { result ≡ spec.starts_names byte }
 {
     IN_NAMES[byte as usize] == b's'
 }

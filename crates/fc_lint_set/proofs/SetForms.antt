@@ -1,5 +1,5 @@
 -- The modules of a set before the first that has a fault of names, and that one.
-use Rattle.std.proofs.Common.{◌≡◌, ◌∙◌, ℕ, ◌+◌, ◌≤◌, zero, suc, List, [], ◌∷◌, ◌++◌, append-nil, arith, drop, length, slice_get, Some, Result, Ok, Err, refl, ap, subst}
+use Rattle.std.proofs.Common.{◌≡◌, ◌∙◌, ℕ, ◌+◌, ◌≤◌, zero, suc, List, [], ◌∷◌, ◌++◌, append_assoc, append-nil, arith, drop, length, slice_get, Some, Result, Ok, Err, refl, ap, subst}
 use Rattle.std.proofs.lemmas.List.{drop_more}
 use Rattle.std.proofs.lemmas.Option.{get_or_from_slice_get, slice_get_within}
 use Rattle.fc_syntax.specs.Tree.{Module}
@@ -8,7 +8,10 @@ use Rattle.fc_model.specs.Headers.{name_of, ndecls_in}
 use Rattle.fc_model.specs.Kinding.{Modules, decls_at}
 use Rattle.fc_model.specs.Linting.{Done, done, In, declarations_judged, exports_judged, form_before, in_module, module_judged, modules_judged, nameless_forms, offers_of}
 use Rattle.fc_model.specs.Nameless.{NModule}
-use Rattle.fc_model.specs.Resolution.{Offers, resolved_among, resolved_or_fault}
+use Rattle.fc_model.specs.Resolution.{Offers, offers_all, resolved_among, resolved_or_fault}
+use Rattle.fc_model.proofs.Offered.{offers_of_more}
+use Rattle.fc_model.proofs.ResolvedMore.{OffersMore, resolved_more}
+use Rattle.fc_lint_set.specs.Sets.{AllNamed, ResolveBehind, names_among}
 
 -- a module, and what is behind it
 judged_past : (ns : List NModule) (m : Module) (ms : List Module) → module_judged ns m ≡ Ok done → modules_judged ns (m ∷ ms) ≡ modules_judged ns ms
@@ -60,12 +63,22 @@ left_at : {X : Type 0} (xs : List X) (i : ℕ) (x : X) → slice_get xs i ≡ So
 left_at xs i x h = drop_more xs i x (slice_get_within xs i x h) ∙ ap (λ y. y ∷ drop (i + 1) xs) (get_or_from_slice_get xs i x x h)
 
 -- what is judged of a module behind its own names, against what modules have for others and what they declare
-abbrev pub behind_own : Offers → Modules → Module → NModule → Result Done F
-behind_own offers ds m n = and_then (exports_judged n) (λ _. and_then (resolved_among offers m) (λ _. declarations_judged ds (ndecls_in n)))
-
--- the same against these modules
 abbrev pub behind_names : List NModule → Module → NModule → Result Done F
-behind_names ns m n = behind_own (offers_of ns) (decls_at ns) m n
+behind_names ns m n = and_then (exports_judged n) (λ _. and_then (resolved_among (offers_of ns) m) (λ _. declarations_judged (decls_at ns) (ndecls_in n)))
+
+-- the same, where this is known of the names of imports
+abbrev pub behind_known : Result Done F → Modules → NModule → Result Done F
+behind_known names ds n = and_then (exports_judged n) (λ _. and_then names (λ _. declarations_judged ds (ndecls_in n)))
+
+seen_once : (r : Result NModule F) (rest : Result Done F) → and_then {Y = Done} (and_then {Y = Done} r (λ _. Ok done)) (λ _. rest) ≡ and_then {Y = Done} r (λ _. rest)
+seen_once (Ok n) rest = refl
+seen_once (Err f) rest = refl
+
+pub known_behind : (ns : List NModule) (m : Module) (n : NModule) (names : Result Done F) → names ≡ names_among (offers_of ns) m → behind_known names (decls_at ns) n ≡ behind_names ns m n
+known_behind ns m n names is =
+    let rest : Result Done F = declarations_judged (decls_at ns) (ndecls_in n) in
+    ap (λ r. and_then (exports_judged n) (λ _. and_then r (λ _. rest))) is
+    ∙ ap (λ r. and_then (exports_judged n) (λ _. r)) (seen_once (resolved_among (offers_of ns) m) rest)
 
 judged_at : (ns : List NModule) (ms : List Module) (i : ℕ) (m : Module) (n : NModule) (r : Result Done F) → slice_get ms i ≡ Some m → slice_get (nameless_forms ms) i ≡ Some n → behind_names ns m n ≡ r → module_judged ns m ≡ r
 judged_at ns ms i m n r here form h =
@@ -90,3 +103,30 @@ unnamed_refused ns ms i m f here h = ap (modules_judged ns) (left_at ms i m here
 -- before a module that has none there is no other
 pub form_last : (found : List NModule) (m : Module) (ms : List Module) (f : F) → resolved_or_fault m ≡ Err f → found ++ nameless_forms (m ∷ ms) ≡ found
 form_last found m ms f h = ap (λ r. found ++ form_before r (nameless_forms ms)) h ∙ append-nil found
+
+named_first : (ns : List NModule) (m : Module) (ms : List Module) → names_among (offers_of ns) m ≡ Ok done → AllNamed ns ms → AllNamed ns (m ∷ ms)
+named_first ns m ms here rest zero k h = let same : m ≡ k = cc in subst (λ x. names_among (offers_of ns) x ≡ Ok done) same here
+named_first ns m ms here rest (suc i) k h = rest i k h
+
+-- MODULES THAT NAME OF THOSE BEFORE THEM WHAT THESE HAVE FOR OTHERS
+
+all_offered : (offers : Offers) → OffersMore offers offers_all
+all_offered offers = record { types = λ m w h. refl; terms = λ m w h. refl; coercions = λ m w h. refl }
+
+-- they have these forms, and so they name what all have for others
+pub resolved_all : (ns : List NModule) (ms : List Module) (ks : List NModule) → ResolveBehind ns ms ks → (nameless_forms ms ≡ ks) × AllNamed (ns ++ ks) ms
+resolved_all ns [] [] h = (refl, λ i m g. cc)
+resolved_all ns [] (k ∷ ks) h = absurd h
+resolved_all ns (m ∷ ms) [] h = absurd h
+resolved_all ns (m ∷ ms) (k ∷ ks) h =
+    let later = resolved_all (ns ++ k ∷ []) ms ks h.1 in
+    let all : (ns ++ k ∷ []) ++ ks ≡ ns ++ (k ∷ ks) = append_assoc ns (k ∷ []) ks in
+    let own : resolved_or_fault m ≡ Ok k = resolved_more (offers_of ns) offers_all (all_offered (offers_of ns)) m k h.0 in
+    let here : resolved_among (offers_of (ns ++ (k ∷ ks))) m ≡ Ok k = resolved_more (offers_of ns) (offers_of (ns ++ (k ∷ ks))) (offers_of_more ns (k ∷ ks)) m k h.0 in
+    (ap (λ r. form_before r (nameless_forms ms)) own ∙ ap (λ xs. k ∷ xs) later.0, named_first (ns ++ (k ∷ ks)) m ms (ap (λ r. and_then r (λ _. Ok done)) here) (subst (λ xs. AllNamed xs ms) all later.1))
+
+pub resolved_count : (ns : List NModule) (ms : List Module) (ks : List NModule) → ResolveBehind ns ms ks → length ks ≡ length ms
+resolved_count ns [] [] h = refl
+resolved_count ns [] (k ∷ ks) h = absurd h
+resolved_count ns (m ∷ ms) [] h = absurd h
+resolved_count ns (m ∷ ms) (k ∷ ks) h = ap suc (resolved_count (ns ++ k ∷ []) ms ks h.1)

@@ -1,6 +1,6 @@
 -- How what the code answers of a module meets the judgement of a set.
-use Rattle.std.proofs.Common.{◌≡◌, ◌∙◌, ℕ, ◌+◌, ◌<◌, List, ◌∷◌, ◌++◌, arith, drop, get_or, length, map, slice_get, Option, Some, Result, Ok, Err, refl, sym, ap, subst}
-use Rattle.std.proofs.lemmas.List.{length-map}
+use Rattle.std.proofs.Common.{◌≡◌, ◌∙◌, ℕ, ◌+◌, ◌<◌, ◌≤◌, Bool, true, false, List, [], ◌∷◌, ◌++◌, append_assoc, append-nil, arith, drop, get_or, length, map, slice_get, Option, Some, Result, Ok, Err, refl, sym, ap, subst}
+use Rattle.std.proofs.lemmas.List.{drop_all, length-map}
 use Rattle.std.proofs.lemmas.Option.{slice_get-map, slice_get_read, slice_get_within}
 use Rattle.std.specs.Option.{option_map}
 use Rattle.fc_syntax.specs.Tree.{Word, Module}
@@ -14,17 +14,19 @@ use Rattle.fc_model.specs.Kinding.{Modules, decls_at}
 use Rattle.fc_model.specs.Linting.{Done, done, InModule, In, modules_judged, nameless_forms, offers_of}
 use Rattle.fc_model.specs.Nameless.{NModule}
 use Rattle.fc_model.specs.NamelessView.{nmodule_of, nmodules_of}
-use Rattle.fc_model.specs.Resolution.{Offers, resolved_or_fault}
+use Rattle.fc_model.specs.Resolution.{resolved_among, resolved_or_fault}
 use Rattle.fc_model.specs.Says.{Refuses, fault_of}
 use Rattle.fc_model.specs.declared.flaw.Flaw.{Flaw}
 use Rattle.fc_model.specs.declared.flaw.Flawed.{Flawed}
 use Rattle.fc_model.specs.declared.flaw.Flawed.TheVariants as flawed
 use Rattle.fc_model.proofs.Lists.{drop_item}
-use Rattle.fc_lint_set.specs.Sets.{EndsForms, SetRefuses, StandsInModule}
+use Rattle.fc_lint_set.specs.Sets.{AllNamed, AreNames, EndsForms, ResolveBehind, SetRefuses, StandsInModule, names_among, names_judged}
+use Rattle.fc_lint_set.specs.declared.sets.Naming.{Naming}
+use Rattle.fc_lint_set.specs.declared.sets.Naming.TheVariants as naming
 use Rattle.fc_plan.specs.Modules.{behind}
 use Rattle.fc_lint_set.specs.declared.sets.SetFlawed.{SetFlawed}
 use Rattle.fc_lint_set.specs.declared.sets.SetFlawed.TheVariants as set
-use Rattle.fc_lint_set.proofs.SetForms.{behind_names, behind_own, form_last, form_passed, form_refused, forms_within, unnamed_refused}
+use Rattle.fc_lint_set.proofs.SetForms.{behind_known, behind_names, form_last, form_passed, form_refused, forms_within, known_behind, unnamed_refused}
 use denote.Ref.{Bor}
 
 -- a module that is referred to, and a nameless one
@@ -79,33 +81,33 @@ stand_at forms modules i k r k_is r_is are low = record {
 }
 
 -- a module of a set in which a premise fails behind its own names
-pub form_told : (forms : List Form) (modules : List Referred) (i : ℕ) (k : Form) (r : Referred) (offers : Offers) (ds : Modules) (flaw : Flawed) (e : SetFlawed)
-    → k ≡ get_or forms i k → r ≡ get_or modules i r → nmodules_of forms ≡ nameless_forms (behind modules) → offers ≡ offers_of (nmodules_of forms) → ds ≡ decls_at (nmodules_of forms)
+pub form_told : (forms : List Form) (modules : List Referred) (i : ℕ) (k : Form) (r : Referred) (known : Naming) (ds : Modules) (flaw : Flawed) (e : SetFlawed)
+    → k ≡ get_or forms i k → r ≡ get_or modules i r → nmodules_of forms ≡ nameless_forms (behind modules) → AreNames (nmodules_of forms) (behind modules) known → ds ≡ decls_at (nmodules_of forms)
     → modules_judged (nmodules_of forms) (behind modules) ≡ modules_judged (nmodules_of forms) (drop i (behind modules)) → i < length forms
-    → Refuses flaw (behind_own offers ds (module_of r.now) (nmodule_of k)) → StandsInModule r.now.name flaw e
+    → Refuses flaw (behind_known (names_judged known (module_of r.now)) ds (nmodule_of k)) → StandsInModule r.now.name flaw e
     → SetRefuses e (modules_judged (nmodules_of forms) (behind modules))
-form_told forms modules i k r offers ds flaw e k_is r_is are has declared so_far low says stands =
+form_told forms modules i k r known ds flaw e k_is r_is are has declared so_far low says stands =
     let ns : List NModule = nmodules_of forms in
     let ms : List Module = behind modules in
     let m : Module = module_of r.now in
     let n : NModule = nmodule_of k in
     let at = stand_at forms modules i k r k_is r_is are low in
-    let judged : Refuses flaw (behind_names ns m n) = subst (λ x. Refuses flaw (behind_own x (decls_at ns) m n)) has (subst (λ x. Refuses flaw (behind_own offers x m n)) declared says) in
+    let judged : Refuses flaw (behind_names ns m n) = subst (Refuses flaw) (known_behind ns m n (names_judged known m) (has i m at.here)) (subst (λ x. Refuses flaw (behind_known (names_judged known m) x n)) declared says) in
     refused_in r.now.name flaw e (behind_names ns m n) (modules_judged ns ms) judged stands (λ f h. so_far ∙ form_refused ns ms i m n f at.here at.form h)
 
 -- one in which all hold is passed
-pub form_holds : (forms : List Form) (modules : List Referred) (i : ℕ) (k : Form) (r : Referred) (offers : Offers) (ds : Modules)
-    → k ≡ get_or forms i k → r ≡ get_or modules i r → nmodules_of forms ≡ nameless_forms (behind modules) → offers ≡ offers_of (nmodules_of forms) → ds ≡ decls_at (nmodules_of forms)
+pub form_holds : (forms : List Form) (modules : List Referred) (i : ℕ) (k : Form) (r : Referred) (known : Naming) (ds : Modules)
+    → k ≡ get_or forms i k → r ≡ get_or modules i r → nmodules_of forms ≡ nameless_forms (behind modules) → AreNames (nmodules_of forms) (behind modules) known → ds ≡ decls_at (nmodules_of forms)
     → modules_judged (nmodules_of forms) (behind modules) ≡ modules_judged (nmodules_of forms) (drop i (behind modules)) → i < length forms
-    → behind_own offers ds (module_of r.now) (nmodule_of k) ≡ Ok done
+    → behind_known (names_judged known (module_of r.now)) ds (nmodule_of k) ≡ Ok done
     → modules_judged (nmodules_of forms) (behind modules) ≡ modules_judged (nmodules_of forms) (drop (i + 1) (behind modules))
-form_holds forms modules i k r offers ds k_is r_is are has declared so_far low says =
+form_holds forms modules i k r known ds k_is r_is are has declared so_far low says =
     let ns : List NModule = nmodules_of forms in
     let ms : List Module = behind modules in
     let m : Module = module_of r.now in
     let n : NModule = nmodule_of k in
     let at = stand_at forms modules i k r k_is r_is are low in
-    let judged : behind_names ns m n ≡ Ok done = subst (λ x. behind_own x (decls_at ns) m n ≡ Ok done) has (subst (λ x. behind_own offers x m n ≡ Ok done) declared says) in
+    let judged : behind_names ns m n ≡ Ok done = sym (known_behind ns m n (names_judged known m) (has i m at.here)) ∙ subst (λ x. behind_known (names_judged known m) x n ≡ Ok done) declared says in
     so_far ∙ form_passed ns ms i m n at.here at.form judged
 
 -- the module behind those that have forms, which has a fault of names
@@ -130,3 +132,24 @@ forms_ended modules found count i r q f x r_is low at so_far says is same =
     let left : behind (drop i modules) ≡ m ∷ behind (drop (i + 1) modules) = ap behind (drop_item modules i r low r_is) in
     let here : slice_get (behind modules) count ≡ Some m = ap (slice_get (behind modules)) at ∙ shown_at (λ y. module_of y.now) modules i r low r_is in
     (sym (form_last found m (behind (drop (i + 1) modules)) (fault_of x) fault) ∙ sym (ap (λ ms. found ++ nameless_forms ms) left) ∙ so_far, (m, here, fault))
+
+-- what is known of the names of modules, whether it was seen on the way or is looked for
+pub names_are : (ns : List NModule) (ms : List Module) (b : Bool) (n : Naming) → (b ≡ true → AllNamed ns ms) → (b ≡ true → n ≡ naming.Known)
+    → (b ≡ false → names_judged n ≡ names_among (offers_of ns)) → AreNames ns ms n
+names_are ns ms true n all is among = λ i m h. ap (λ k. names_judged k m) (is refl) ∙ sym (all refl i m h)
+names_are ns ms false n all is among = λ i m h. ap (λ (f : Module → Result Done F). f m) (among refl)
+
+-- one module more that names of those before it what they have for others
+pub named_step : (modules : List Referred) (found : List NModule) (i : ℕ) (r : Referred) (k : NModule) → i < length modules → r ≡ get_or modules i r → resolved_among (offers_of found) (module_of r.now) ≡ Ok k
+    → ((ks : List NModule) → ResolveBehind found (behind (drop i modules)) ks → ResolveBehind [] (behind modules) (found ++ ks))
+    → (ks : List NModule) → ResolveBehind (found ++ k ∷ []) (behind (drop (i + 1) modules)) ks → ResolveBehind [] (behind modules) ((found ++ k ∷ []) ++ ks)
+named_step modules found i r k low is here so_far ks h =
+    let left : behind (drop i modules) ≡ module_of r.now ∷ behind (drop (i + 1) modules) = ap behind (drop_item modules i r low is) in
+    subst (ResolveBehind [] (behind modules)) (sym (append_assoc found (k ∷ []) ks)) (so_far (k ∷ ks) (subst (λ ms. ResolveBehind found ms (k ∷ ks)) (sym left) (here, h)))
+
+-- where all are found, nothing is still to come
+pub named_all : (modules : List Referred) (found : List NModule) (i : ℕ) → length modules ≤ i
+    → ((ks : List NModule) → ResolveBehind found (behind (drop i modules)) ks → ResolveBehind [] (behind modules) (found ++ ks)) → ResolveBehind [] (behind modules) found
+named_all modules found i past so_far =
+    let none : behind (drop i modules) ≡ [] = ap behind (drop_all i modules past) in
+    subst (ResolveBehind [] (behind modules)) (append-nil found) (so_far [] (subst (λ ms. ResolveBehind found ms []) (sym none) tt))

@@ -1,18 +1,16 @@
 //! Lint of a set of modules.
-ghost use Rattle.std.specs.Prelude.{◌≡◌, IfOk, OnOk, Some, drop, length, map, slice_get};
+ghost use Rattle.std.specs.Prelude.{◌≡◌, [], true, false, IfOk, IfSome, OnOk, Some, drop, length, map, slice_get};
 ghost use Rattle.std.specs.List.{filter_map};
 ghost use Rattle.fc_syntax.specs.View.{module_of};
 ghost use Rattle.fc_model.specs.Faulting.{and_then};
 ghost use Rattle.fc_model.specs.Kinding.{decls_at};
-ghost use Rattle.fc_model.specs.Linting.{declarations_judged, done, exports_judged, modules_judged, nameless_forms, set_judged};
+ghost use Rattle.fc_model.specs.Linting.{declarations_judged, done, exports_judged, modules_judged, nameless_forms, offers_of, set_judged};
 ghost use Rattle.fc_model.specs.NamelessView.{ndecls_of, nmodule_of, nmodules_of};
-ghost use Rattle.fc_model.specs.OfferViews.{offers_in};
-ghost use Rattle.fc_model.specs.Resolution.{resolved_among};
 ghost use Rattle.fc_model.specs.Says.{Says};
 ghost use Rattle.fc_types.specs.ModuleViews.{modules_of};
 ghost use Rattle.fc_type_table.specs.TypeTables.{modules_in, nodes_of};
 ghost use Rattle.fc_lint_context.specs.DeclaredViews.{AreRead, modules_read};
-ghost use Rattle.fc_lint_set.specs.Sets.{AreForms, SaysBefore, SetSays, StandsInModule};
+ghost use Rattle.fc_lint_set.specs.Sets.{AreForms, AreNames, ResolveBehind, SaysBefore, SetSays, StandsInModule, names_among, names_judged};
 ghost use Rattle.fc_plan.specs.Modules.{behind};
 
 use crate::definitions::{lint_definition_types, lint_rights};
@@ -51,6 +49,17 @@ impl From<Memory> for SetFlawed {
 struct Forms {
     modules: Vec<NModule>,
     flaw: Option<Flaw>,
+    /// Whether each name of an imported module is known to be one that its module has for others.
+    named: bool,
+}
+
+/// What is known of the names of imported modules.
+#[derive(Drop)]
+enum Naming {
+    /// Each is one that its module has for others.
+    Known,
+    /// Those that modules have for others.
+    Among(Offers),
 }
 
 /// A premise that fails in a module of a set, or that no memory is left to tell it.
@@ -66,8 +75,28 @@ fn in_module(alloc: Global, m: &Module, flawed: Flawed) -> SetFlawed
     }
 }
 
+/// The nameless forms of modules each of which names those before it alone, and of these what they have for others; `None` where a name of
+/// some module is a fault, or of a module that is not before it.
+fn named_forms(alloc: Global, modules: &[&Module]) -> Result<Option<Vec<NModule>>, Memory>
+    ensures { IfOk result (λ found. IfSome found (λ forms. ResolveBehind [] (behind modules.now) (nmodules_of forms.items))) }
+{
+    let mut offers = Offers::none(alloc);
+    let mut forms = Vec::new(alloc);
+    for m in modules {
+        let (form, others) = match resolve_among(alloc, *m, offers) {
+            Ok(found) => found,
+            Err(Flawed::Memory) => return Err(Memory),
+            Err(Flawed::Flaw(_)) => return Ok(None),
+        };
+        offers = others;
+        offers.add(alloc, &form)?;
+        forms.push(form)?;
+    }
+    Ok(Some(forms))
+}
+
 /// The nameless forms of modules, before the first that has a fault of names, and that fault.
-fn forms_of_modules(alloc: Global, modules: &[&Module]) -> Result<Forms, Memory>
+fn unnamed_forms(alloc: Global, modules: &[&Module]) -> Result<Forms, Memory>
     ensures { IfOk result (AreForms (behind modules.now)) }
 {
     let mut forms = Vec::new(alloc);
@@ -79,6 +108,7 @@ fn forms_of_modules(alloc: Global, modules: &[&Module]) -> Result<Forms, Memory>
                 return Ok(Forms {
                     modules: forms,
                     flaw: Some(flaw),
+                    named: false,
                 });
             }
         }
@@ -86,7 +116,49 @@ fn forms_of_modules(alloc: Global, modules: &[&Module]) -> Result<Forms, Memory>
     Ok(Forms {
         modules: forms,
         flaw: None,
+        named: false,
     })
+}
+
+/// The same in one walk over each module, where no name is a fault.
+fn forms_of_modules(alloc: Global, modules: &[&Module]) -> Result<Forms, Memory>
+    ensures { IfOk result (AreForms (behind modules.now)) }
+{
+    match named_forms(alloc, modules)? {
+        Some(forms) => Ok(Forms {
+            modules: forms,
+            flaw: None,
+            named: true,
+        }),
+        None => unnamed_forms(alloc, modules),
+    }
+}
+
+/// What is known of names of imported modules, where the modules have these nameless forms.
+fn naming_of(alloc: Global, forms: &[NModule], named: bool) -> Result<Naming, Memory>
+    ensures known { IfOk result (λ n. named ≡ true → n ≡ Naming.Known) }
+    ensures among { IfOk result (λ n. named ≡ false → names_judged n ≡ names_among (offers_of (nmodules_of forms.now))) }
+{
+    if named {
+        Ok(Naming::Known)
+    } else {
+        let offers = Offers::of_modules(alloc, forms)?;
+        Ok(Naming::Among(offers))
+    }
+}
+
+/// That each name of an imported module is one that its module has for others. What is known of them is handed back.
+fn lint_names(alloc: Global, m: &Module, naming: Naming) -> Result<Naming, Flawed>
+    ensures says { Says (λ _. done) result (names_judged naming (module_of m.now)) }
+    ensures naming { IfOk result (λ n. names_judged n ≡ names_judged naming) }
+{
+    match naming {
+        Naming::Known => Ok(Naming::Known),
+        Naming::Among(offers) => {
+            let (_, offers) = resolve_among(alloc, m, offers)?;
+            Ok(Naming::Among(offers))
+        }
+    }
 }
 
 /// The declarations of a module of a set: the type declarations, then the types of the definitions, and then their right sides.
@@ -108,27 +180,27 @@ fn lint_declarations<'d, 'a>(
     lint_rights(alloc, decls, types, declared)
 }
 
-/// A module of a set behind its own names: exported and hidden words, then names of imports, then declarations. What modules have for
-/// others is handed back.
+/// A module of a set behind its own names: exported and hidden words, then names of imports, then declarations. What is known of names of
+/// imports is handed back.
 fn lint_form<'d, 'a>(
     alloc: Global,
     m: &Module,
     form: &'a NModule,
-    offers: Offers,
+    naming: Naming,
     types: &mut TypeTable<'a>,
     declared: &DeclaredTypes<'d, 'a>,
-) -> Result<Offers, Flawed>
+) -> Result<Naming, Flawed>
     requires read { AreRead (nodes_of types.old) declared.now }
     requires modules { modules_in types.old ≡ modules_read declared.now }
-    ensures says { Says (λ _. done) result (and_then (exports_judged (nmodule_of form.now)) (λ _. and_then (resolved_among (offers_in offers) (module_of m.now)) (λ _. declarations_judged (modules_read declared.now) (ndecls_of form.now.decls)))) }
-    ensures offers { IfOk result (λ o. offers_in o ≡ offers_in offers) }
+    ensures says { Says (λ _. done) result (and_then (exports_judged (nmodule_of form.now)) (λ _. and_then (names_judged naming (module_of m.now)) (λ _. declarations_judged (modules_read declared.now) (ndecls_of form.now.decls)))) }
+    ensures naming { IfOk result (λ n. names_judged n ≡ names_judged naming) }
     ensures read { OnOk result (AreRead (nodes_of types.new) declared.now) }
     ensures modules { OnOk result (modules_in types.new ≡ modules_read declared.now) }
 {
     lint_exports(alloc, form)?;
-    let (_, offers) = resolve_among(alloc, m, offers)?;
+    let naming = lint_names(alloc, m, naming)?;
     lint_declarations(alloc, form, types, declared)?;
-    Ok(offers)
+    Ok(naming)
 }
 
 /// The modules of a set that have nameless forms, one after the other, up to the first in which a premise fails.
@@ -136,6 +208,7 @@ fn lint_forms<'d, 'a>(
     alloc: Global,
     modules: &[&Module],
     forms: &'a [NModule],
+    mut naming: Naming,
     types: &mut TypeTable<'a>,
     declared: &DeclaredTypes<'d, 'a>,
 ) -> Result<(), SetFlawed>
@@ -143,13 +216,13 @@ fn lint_forms<'d, 'a>(
     requires modules { modules_in types.old ≡ modules_read declared.now }
     requires against { modules_read declared.now ≡ decls_at (nmodules_of forms.now) }
     requires forms { nmodules_of forms.now ≡ nameless_forms (behind modules.now) }
+    requires names { AreNames (nmodules_of forms.now) (behind modules.now) naming }
     ensures { SaysBefore (nmodules_of forms.now) (behind modules.now) (length forms.now) result }
 {
-    let mut offers = Offers::of_modules(alloc, forms)?;
     for number in 0..forms.len() {
         let m = modules[number];
-        offers = match lint_form(alloc, m, &forms[number], offers, types, declared) {
-            Ok(offers) => offers,
+        naming = match lint_form(alloc, m, &forms[number], naming, types, declared) {
+            Ok(naming) => naming,
             Err(flawed) => return Err(in_module(alloc, m, flawed)),
         };
     }
@@ -161,24 +234,28 @@ fn lint_against<'a>(
     alloc: Global,
     modules: &[&Module],
     forms: &'a [NModule],
+    naming: Naming,
     declared: &'a Declarations,
 ) -> Result<(), SetFlawed>
     requires against { modules_of declared.now ≡ decls_at (nmodules_of forms.now) }
     requires forms { nmodules_of forms.now ≡ nameless_forms (behind modules.now) }
+    requires names { AreNames (nmodules_of forms.now) (behind modules.now) naming }
     ensures { SaysBefore (nmodules_of forms.now) (behind modules.now) (length forms.now) result }
 {
     let mut types = TypeTable::new(alloc, declared);
     let read = DeclaredTypes::new(alloc, declared, &mut types)?;
-    lint_forms(alloc, modules, forms, &mut types, &read)
+    lint_forms(alloc, modules, forms, naming, &mut types, &read)
 }
 
 /// The same against what the forms declare.
-fn lint_over(alloc: Global, modules: &[&Module], forms: &[NModule]) -> Result<(), SetFlawed>
-    requires { nmodules_of forms.now ≡ nameless_forms (behind modules.now) }
-    ensures { SaysBefore (nmodules_of forms.now) (behind modules.now) (length forms.now) result }
+fn lint_over(alloc: Global, modules: &[&Module], forms: &Forms) -> Result<(), SetFlawed>
+    requires { AreForms (behind modules.now) forms.now }
+    ensures { SaysBefore (nmodules_of forms.now.modules.items) (behind modules.now) (length forms.now.modules.items) result }
 {
-    let declared = Declarations::new(alloc, forms)?;
-    lint_against(alloc, modules, forms, &declared)
+    let found = forms.modules.as_slice();
+    let naming = naming_of(alloc, found, forms.named)?;
+    let declared = Declarations::new(alloc, found)?;
+    lint_against(alloc, modules, found, naming, &declared)
 }
 
 /// The fault of names of the module behind those that have forms, where there is one; else the forms.
@@ -190,6 +267,7 @@ fn ended(alloc: Global, modules: &[&Module], forms: Forms) -> Result<Vec<NModule
     let Forms {
         modules: found,
         flaw,
+        named: _,
     } = forms;
     match flaw {
         None => Ok(found),
@@ -206,7 +284,7 @@ fn lint_picked(alloc: Global, modules: &[&Module]) -> Result<Vec<NModule>, SetFl
     ensures forms { IfOk result (λ forms. nmodules_of forms.items ≡ nameless_forms (behind modules.now)) }
 {
     let forms = forms_of_modules(alloc, modules)?;
-    lint_over(alloc, modules, forms.modules.as_slice())?;
+    lint_over(alloc, modules, &forms)?;
     ended(alloc, modules, forms)
 }
 

@@ -107,7 +107,8 @@ impl Declared {
     /// What a module declares, and what it imports of modules that have this for others.
     #[tactic(auto, using(crate::proofs::Declares::behind_all))]
     pub fn among<L, V>(alloc: Global, m: &Module<L, V>, offers: Offers) -> Result<Declared, Memory>
-        ensures { IfOk result (λ d. top_by d ≡ top_among (offers_in offers) (module_of m.now)) }
+        ensures top { IfOk result (λ d. top_by d ≡ top_among (offers_in offers) (module_of m.now)) }
+        ensures offers { IfOk result (λ d. d.offers ≡ offers) }
     {
         let own = m.name.copy(alloc)?;
         let mut imports = WordSet::new(alloc);

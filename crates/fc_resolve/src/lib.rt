@@ -74,7 +74,7 @@ pub fn resolve(alloc: Global, m: &Module) -> Result<NModule, Flawed>
 /// fault, or where memory runs out, it is gone.
 pub fn resolve_among(alloc: Global, m: &Module, offers: Offers) -> Result<(NModule, Offers), Flawed>
     ensures form { Says (λ p. nmodule_of p.0) result (resolved_among (offers_in offers) (module_of m.now)) }
-    ensures offers { IfOk result (λ p. offers_in p.1 ≡ offers_in offers) }
+    ensures offers { IfOk result (λ p. p.1 ≡ offers) }
 {
     let top = Declared::among(alloc, m, offers)?;
     let mut earlier = Spaces::new(alloc);

@@ -6,25 +6,21 @@ use Rattle.std.proofs.lemmas.Bool.{and_parts, true≢false}
 use Rattle.std.proofs.lemmas.Bool.Decides.{nat_tests}
 use Rattle.std.proofs.lemmas.List.Sums.{suffix_len_is}
 use Rattle.fc_syntax.specs.declared.token.TokenKind.TheVariants as kind
-use Rattle.fc_syntax.specs.Tokens.{is_plain, is_digit, is_digits, is_dot, is_name, is_name_byte, is_lower_letter, is_upper_letter, is_lower_name, is_upper_name, is_plain_name, is_literal, is_number, is_sign, is_module_name, word_kind, without_minus, without_hash, ends_with_hash}
+use Rattle.fc_syntax.specs.Tokens.{is_plain, is_digit, is_digits, is_dot, is_name, is_name_byte, starts_names, is_lower_letter, is_upper_letter, is_lower_name, is_upper_name, is_plain_name, is_literal, is_number, is_sign, is_module_name, word_kind, without_minus, without_hash, ends_with_hash}
 
--- the first byte of a lower or an upper name
-abbrev pub is_start : ℕ → Bool
-is_start b = ((is_lower_letter b || b == 95) || b == 36) || is_upper_letter b
-
-start_is_plain : (b : ℕ) → is_start b ≡ true → is_plain b ≡ true
+start_is_plain : (b : ℕ) → starts_names b ≡ true → is_plain b ≡ true
 start_is_plain b h = grind (arith, nat_tests)
 
-start_is_no_digit : (b : ℕ) → is_start b ≡ true → is_digit b ≡ false
+start_is_no_digit : (b : ℕ) → starts_names b ≡ true → is_digit b ≡ false
 start_is_no_digit b h = grind (arith, nat_tests)
 
-start_is_no_minus : (b : ℕ) → is_start b ≡ true → (b == 45) ≡ false
+start_is_no_minus : (b : ℕ) → starts_names b ≡ true → (b == 45) ≡ false
 start_is_no_minus b h = grind (arith, nat_tests)
 
-start_is_no_dot : (b : ℕ) → is_start b ≡ true → is_dot b ≡ false
+start_is_no_dot : (b : ℕ) → starts_names b ≡ true → is_dot b ≡ false
 start_is_no_dot b h = grind (arith, nat_tests)
 
-name_byte_is_plain : (b : ℕ) → is_name_byte b ≡ true → is_plain b ≡ true
+pub name_byte_is_plain : (b : ℕ) → is_name_byte b ≡ true → is_plain b ≡ true
 name_byte_is_plain b h = grind (arith, nat_tests)
 
 name_byte_is_no_dot : (b : ℕ) → is_name_byte b ≡ true → is_dot b ≡ false
@@ -40,15 +36,15 @@ all_follows p q f (b ∷ bs) h =
 or_left : (x y : Bool) → x ≡ true → (x || y) ≡ true
 or_left x y h = ap (λ b. b || y) h
 
-lower_starts : (b : ℕ) → ((is_lower_letter b || b == 95) || b == 36) ≡ true → is_start b ≡ true
+lower_starts : (b : ℕ) → ((is_lower_letter b || b == 95) || b == 36) ≡ true → starts_names b ≡ true
 lower_starts b h = or_left ((is_lower_letter b || b == 95) || b == 36) (is_upper_letter b) h
 
-pub upper_starts : (b : ℕ) → is_upper_letter b ≡ true → is_start b ≡ true
+pub upper_starts : (b : ℕ) → is_upper_letter b ≡ true → starts_names b ≡ true
 upper_starts b h = grind (arith, nat_tests)
 
 -- what a lower or an upper name is made of
 pub record IsNameOf (b : ℕ) (bs : List ℕ) : Type 0 where
-  pub start : is_start b ≡ true
+  pub start : starts_names b ≡ true
   pub others : list_all is_name_byte bs ≡ true
 
 name_parts_at : (b : ℕ) (bs : List ℕ) (l : Bool) → is_lower_name (b ∷ bs) ≡ l → (l || is_upper_name (b ∷ bs)) ≡ true → IsNameOf b bs
@@ -58,17 +54,26 @@ name_parts_at b bs false e h = let parts = and_parts (is_upper_letter b) (list_a
 pub name_parts : (b : ℕ) (bs : List ℕ) → is_plain_name (b ∷ bs) ≡ true → IsNameOf b bs
 name_parts b bs h = name_parts_at b bs (is_lower_name (b ∷ bs)) refl h
 
+from_parts : (l u t : Bool) → (l || u) ≡ true → t ≡ true → ((l && t) || (u && t)) ≡ true
+from_parts true u true h e = refl
+from_parts false true true h e = refl
+from_parts false false t h e = absurd (true≢false (sym h))
+from_parts l u false h e = absurd (true≢false (sym e))
+
+pub name_from_parts : (b : ℕ) (bs : List ℕ) → starts_names b ≡ true → list_all is_name_byte bs ≡ true → is_plain_name (b ∷ bs) ≡ true
+name_from_parts b bs s h = from_parts ((is_lower_letter b || b == 95) || b == 36) (is_upper_letter b) (list_all is_name_byte bs) s h
+
 pub name_is_plain : (b : ℕ) (bs : List ℕ) → IsNameOf b bs → list_all is_plain (b ∷ bs) ≡ true
 name_is_plain b bs n = ap (λ x. x && list_all is_plain bs) (start_is_plain b n.start) ∙ all_follows is_name_byte is_plain name_byte_is_plain bs n.others
 
 -- no literal
-not_digits : (b : ℕ) (bs : List ℕ) → is_start b ≡ true → is_digits (b ∷ bs) ≡ false
+not_digits : (b : ℕ) (bs : List ℕ) → starts_names b ≡ true → is_digits (b ∷ bs) ≡ false
 not_digits b bs h = ap (λ x. x && list_all is_digit bs) (start_is_no_digit b h)
 
-not_digits_behind : (b : ℕ) (bs : List ℕ) → is_start b ≡ true → is_digits (without_minus (b ∷ bs)) ≡ false
+not_digits_behind : (b : ℕ) (bs : List ℕ) → starts_names b ≡ true → is_digits (without_minus (b ∷ bs)) ≡ false
 not_digits_behind b bs h = ap (λ x. is_digits (cond x bs (b ∷ bs))) (start_is_no_minus b h) ∙ not_digits b bs h
 
-not_digits_before : (b : ℕ) (bs : List ℕ) → is_start b ≡ true → is_digits (without_minus (without_hash (b ∷ bs))) ≡ false
+not_digits_before : (b : ℕ) (bs : List ℕ) → starts_names b ≡ true → is_digits (without_minus (without_hash (b ∷ bs))) ≡ false
 not_digits_before b [] h = refl
 not_digits_before b (c ∷ cs) h =
     let e : length (b ∷ c ∷ cs) - 1 ≡ length (c ∷ cs) = omega arith in
@@ -78,7 +83,7 @@ and_false : (x y : Bool) → y ≡ false → (x && y) ≡ false
 and_false true y h = h
 and_false false y h = refl
 
-not_literal : (b : ℕ) (bs : List ℕ) → is_start b ≡ true → is_literal (b ∷ bs) ≡ false
+not_literal : (b : ℕ) (bs : List ℕ) → starts_names b ≡ true → is_literal (b ∷ bs) ≡ false
 not_literal b bs h = and_false (ends_with_hash (b ∷ bs)) _ (not_digits_before b bs h)
 
 -- no qualified name
@@ -124,7 +129,7 @@ by_tests false false true s a b c d l e h = refl
 by_tests false false false s a b c d l e h = absurd (true≢false (sym h))
 
 -- what starts as a name does, and is one, is a word
-pub starting_kind : (at b : ℕ) (bs : List ℕ) → is_start b ≡ true → is_name (b ∷ bs) ≡ true → word_kind at (b ∷ bs) ≡ Ok kind.Word
+pub starting_kind : (at b : ℕ) (bs : List ℕ) → starts_names b ≡ true → is_name (b ∷ bs) ≡ true → word_kind at (b ∷ bs) ≡ Ok kind.Word
 starting_kind at b bs h k =
     by_tests (is_literal (b ∷ bs)) (is_number (b ∷ bs)) (is_name (b ∷ bs)) (is_sign (b ∷ bs)) _ _ _ _
     (not_literal b bs h) (ap (λ x. x && nat_le (length (b ∷ bs)) 9) (not_digits b bs h)) k

@@ -55,6 +55,10 @@ is_module_byte b = ((is_lower_letter b || is_upper_letter b) || is_digit b) || b
 abbrev pub is_name_byte : ℕ → Bool
 is_name_byte b = ((is_module_byte b || b == 39) || b == 35) || b == 36
 
+-- a lower or an upper name starts with one of these
+abbrev pub starts_names : ℕ → Bool
+starts_names b = ((is_lower_letter b || b == 95) || b == 36) || is_upper_letter b
+
 -- a lower name starts with a lower letter, `_` or `$`
 abbrev pub is_lower_name : List ℕ → Bool
 is_lower_name [] = false

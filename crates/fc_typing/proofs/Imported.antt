@@ -1,4 +1,4 @@
--- What words mean in a module of a set where every module of the set is imported.
+-- What words mean in a module of a set where every other module of the set is imported.
 use Rattle.std.proofs.Common.{◌≡◌, ◌∙◌, ℕ, List, Some, map, option_map, slice_get, sym, ap}
 use Rattle.std.proofs.lemmas.Option.{slice_get-map}
 use Rattle.fc_model.proofs.Declares.{bare_top}

@@ -100,7 +100,7 @@ fn ends_behind<'a>(
 /// `Duplicate` for a binder that has the word of another of its space), then the faults of coercions, as `fc_coercion::ends_of` tells
 /// them. A fault stands in no declaration; its part numbers start at the coercion, but for one of the binders, which starts at the number
 /// of its binder. The types of the answer name the own module's declarations without a dot, all others with their module. What all
-/// modules declare is read anew by each call. Out of memory is answered also for a type of more than 1,500,000 pieces.
+/// modules declare is read anew by each call. Out of memory is answered also for a type of more than 1,500,000 pieces or 2,000 levels.
 pub fn ends(alloc: Global, g: &Co, env: &TypeEnv) -> Result<Ends, Flawed>
     ensures told { IfOk result (λ e. AreEndsOf (top_known env.now).own (locals_behind (binders_known env.now)).types e (ends_judged (modules_known env.now) (top_known env.now) (binders_known env.now) (co_of g.now))) }
     ensures fault { IfErr result (λ e. Refuses e (ends_judged (modules_known env.now) (top_known env.now) (binders_known env.now) (co_of g.now))) }

@@ -11,17 +11,17 @@ ghost use Rattle.fc_model.specs.Says.{Says};
 ghost use Rattle.fc_model.specs.WordSets.{set_of};
 ghost use Rattle.fc_scope.specs.ScopeWords.{with_binders};
 ghost use Rattle.fc_typing.specs.Behind.{forms_of_binders, locals_behind};
-ghost use Rattle.fc_typing.specs.Environments.{module_word, top_among_all};
+ghost use Rattle.fc_typing.specs.Environments.{module_word, top_among_all, words_but};
 
 use fc_model::{Declared, Flawed, WordSet};
 use fc_resolve_parts::{Entered, resolved_binders};
 use fc_scope::Scope;
-use fc_syntax::{Binder, Memory, NModule};
+use fc_syntax::{Binder, Memory, NModule, Text};
 use fc_types::Declarations;
 use std::alloc::Global;
 
 /// What is in scope where types, coercions and expressions are judged: what the modules of a set declare, what words mean in one of them,
-/// and binders. Every module of the set may be named.
+/// and binders. Every other module of the set may be named.
 #[derive(Drop)]
 pub struct TypeEnv<'a> {
     /// What the modules declare.
@@ -32,22 +32,33 @@ pub struct TypeEnv<'a> {
     pub(crate) binders: Vec<Binder>,
 }
 
-/// The names of modules.
-fn names_of(alloc: Global, modules: &[NModule]) -> Result<WordSet, Memory>
-    ensures { IfOk result (λ s. set_of s ≡ plus_all (map module_word (nmodules_of modules.now)) no_word) }
+/// Puts a name in that is not this one.
+fn add_other(alloc: Global, own: &Text, name: &Text, names: &mut WordSet) -> Result<(), Memory>
+    ensures { OnOk result ((ws : List trees.Word) → plus_all (words_but own.now ws) (set_of names.new) ≡ plus_all (words_but own.now (name.now ∷ ws)) (set_of names.old)) }
+{
+    if name.as_str() == own.as_str() {
+        Ok(())
+    } else {
+        names.add(alloc, name)
+    }
+}
+
+/// The names of modules but this one.
+fn other_names(alloc: Global, own: &Text, modules: &[NModule]) -> Result<WordSet, Memory>
+    ensures { IfOk result (λ s. set_of s ≡ plus_all (words_but own.now (map module_word (nmodules_of modules.now))) no_word) }
 {
     let mut names = WordSet::new(alloc);
     for m in modules {
-        names.add(alloc, &m.name)?;
+        add_other(alloc, own, &m.name, &mut names)?;
     }
     Ok(names)
 }
 
-/// What words mean in a module of a set where every module of the set is imported.
+/// What words mean in a module of a set where every other module of the set is imported.
 fn known_among(alloc: Global, modules: &[NModule], m: &NModule) -> Result<Declared, Memory>
     ensures { IfOk result (λ d. top_by d ≡ top_among_all (nmodules_of modules.now) (nmodule_of m.now)) }
 {
-    let imports = names_of(alloc, modules)?;
+    let imports = other_names(alloc, &m.name, modules)?;
     let mut own = Declared::of_module(alloc, m)?;
     own.imports = imports;
     Ok(own)

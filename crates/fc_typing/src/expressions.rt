@@ -99,7 +99,7 @@ fn type_behind<'a>(
 /// `Duplicate` for a word that is bound twice by one group), then the faults of types, as `fc_lint_expr::lint` tells them. No join point is in
 /// scope. A fault stands in no declaration; its part numbers start at the expression, but for one of the binders, which starts at the number
 /// of its binder. The answer names the own module's declarations without a dot, all others with their module. What all modules declare is
-/// read anew by each call. Out of memory is answered also for a type of more than 1,500,000 pieces.
+/// read anew by each call. Out of memory is answered also for a type of more than 1,500,000 pieces or 2,000 levels.
 pub fn lint(alloc: Global, e: &Expr, env: &TypeEnv) -> Result<Ty, Flawed>
     ensures told { IfOk result (λ t. IsTypeOf (top_known env.now).own (locals_behind (binders_known env.now)).types (ty_of t) (type_judged (modules_known env.now) (top_known env.now) (binders_known env.now) (expr_of e.now))) }
     ensures fault { IfErr result (λ f. Refuses f (type_judged (modules_known env.now) (top_known env.now) (binders_known env.now) (expr_of e.now))) }

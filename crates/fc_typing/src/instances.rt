@@ -72,7 +72,7 @@ fn instance_behind<'a>(
 /// A `forall` of an environment at a type, which is the textbook substitution, so no variable is captured; `None` where the first type is no
 /// `forall`. A fault is the first one of names: in the binders in scope, then in the first type, then in the other. Kinds are not judged.
 /// The answer names the own module's declarations without a dot, all others with their module. Out of memory is answered also for a type of
-/// more than 1,500,000 pieces.
+/// more than 1,500,000 pieces or 2,000 levels.
 pub fn instantiate(alloc: Global, t: &Ty, by: &Ty, env: &TypeEnv) -> Result<Option<Ty>, Flawed>
     ensures told { IfOk result (λ r. IsInstanceOf (top_known env.now).own (locals_behind (binders_known env.now)).types r (instance_judged (top_known env.now) (binders_known env.now) (ty_of t.now) (ty_of by.now))) }
     ensures fault { IfErr result (λ e. Refuses e (instance_judged (top_known env.now) (binders_known env.now) (ty_of t.now) (ty_of by.now))) }

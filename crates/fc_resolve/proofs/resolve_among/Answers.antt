@@ -12,10 +12,10 @@ pub returns-in-Ok-clause-form : goal.returns-in-Ok-clause-form
 returns-in-Ok-clause-form c =
     let whole = λ (top : Top) (earlier : Words). and_then (resolved_decls top earlier (decls_of c.args.m.now.decls))
     (λ ds. Ok (NModuleOf c.args.m.now.name c.args.m.now.imports c.args.m.now.exports c.args.m.now.hidden ds)) ≡ Ok (nmodule_of c.in-Ok.form) in
-    subst (λ top. whole top no_words) c.in_ok-top.ensures (subst (λ earlier. whole (top_by c.in_ok-top.top) earlier) c.new-earlier.ensures c.in-Ok.ensures.form)
+    subst (λ top. whole top no_words) c.in_ok-top.ensures.top (subst (λ earlier. whole (top_by c.in_ok-top.top) earlier) c.new-earlier.ensures c.in-Ok.ensures.form)
 
 pub returns-in-Err-clause-form : goal.returns-in-Err-clause-form
 returns-in-Err-clause-form c =
     let whole = λ (top : Top) (earlier : Words). Refuses c.in-Err.flawed (and_then (resolved_decls top earlier (decls_of c.args.m.now.decls))
     (λ ds. Ok (NModuleOf c.args.m.now.name c.args.m.now.imports c.args.m.now.exports c.args.m.now.hidden ds))) in
-    subst (λ top. whole top no_words) c.in_ok-top.ensures (subst (λ earlier. whole (top_by c.in_ok-top.top) earlier) c.new-earlier.ensures c.in-Err.ensures.form)
+    subst (λ top. whole top no_words) c.in_ok-top.ensures.top (subst (λ earlier. whole (top_by c.in_ok-top.top) earlier) c.new-earlier.ensures c.in-Err.ensures.form)

@@ -1,7 +1,7 @@
 -- The table is held against the definition at each of the 256 bytes, by computing.
 use Rattle.std.proofs.Common.{get_or, nat_eq, refl, arith}
 use Rattle.std.proofs.lemmas.Bool.{agree_below_at}
-use Rattle.fc_lex.specs.Classes.{starts_names}
+use Rattle.fc_syntax.specs.Tokens.{starts_names}
 use Rattle.fc_lex.specs.declared.word.TheConstants.{IN_NAMES}
 use Rattle.fc_lex.proofs.word.starts_name.Goals as goal
 

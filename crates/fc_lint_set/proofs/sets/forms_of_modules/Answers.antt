@@ -1,10 +1,16 @@
-use Rattle.fc_model.specs.NamelessView.{nmodules_of}
-use Rattle.fc_lint_set.proofs.Told.{forms_ended}
+use Rattle.std.proofs.Common.{◌∙◌, [], sym, subst}
+use Rattle.std.specs.Prelude.{IfSome}
+use Rattle.std.proofs.lemmas.List.{length-map}
+use Rattle.fc_model.specs.NamelessView.{nmodule_of, nmodules_of}
+use Rattle.fc_plan.specs.Modules.{behind}
+use Rattle.fc_lint_set.specs.Sets.{ResolveBehind}
+use Rattle.fc_lint_set.proofs.SetForms.{resolved_all, resolved_count}
 use Rattle.fc_lint_set.proofs.sets.forms_of_modules.Goals as goal
 
-pub returns-in-Err-Flaw : goal.returns-in-Err-Flaw
-returns-in-Err-Flaw c =
-    let found = nmodules_of c.loop-m.forms.items in
-    let ended = forms_ended c.args.modules.now found _ c.loop-m.m-index c.m-item.result c.in-Err-Flaw.field-0 c.in-Err-Flaw.flaw _ c.m-item.is c.loop-m-test.true c.loop-m.invariant.count
-    c.loop-m.invariant.forms c.in-Err-Flaw.ensures.form c.in-Err-Flaw.field-0-is c.in-Err-Flaw.flaw-is in
-    record { forms = ended.0; ends = ended.1 }
+pub returns-in-Some : goal.returns-in-Some
+returns-in-Some c =
+    let ms = behind c.args.modules.now in
+    let ks = nmodules_of c.in-Some.forms.items in
+    let named : ResolveBehind [] ms ks = subst (λ o. IfSome o (λ forms. ResolveBehind [] ms (nmodules_of forms.items))) c.in-Some.is c.in_ok-forms.ensures in
+    let all = resolved_all [] ms ks named in
+    record { forms = sym all.0; ends = sym (length-map c.in-Some.forms.items nmodule_of) ∙ resolved_count [] ms ks named; named = λ _. all.1 }

@@ -11,9 +11,9 @@ use Rattle.fc_model.proofs.declared.Declared.among.Goals as goal
 top_with : Offers → Word → WordSet → Words → Top
 top_with offers o is ws = record { own = o; imports = is; offers = offers; types = ws.types; terms = ws.terms; coercions = ws.coercions }
 
-pub returns : goal.returns
+pub returns-clause-top : goal.returns-clause-top
 unfolding words_by_space top_with
-returns g c =
+returns-clause-top g c =
     let decls = decls_of c.args.m.now.decls in
     let offers = offers_in c.args.offers in
     ap (λ o. top_with offers o (set_of c.add_all.new.self) (words_by_space c.in_ok-spaces.spaces)) c.in_ok-own.ensures

@@ -2,7 +2,7 @@ use Rattle.std.proofs.Common.{◌≡◌, ◌++◌, drop, length}
 use Rattle.fc_model.specs.Linting.{nameless_forms}
 use Rattle.fc_model.specs.NamelessView.{nmodules_of}
 use Rattle.fc_plan.specs.Modules.{behind}
-use Rattle.fc_lint_set.proofs.sets.forms_of_modules.Given as goal
+use Rattle.fc_lint_set.proofs.sets.unnamed_forms.Given as goal
 
 -- the forms that are found, before those of what is still to come, are those of the whole
 abbrev pub invariant-loop-m : goal.invariant-loop-m
