@@ -1,5 +1,5 @@
 -- What comes of the steps of a set, one behind the other.
-use Rattle.std.proofs.Common.{◌≡◌, ◌≢◌, ◌≤◌, ◌-◌, ℕ, List, [], ◌∷◌, ◌++◌, length, take, drop, get_or, Option, Some, None, refl, sym, ap, ◌∙◌, subst, arith, append-nil, append_assoc}
+use Rattle.std.proofs.Common.{map, ◌≡◌, ◌≢◌, ◌≤◌, ◌-◌, ℕ, List, [], ◌∷◌, ◌++◌, length, take, drop, get_or, Option, Some, None, refl, sym, ap, ◌∙◌, subst, arith, append-nil, append_assoc}
 use Rattle.std.proofs.Math.Seq.{take-length}
 use Rattle.fc_files.specs.Outside.{FileMap, Told}
 use Rattle.fc_build.specs.Delivering.{Delivers, DeliversStep, step_in, steps_in}
@@ -94,12 +94,16 @@ no_files_behind s ss e = nothing_first s.files (all_files ss) e
 
 -- FILES OF STEPS
 
+-- the first of a list, and those behind it, under a function
+pub first_under : {X Y : Type 0} (f : X → Y) (xs : List X) (x : X) → 1 ≤ length xs → x ≡ get_or xs 0 x → map f xs ≡ f x ∷ map f (take (length xs - 1) (drop 1 xs))
+first_under f [] x le e = absurd (omega (arith, le))
+first_under f (y ∷ ys) x le e =
+    let others : length (y ∷ ys) - 1 ≡ length ys = omega arith in
+    ap (λ z. f z ∷ map f ys) (sym e) ∙ ap (λ zs. f x ∷ map f zs) (sym (ap (λ k. take k ys) others ∙ take-length ys))
+
 -- the first step of a list, and those behind it
 pub front : (xs : List rust.Step) (x : rust.Step) → 1 ≤ length xs → x ≡ get_or xs 0 x → steps_in xs ≡ step_in x ∷ steps_in (take (length xs - 1) (drop 1 xs))
-front [] x le e = absurd (omega (arith, le))
-front (y ∷ ys) x le e =
-    let others : length (y ∷ ys) - 1 ≡ length ys = omega arith in
-    ap (λ s. step_in s ∷ steps_in ys) (sym e) ∙ ap (λ zs. step_in x ∷ steps_in zs) (sym (ap (λ k. take k ys) others ∙ take-length ys))
+front = first_under step_in
 
 -- where there are no files to write, there are none
 pub no_outputs : (files : List File) → outputs files ≡ [] → files ≡ []

@@ -1,4 +1,5 @@
 pub mod Delivered
+pub mod InterfacesWritten
 pub mod JudgeLemmas
 pub mod LineLemmas
 pub mod MeaningLemmas

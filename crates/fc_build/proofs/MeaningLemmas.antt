@@ -1,11 +1,11 @@
 -- What was written means what was read: headers alone have changed.
-use Rattle.std.proofs.Common.{◌≡◌, ◌≢◌, ◌∙◌, ℕ, false, bytes_eq, All, List, [], ◌∷◌, ◌++◌, codes, map, reverse, Option, Some, refl, sym, ap, subst, arith}
+use Rattle.std.proofs.Common.{◌≡◌, ◌≢◌, ◌∙◌, ℕ, Bool, false, bytes_eq, All, List, [], ◌∷◌, ◌++◌, codes, map, reverse, Option, Some, refl, sym, ap, subst, arith}
 use Rattle.std.proofs.lemmas.List.{append_cancel_left, append_cancel_right, reverse-append}
 use Rattle.std.proofs.lemmas.List.Elements.{All-nil, All-cons, All-head, All-tail}
 use Rattle.std.proofs.lemmas.Slice.Eq.{bytes_eq-Decides}
 use Rattle.fc_files.specs.Outside.{FileMap, put}
 use Rattle.fc_syntax.specs.Tree.{Module, ModuleOf}
-use Rattle.fc_model.specs.Canonical.{canonical, interface_text}
+use Rattle.fc_model.specs.Canonical.{canonical}
 use Rattle.fc_model.specs.Formed.{IsFormed}
 use Rattle.fc_model.specs.Headers.{decls_in, exports_of, name_of, set_written, written_of}
 use Rattle.fc_model.specs.Linting.{SetLints, nameless_forms}
@@ -15,11 +15,12 @@ use Rattle.fc_model.proofs.SetWritten.{all_written_alone, set_written_lints}
 use Rattle.fc_model.proofs.UnderHeader.{written_is_formed}
 use Rattle.fc_meaning.proofs.WrittenMeans.{written_means_the_same}
 use Rattle.fc_printer.proofs.ReadBack.{canonical_spells}
-use Rattle.fc_words.specs.Asking.{Building, Linting}
+use Rattle.fc_iface.proofs.ReadInterface.{interface_spells}
 use Rattle.fc_words.specs.declared.Tuning.{Tuning}
 use Rattle.fc_build.specs.Meaning.{AllSpell, KeepsMeaning, none_spell, one_spells}
-use Rattle.fc_build.specs.Product.{Output, all_files, core_name, interface_name, put_all, step_of, steps_of}
-use Rattle.fc_build.specs.Run.{AreFaithful}
+use Rattle.fc_build.specs.Product.{Output, all_files, behind_first, built_steps, core_name, interface_name, interface_written, put_all}
+use Rattle.fc_build.specs.Run.{AreFaithful, InterfaceSpells}
+use Rattle.fc_build.proofs.InterfacesWritten as interfaces
 use Rattle.fc_build.proofs.Ordered.{AreDistinctWords}
 
 -- HEADERS
@@ -42,17 +43,18 @@ map_written : {X : Type 0} (f : Module → X) → ((m : Module) → f (written_o
 map_written f same [] = refl
 map_written f same (m ∷ ms) = ap (λ x. x ∷ map f (map written_of ms)) (same m) ∙ ap (λ xs. f m ∷ xs) (map_written f same ms)
 
--- what is done for a module by Lint is the same under its written header
-same_step : (m : Module) → step_of Linting (written_of m) ≡ step_of Linting m
-same_step (ModuleOf m imports exports hidden ds) = refl
-
-pub same_steps : (ms : List Module) → map (step_of Linting) ms ≡ map (step_of Linting) (map written_of ms)
-same_steps ms = sym (map_written (step_of Linting) same_step ms)
-
 written_spell : (ms : List Module) → All IsFormed ms → All (λ m. Spells (canonical m) m) (map written_of ms)
 written_spell [] formed = All-nil (λ m. Spells (canonical m) m)
 written_spell (m ∷ ms) formed =
     All-cons (λ k. Spells (canonical k) k) (written_of m) (map written_of ms) (canonical_spells (written_of m) (written_is_formed m (All-head IsFormed m ms formed))) (written_spell ms (All-tail IsFormed m ms formed))
+
+-- interfaces of modules whose words are of their forms spell what they tell
+interfaces_spell : (ms : List Module) → All IsFormed ms → (grow : ℕ) (recursive : List Bool) → All (InterfaceSpells grow recursive) (map written_of ms)
+interfaces_spell [] formed grow recursive = All-nil (InterfaceSpells grow recursive)
+interfaces_spell (m ∷ ms) formed grow recursive =
+    let here = interfaces.written_is_formed grow recursive (written_of m) (written_is_formed m (All-head IsFormed m ms formed)) in
+    All-cons (InterfaceSpells grow recursive) (written_of m) (map written_of ms) (interface_spells (interface_written grow recursive (written_of m)) here)
+    (interfaces_spell ms (All-tail IsFormed m ms formed) grow recursive)
 
 -- a set that lints is written faithfully
 pub faithful : (ms : List Module) → All IsFormed ms → SetLints ms → AreFaithful ms
@@ -60,6 +62,7 @@ faithful ms formed lint =
     let alone = written_alone ms lint in
     record {
       spell = subst (All (λ m. Spells (canonical m) m)) (sym alone) (written_spell ms formed);
+      interfaces = λ grow recursive. subst (All (InterfaceSpells grow recursive)) (sym alone) (interfaces_spell ms formed grow recursive);
       lint = set_written_lints ms lint;
       names = ap (map name_of) alone ∙ map_written name_of same_name ms;
       exports = ap (map exports_of) alone ∙ map_written exports_of same_exports ms;
@@ -98,33 +101,34 @@ core_apart prefix m n apart =
     false_differ (name_of m) (name_of n) apart (sym (append_cancel_right (name_of n) (name_of m) (codes ".opt.fc") ends)))
 
 module _ (tuning : Tuning) (prefix : List ℕ) where
-  abbrev files_of : List Module → List Output
-  files_of ms = all_files (map (step_of (Building tuning prefix)) ms)
+  abbrev files_of : List (List Bool) → List Module → List Output
+  files_of recursive ms = all_files (built_steps tuning prefix recursive ms)
 
   -- files of modules of other names leave a core as it is
-  core_kept : (m : Module) (ms : List Module) (old : FileMap) → All (λ v. bytes_eq (name_of m) v ≡ false) (map name_of ms) → put_all (files_of ms) old (core_name prefix m) ≡ old (core_name prefix m)
-  core_kept m [] old apart = refl
-  core_kept m (n ∷ ms) old apart =
-      core_kept m ms _ (All-tail (λ v. bytes_eq (name_of m) v ≡ false) (name_of n) (map name_of ms) apart)
+  core_kept : (recursive : List (List Bool)) (m : Module) (ms : List Module) (old : FileMap) → All (λ v. bytes_eq (name_of m) v ≡ false) (map name_of ms)
+      → put_all (files_of recursive ms) old (core_name prefix m) ≡ old (core_name prefix m)
+  core_kept recursive m [] old apart = refl
+  core_kept recursive m (n ∷ ms) old apart =
+      core_kept (behind_first recursive) m ms _ (All-tail (λ v. bytes_eq (name_of m) v ≡ false) (name_of n) (map name_of ms) apart)
       ∙ rw (interface_apart prefix n m, core_apart prefix m n (All-head (λ v. bytes_eq (name_of m) v ≡ false) (name_of n) (map name_of ms) apart)) refl
 
-  core_is_put : (m : Module) (old : FileMap) → put (interface_name prefix m) (interface_text m) (put (core_name prefix m) (canonical m) old) (core_name prefix m) ≡ Some (canonical m)
-  core_is_put m old = rw (interface_apart prefix m m, bytes_eq_refl (core_name prefix m)) refl
+  core_is_put : (m : Module) (text : List ℕ) (old : FileMap) → put (interface_name prefix m) text (put (core_name prefix m) (canonical m) old) (core_name prefix m) ≡ Some (canonical m)
+  core_is_put m text old = rw (interface_apart prefix m m, bytes_eq_refl (core_name prefix m)) refl
 
   -- each core stands in the end
-  cores_stand : (ms : List Module) → AreDistinctWords (map name_of ms) → All (λ m. Spells (canonical m) m) ms → (old new : FileMap) → new ≡ put_all (files_of ms) old
-      → AllSpell (map (λ m. new (core_name prefix m)) ms) ms
-  cores_stand [] distinct spell old new e = none_spell
-  cores_stand (m ∷ ms) distinct spell old new e =
-      let held : new (core_name prefix m) ≡ Some (canonical m) = ap (λ (f : FileMap). f (core_name prefix m)) e ∙ core_kept m ms _ distinct.0 ∙ core_is_put m old in
+  cores_stand : (recursive : List (List Bool)) (ms : List Module) → AreDistinctWords (map name_of ms) → All (λ m. Spells (canonical m) m) ms → (old new : FileMap)
+      → new ≡ put_all (files_of recursive ms) old → AllSpell (map (λ m. new (core_name prefix m)) ms) ms
+  cores_stand recursive [] distinct spell old new e = none_spell
+  cores_stand recursive (m ∷ ms) distinct spell old new e =
+      let held : new (core_name prefix m) ≡ Some (canonical m) = ap (λ (f : FileMap). f (core_name prefix m)) e ∙ core_kept (behind_first recursive) m ms _ distinct.0 ∙ core_is_put m _ old in
       subst (λ (entry : Option (List ℕ)). AllSpell (entry ∷ map (λ n. new (core_name prefix n)) ms) (m ∷ ms)) (sym held)
-      (one_spells (All-head (λ k. Spells (canonical k) k) m ms spell) (cores_stand ms distinct.1 (All-tail (λ k. Spells (canonical k) k) m ms spell) _ new e))
+      (one_spells (All-head (λ k. Spells (canonical k) k) m ms spell) (cores_stand (behind_first recursive) ms distinct.1 (All-tail (λ k. Spells (canonical k) k) m ms spell) _ new e))
 
   -- what stands at the names of the cores means what was read
-  pub keeps_meaning : (ms : List Module) → SetLints ms → AreFaithful ms → AreDistinctWords (map name_of ms) → (old new : FileMap)
-      → new ≡ put_all (all_files (steps_of (Building tuning prefix) ms)) old → KeepsMeaning ms (map (λ m. new (core_name prefix m)) (set_written ms))
-  keeps_meaning ms lint faithful distinct old new e = record {
+  pub keeps_meaning : (ms : List Module) → SetLints ms → AreFaithful ms → AreDistinctWords (map name_of ms) → (recursive : List (List Bool)) (old new : FileMap)
+      → new ≡ put_all (files_of recursive (set_written ms)) old → KeepsMeaning ms (map (λ m. new (core_name prefix m)) (set_written ms))
+  keeps_meaning ms lint faithful distinct recursive old new e = record {
     written = set_written ms;
-    spell = cores_stand (set_written ms) (subst AreDistinctWords (sym faithful.names) distinct) faithful.spell old new e;
+    spell = cores_stand recursive (set_written ms) (subst AreDistinctWords (sym faithful.names) distinct) faithful.spell old new e;
     same = λ t main. written_means_the_same ms lint t main;
   }

@@ -1,18 +1,74 @@
 -- What is done for the modules of an accepted set is what is done for them in the order in which they are built.
-use Rattle.std.proofs.Common.{◌≡◌, ◌∙◌, map, slice_get, sym, ap}
+use Rattle.std.proofs.Common.{◌≡◌, ◌<◌, ◌+◌, ◌∙◌, ℕ, Bool, List, [], ◌∷◌, ◌++◌, Vec, Result, Ok, Err, OnOk, get_or, length, map, slice_get, take, refl, sym, ap, subst, append_assoc}
+use Rattle.std.proofs.lemmas.List.{map-append, take_more}
+use Rattle.std.specs.declared.alloc.Global.{Global}
 use Rattle.std.specs.List.{filter_map}
-use Rattle.fc_model.specs.Headers.{written_of}
+use Rattle.fc_syntax.specs.Tree.{Module, ModuleOf}
+use Rattle.fc_model.specs.Headers.{set_written, written_of}
+use Rattle.fc_syntax.specs.declared.module.Module as RustModule
+use Rattle.fc_syntax.specs.declared.ty.Ref.{Ref}
+use Rattle.fc_model.specs.Nameless.{NModule}
+use Rattle.fc_model.specs.NamelessView.{nmodule_of, nmodules_of}
 use Rattle.fc_model.specs.Planning.{build_order}
-use Rattle.fc_words.specs.Asking.{Order}
+use Rattle.fc_reaching.specs.Recursion.{AreRecursive}
+use Rattle.fc_words.specs.declared.Tuning.{Tuning}
+use Rattle.fc_words.specs.Asking.{Order, Building, Linting}
 use Rattle.fc_build.specs.Judging.{IsReadySet, modules_in}
-use Rattle.fc_build.specs.Product.{step_of, steps_of}
+use Rattle.fc_build.specs.Product.{AreAllRecursive, AreSteps, Step, behind_first, built_step, built_steps, first_of, linted_step}
+use Rattle.fc_build.specs.SetSteps.{AreStepsOf, marks_in}
 use Rattle.fc_build.specs.declared.judge.Set.{Set}
 use Rattle.fc_build.proofs.MeaningLemmas.{written_alone}
 use Rattle.fc_build.proofs.Ordered.{picked, picked_map}
 
-pub steps_are : (order : Order) (set : Set) → IsReadySet set
-    → map (step_of order) (filter_map (slice_get (map written_of (modules_in set))) set.order) ≡ steps_of order (build_order (modules_in set))
-steps_are order set ready =
+-- Lint asks for no header
+same_step : (m : Module) → linted_step m ≡ linted_step (written_of m)
+same_step (ModuleOf m imports exports hidden ds) = refl
+
+same_steps : (ms : List Module) → map linted_step ms ≡ map linted_step (map written_of ms)
+same_steps [] = refl
+same_steps (m ∷ ms) = ap (λ s. s ∷ map linted_step ms) (same_step m) ∙ ap (λ ss. linted_step (written_of m) ∷ ss) (same_steps ms)
+
+-- in their order, each under its header
+ordered : (set : Set) → IsReadySet set → filter_map (slice_get (map written_of (modules_in set))) set.order ≡ set_written (build_order (modules_in set))
+ordered set ready =
     let ms = modules_in set in
-    ap (map (step_of order)) (picked_map written_of ms set.order ∙ ap (map written_of) (picked ms set.order (build_order ms) ready.order)
-    ∙ sym (written_alone (build_order ms) ready.ready.lints))
+    picked_map written_of ms set.order ∙ ap (map written_of) (picked ms set.order (build_order ms) ready.order) ∙ sym (written_alone (build_order ms) ready.ready.lints)
+
+pub steps_are : (order : Order) (set : Set) (steps : List Step) → IsReadySet set → AreStepsOf order set steps → AreSteps order (build_order (modules_in set)) steps
+steps_are (Building tuning prefix) set steps ready is = record {
+  recursive = is.recursive;
+  reach = subst (λ forms. AreAllRecursive forms is.recursive) ready.forms is.reach;
+  are = is.are ∙ ap (built_steps tuning prefix is.recursive) (ordered set ready);
+}
+steps_are Linting set steps ready is =
+    let ms = build_order (modules_in set) in
+    is ∙ ap (map linted_step) (picked (modules_in set) set.order ms ready.order) ∙ same_steps ms ∙ ap (map linted_step) (sym (written_alone ms ready.ready.lints))
+
+-- one more module, and what is said of it
+recursive_more : (forms : List NModule) (all : List (List Bool)) (form : NModule) (marks : List Bool) → AreAllRecursive forms all → AreRecursive form marks
+    → AreAllRecursive (forms ++ form ∷ []) (all ++ marks ∷ [])
+recursive_more [] [] form marks are is = (is, tt)
+recursive_more [] (r ∷ rs) form marks are is = absurd are
+recursive_more (f ∷ fs) [] form marks are is = absurd are
+recursive_more (f ∷ fs) (r ∷ rs) form marks are is = (are.0, recursive_more fs rs form marks are.1 is)
+
+-- the same of the next of a list
+pub recursive_step : (forms : List (RustModule.Module ℕ Ref)) (all more : List (Vec Bool Global)) (i : ℕ) (form : RustModule.Module ℕ Ref) (marks : Vec Bool Global)
+    → more ≡ all ++ marks ∷ [] → AreRecursive (nmodule_of form) marks.items → i < length forms → form ≡ get_or forms i form
+    → AreAllRecursive (nmodules_of (take i forms)) (marks_in all) → AreAllRecursive (nmodules_of (take (i + 1) forms)) (marks_in more)
+recursive_step forms all more i form marks pushed is within here are =
+    let forms_more : nmodules_of (take (i + 1) forms) ≡ nmodules_of (take i forms) ++ nmodule_of form ∷ []
+    = ap nmodules_of (take_more forms i form within) ∙ ap (λ f. nmodules_of (take i forms ++ f ∷ [])) (sym here) ∙ map-append nmodule_of (take i forms) (form ∷ []) in
+    let marks_more : marks_in more ≡ marks_in all ++ marks.items ∷ [] = ap marks_in pushed ∙ map-append (λ (m : Vec Bool Global). m.items) all (marks ∷ []) in
+    subst (λ fs. AreAllRecursive fs (marks_in more)) (sym forms_more)
+    (subst (AreAllRecursive (nmodules_of (take i forms) ++ nmodule_of form ∷ [])) (sym marks_more) (recursive_more (nmodules_of (take i forms)) (marks_in all) (nmodule_of form) marks.items are is))
+
+-- what a build does for a first module, and for those behind it
+pub built_first : {X E : Type 0} (r : Result X E) (tuning : Tuning) (prefix : List ℕ) (recursive : List (List Bool)) (all : List Module) (m : Module) (ms : List Module) (old pushed new : List Step)
+    → all ≡ m ∷ ms → pushed ≡ old ++ built_step tuning prefix (first_of recursive) m ∷ [] → OnOk r (new ≡ pushed ++ built_steps tuning prefix (behind_first recursive) ms)
+    → OnOk r (new ≡ old ++ built_steps tuning prefix recursive all)
+built_first (Err e) tuning prefix recursive all m ms old pushed new parts first others = tt
+built_first (Ok x) tuning prefix recursive all m ms old pushed new parts first others =
+    let step = built_step tuning prefix (first_of recursive) m in
+    let rest = built_steps tuning prefix (behind_first recursive) ms in
+    others ∙ ap (λ ss. ss ++ rest) first ∙ append_assoc old (step ∷ []) rest ∙ ap (λ ks. old ++ built_steps tuning prefix recursive ks) (sym parts)

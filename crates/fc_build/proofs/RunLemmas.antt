@@ -15,14 +15,13 @@ use Rattle.fc_words.specs.declared.Tuning.{Tuning}
 use Rattle.fc_build.specs.Acceptance.{Accepted, FaultOfSet, FirstFault, faulty, too_many, unlinted, unplanned, unread}
 use Rattle.fc_build.specs.Judging.{IsReady}
 use Rattle.fc_build.specs.Meaning.{KeepsMeaning}
-use Rattle.fc_build.specs.Delivering.{Delivers, IsSameDevice, steps_in}
+use Rattle.fc_build.specs.Delivering.{Delivers, IsSameDevice}
 use Rattle.fc_build.specs.Preparing.{IsAccepted, IsProduct, Stops, files_in}
-use Rattle.fc_build.specs.Product.{Step, all_files, core_name, put_all, step_of, steps_of}
+use Rattle.fc_build.specs.Product.{AreBuilt, AreSteps, Step, all_files, core_name, linted_step, put_all}
 use Rattle.fc_build.specs.Ending.{TellsDelivery, delivery_status, stop_status}
 use Rattle.fc_build.specs.Run.{AreFaithful, IsDone, IsMemoryEnd, IsWriteFault, Keeps, at_a_file, at_file, at_out}
 use Rattle.fc_build.specs.declared.deliver.Delivery.{Delivery}
 use Rattle.fc_build.specs.declared.deliver.Delivery.TheVariants as delivery
-use Rattle.fc_build.specs.declared.product.Step as rust
 use Rattle.fc_build.specs.declared.prepare.Stop.{Stop}
 use Rattle.fc_build.specs.declared.prepare.Stop.TheVariants as stop
 use Rattle.fc_build.proofs.MeaningLemmas.{faithful, keeps_meaning}
@@ -75,88 +74,86 @@ stop_complete words (Some m) reads reads' stop.Memory status is why a asks stays
 -- WHERE SOMETHING IS WRITTEN
 
 -- what stands at the names of the cores means what was read
-means : (tuning : Tuning) (prefix : List ℕ) (set : List Module) (held held' : Option FileMap) → IsReady set → AreFaithful (build_order set)
-    → Told held held' (λ m m'. m' ≡ put_all (all_files (steps_of (Building tuning prefix) (build_order set))) m)
+means : (tuning : Tuning) (prefix : List ℕ) (set : List Module) (steps : List Step) (held held' : Option FileMap) → IsReady set → AreFaithful (build_order set)
+    → AreBuilt tuning prefix (build_order set) steps → Told held held' (λ m m'. m' ≡ put_all (all_files steps) m)
     → Told held held' (λ m m'. KeepsMeaning (build_order set) (map (λ w. m' (core_name prefix w)) (set_written (build_order set))))
-means tuning prefix set None held' ready is told = tt
-means tuning prefix set (Some m) None ready is told = told
-means tuning prefix set (Some m) (Some m') ready is told = keeps_meaning tuning prefix (build_order set) ready.lints is (built_names_differ set) m m' told
+means tuning prefix set steps None held' ready is built told = tt
+means tuning prefix set steps (Some m) None ready is built told = told
+means tuning prefix set steps (Some m) (Some m') ready is built told =
+    keeps_meaning tuning prefix (build_order set) ready.lints is (built_names_differ set) built.recursive m m' (told ∙ ap (λ ss. put_all (all_files ss) m) built.are)
 
 -- Lint has no files to write
-lint_files : (ms : List Module) → all_files (map (step_of Linting) ms) ≡ []
+lint_files : (ms : List Module) → all_files (map linted_step ms) ≡ []
 lint_files [] = refl
 lint_files (m ∷ ms) = lint_files ms
 
-keeps : (order : Order) (set : List Module) (held held' : Option FileMap) → IsReady set → Told held held' (λ m m'. m' ≡ put_all (all_files (steps_of order (build_order set))) m)
-    → (all_files (steps_of order (build_order set)) ≡ [] → held' ≡ held) → Keeps order (build_order set) held held'
-keeps (Building tuning prefix) set held held' ready told same =
-    let is = faithful (build_order set) (order_keeps IsFormed set ready.formed) ready.lints in (is, means tuning prefix set held held' ready is told)
-keeps Linting set held held' ready told same = same (lint_files (set_written (build_order set)))
+no_files : (order : Order) (ms : List Module) (steps : List Step) → order ≡ Linting → AreSteps order ms steps → all_files steps ≡ []
+no_files (Building tuning prefix) ms steps e are = absurd cc
+no_files Linting ms steps e are = ap all_files are ∙ lint_files (set_written ms)
+
+keeps : (order : Order) (set : List Module) (steps : List Step) (held held' : Option FileMap) → IsReady set → AreSteps order (build_order set) steps
+    → Told held held' (λ m m'. m' ≡ put_all (all_files steps) m) → (all_files steps ≡ [] → held' ≡ held) → Keeps order (build_order set) held held'
+keeps (Building tuning prefix) set steps held held' ready are told same =
+    let is = faithful (build_order set) (order_keeps IsFormed set ready.formed) ready.lints in (is, means tuning prefix set steps held held' ready is are told)
+keeps Linting set steps held held' ready are told same = same (no_files Linting (build_order set) steps refl are)
 
 -- a set of which there is a product has no fault
-pub product_has_no_fault : (words : List (List ℕ)) (held : Option FileMap) (steps : List rust.Step) (P : Type 0) → IsProduct words held steps
+pub product_has_no_fault : (words : List (List ℕ)) (held : Option FileMap) (steps : List Step) (P : Type 0) → IsProduct words held steps
     → (a : Asked) → asked words ≡ Some a → IfSome held (λ m. (f : Fault) → FirstFault (files_in a) m f → P)
 product_has_no_fault words held steps P product a asks = no_fault words held product.request product.set P product.input a asks
 
 -- what comes of a product
-module _ (words : List (List ℕ)) (held mid held' : Option FileMap) (steps : List rust.Step) (product : IsProduct words held steps) (same : mid ≡ held)
+module _ (words : List (List ℕ)) (held mid held' : Option FileMap) (steps : List Step) (product : IsProduct words held steps) (same : mid ≡ held)
     (writes mid_writes writes' : ℕ) (same_writes : mid_writes ≡ writes) (out out' : Option (List ℕ)) (puts puts' : ℕ) where
-  abbrev asked_steps : List Step
-  asked_steps = steps_of product.request.order (build_order product.set)
-
-  pub delivered : (d : Delivery) → Delivers d (steps_in steps) mid held' mid_writes writes' out out' puts puts' → Delivers d asked_steps held held' writes writes' out out' puts puts'
+  pub delivered : (d : Delivery) → Delivers d steps mid held' mid_writes writes' out out' puts puts' → Delivers d steps held held' writes writes' out out' puts puts'
   delivered d is =
-      subst (λ (h : Option FileMap). Delivers d asked_steps h held' writes writes' out out' puts puts') same
-      (subst (λ (w : ℕ). Delivers d asked_steps mid held' w writes' out out' puts puts') same_writes
-      (subst (λ (ss : List Step). Delivers d ss mid held' mid_writes writes' out out' puts puts') product.steps is))
+      subst (λ (h : Option FileMap). Delivers d steps h held' writes writes' out out' puts puts') same
+      (subst (λ (w : ℕ). Delivers d steps mid held' w writes' out out' puts puts') same_writes is)
 
   -- where nothing is to be written, nothing is
-  pub nothing_written : (all_files (steps_in steps) ≡ [] → IsSameDevice mid held' mid_writes writes') → all_files asked_steps ≡ [] → IsSameDevice held held' writes writes'
-  nothing_written go none =
-      let same_all = go (ap all_files product.steps ∙ none) in
-      (same_all.0 ∙ same, same_all.1 ∙ same_writes)
+  nothing_written : (all_files steps ≡ [] → IsSameDevice mid held' mid_writes writes') → all_files steps ≡ [] → IsSameDevice held held' writes writes'
+  nothing_written go none = let same_all = go none in (same_all.0 ∙ same, same_all.1 ∙ same_writes)
 
-  pub delivered_done : (d : Delivery) → Delivers d (steps_in steps) mid held' mid_writes writes' out out' puts puts'
-      → (all_files (steps_in steps) ≡ [] → IsSameDevice mid held' mid_writes writes') → delivery_status d ≡ 0 → IsDone words held held' out out'
+  pub delivered_done : (d : Delivery) → Delivers d steps mid held' mid_writes writes' out out' puts puts'
+      → (all_files steps ≡ [] → IsSameDevice mid held' mid_writes writes') → delivery_status d ≡ 0 → IsDone words held held' out out'
   delivered_done delivery.Done is go e =
       let all = delivered delivery.Done is in
       record {
-        request = product.request;
-        set = product.set;
-        input = product.input;
+        steps = steps;
+        product = product;
         files = all.0;
         lines = all.1;
-        keeps = keeps product.request.order product.set held held' product.input.ready all.0 (λ none. (nothing_written go none).0);
+        keeps = keeps product.request.order product.set steps held held' product.input.ready product.are all.0 (λ none. (nothing_written go none).0);
       }
   delivered_done (delivery.WriteFault name) is go e = absurd (omega (arith, e))
   delivered_done delivery.PutFault is go e = absurd (omega (arith, e))
   delivered_done delivery.Memory is go e = absurd (omega (arith, e))
 
   module _ (err err' : Option (List ℕ)) (faults faults' : ℕ) where
-    pub delivered_write_fault : (d : Delivery) → Delivers d (steps_in steps) mid held' mid_writes writes' out out' puts puts' → TellsDelivery d faults faults' err err'
+    pub delivered_write_fault : (d : Delivery) → Delivers d steps mid held' mid_writes writes' out out' puts puts' → TellsDelivery d faults faults' err err'
         → delivery_status d ≡ 4 → IsWriteFault words held held' writes writes' out out' puts puts' err err' faults faults'
     delivered_write_fault delivery.Done is says e = absurd (omega (arith, e))
     delivered_write_fault (delivery.WriteFault name) is says e =
         let all = delivered (delivery.WriteFault name) is in
-        at_file product.request product.set name.now product.input all.0 all.1 all.2 all.3 all.4 says
+        at_file steps name.now product all.0 all.1 all.2 all.3 all.4 says
     delivered_write_fault delivery.PutFault is says e =
         let all = delivered delivery.PutFault is in
-        at_out product.request product.set product.input all.0 all.1 all.2 all.3 says
+        at_out steps product all.0 all.1 all.2 all.3 says
     delivered_write_fault delivery.Memory is says e = absurd (omega (arith, e))
 
-    pub delivered_memory : (d : Delivery) → Delivers d (steps_in steps) mid held' mid_writes writes' out out' puts puts' → TellsDelivery d faults faults' err err'
+    pub delivered_memory : (d : Delivery) → Delivers d steps mid held' mid_writes writes' out out' puts puts' → TellsDelivery d faults faults' err err'
         → delivery_status d ≡ 5 → IsMemoryEnd words held held' out out' err err' faults faults'
     delivered_memory delivery.Done is says e = absurd (omega (arith, e))
     delivered_memory (delivery.WriteFault name) is says e = absurd (omega (arith, e))
     delivered_memory delivery.PutFault is says e = absurd (omega (arith, e))
     delivered_memory delivery.Memory is says e =
         let all = delivered delivery.Memory is in
-        record { stands = at_a_file product.request product.set product.input all.0 all.1 all.2; line = says }
+        record { stands = at_a_file steps product all.0 all.1 all.2; line = says }
 
-  lints_nothing : (a : Asked) → asked words ≡ Some a → a.order ≡ Linting → all_files asked_steps ≡ []
+  lints_nothing : (a : Asked) → asked words ≡ Some a → a.order ≡ Linting → all_files steps ≡ []
   lints_nothing a asks lint =
       let one : product.request ≡ a = asked_one (asked words) product.request a product.input.asks asks in
-      ap (λ (o : Order). all_files (steps_of o (build_order product.set))) (ap (λ (x : Asked). x.order) one ∙ lint) ∙ lint_files (set_written (build_order product.set))
+      no_files product.request.order (build_order product.set) steps (ap (λ (x : Asked). x.order) one ∙ lint) product.are
 
-  pub delivered_lint : (all_files (steps_in steps) ≡ [] → IsSameDevice mid held' mid_writes writes') → (a : Asked) → asked words ≡ Some a → a.order ≡ Linting → IsSameDevice held held' writes writes'
+  pub delivered_lint : (all_files steps ≡ [] → IsSameDevice mid held' mid_writes writes') → (a : Asked) → asked words ≡ Some a → a.order ≡ Linting → IsSameDevice held held' writes writes'
   delivered_lint go a asks lint = nothing_written go (lints_nothing a asks lint)

@@ -7,3 +7,4 @@ pub mod Meaning
 pub mod Preparing
 pub mod Product
 pub mod Run
+pub mod SetSteps

@@ -9,11 +9,11 @@ use Rattle.fc_model.specs.Planning.{build_order}
 use Rattle.fc_words.specs.Asking.{Asked, asked}
 use Rattle.fc_build.specs.declared.prepare.Stop.{Stop}
 use Rattle.fc_build.specs.declared.prepare.Stop.TheVariants as stop
-use Rattle.fc_build.specs.declared.product.Step.{Step}
+use Rattle.fc_build.specs.declared.product.Step as rust
 use Rattle.fc_load.specs.Answers.{IsReached}
 use Rattle.fc_build.specs.Judging.{IsReady}
 use Rattle.fc_build.specs.Lines.{refusal_line}
-use Rattle.fc_build.specs.Product.{steps_of}
+use Rattle.fc_build.specs.Product.{AreSteps, Step}
 use Rattle.fc_build.specs.Delivering.{steps_in}
 
 -- the files that the words ask for
@@ -26,12 +26,12 @@ pub record IsAccepted (words : List (List ℕ)) (held : Option FileMap) (a : Ask
   pub accepted : IfSome held (λ m. Accepted (files_in a) m set)
   pub ready : IsReady set
 
--- what is to be done for an accepted set
-pub record IsProduct (words : List (List ℕ)) (held : Option FileMap) (made : List Step) : Type 0 where
+-- what is to be done for an accepted set: the steps that the words ask for
+pub record IsProduct (words : List (List ℕ)) (held : Option FileMap) (steps : List Step) : Type 0 where
   pub request : Asked
   pub set : List Module
   pub input : IsAccepted words held request set
-  pub steps : steps_in made ≡ steps_of request.order (build_order set)
+  pub are : AreSteps request.order (build_order set) steps
 
 -- the words ask for something, and this is the first fault of the set
 pub record HasFault (words : List (List ℕ)) (held : Option FileMap) (f : Fault) : Type 0 where
@@ -66,6 +66,6 @@ Stops words held reads reads' stop.Usage = asked words ≡ None
 Stops words held reads reads' (stop.ReadFault name) = FailsToRead words held reads reads' name.now
 Stops words held reads reads' stop.Memory = ⊤
 
-abbrev pub Prepares : List (List ℕ) → Option FileMap → ℕ → ℕ → Result (Vec Step Global) Stop → Type 0
-Prepares words held reads reads' (Ok steps) = IsProduct words held steps.items
+abbrev pub Prepares : List (List ℕ) → Option FileMap → ℕ → ℕ → Result (Vec rust.Step Global) Stop → Type 0
+Prepares words held reads reads' (Ok steps) = IsProduct words held (steps_in steps.items)
 Prepares words held reads reads' (Err s) = Stops words held reads reads' s

@@ -1,9 +1,17 @@
 -- What is done for each module of a set, in the order in which the modules are built: its files, and then its line on the output.
-use Rattle.std.specs.Prelude.{◌≡◌, ◌⊎◌, ◌≤◌, ℕ, List, [], ◌∷◌, ◌++◌, codes, length, map, take, string_bytes}
+use Rattle.std.specs.Prelude.{◌≡◌, ◌⊎◌, ◌≤◌, ⊤, ℕ, Bool, false, List, [], ◌∷◌, ◌++◌, codes, length, map, take, string_bytes}
 use Rattle.fc_files.specs.Outside.{FileMap, SameBut, put}
-use Rattle.fc_syntax.specs.Tree.{Module}
-use Rattle.fc_model.specs.Canonical.{canonical, interface_text}
-use Rattle.fc_model.specs.Headers.{name_of, set_written}
+use Rattle.fc_syntax.specs.Demands.{NoDemands, Sig, SigOf}
+use Rattle.fc_syntax.specs.Tree.{Decl, DDef, DWrap, Module}
+use Rattle.fc_model.specs.Canonical.{canonical}
+use Rattle.fc_model.specs.Grammar.{Interface}
+use Rattle.fc_model.specs.Headers.{decls_in, name_of, set_written}
+use Rattle.fc_model.specs.InterfaceTexts.{interface_text}
+use Rattle.fc_model.specs.Linting.{nameless_forms}
+use Rattle.fc_model.specs.Nameless.{NModule}
+use Rattle.fc_reaching.specs.Recursion.{AreRecursive}
+use Rattle.fc_iface.specs.Interfaces.{interface_of}
+use Rattle.fc_words.specs.declared.Tuning.{Tuning}
 use Rattle.fc_words.specs.Asking.{Order, Building, Linting}
 use Rattle.fc_build.specs.declared.product.File.{File}
 
@@ -34,9 +42,20 @@ interface_name prefix m = file_name prefix m (codes ".fci")
 abbrev pub core_output : List ℕ → Module → Output
 core_output prefix m = record { name = core_name prefix m; text = canonical m }
 
--- its interface
-abbrev pub interface_output : List ℕ → Module → Output
-interface_output prefix m = record { name = interface_name prefix m; text = interface_text m }
+-- a signature for each definition, which says nothing: no demands are found yet
+abbrev pub unknown_sigs : List Decl → List Sig
+unknown_sigs [] = []
+unknown_sigs (DDef x t e ∷ ds) = SigOf NoDemands false ∷ unknown_sigs ds
+unknown_sigs (DWrap x t e ∷ ds) = SigOf NoDemands false ∷ unknown_sigs ds
+unknown_sigs (d ∷ ds) = unknown_sigs ds
+
+-- the interface of a module, where right sides of so many nodes are told, and truth values say which of its declarations reach themselves
+abbrev pub interface_written : ℕ → List Bool → Module → Interface
+interface_written grow recursive m = interface_of grow recursive m (unknown_sigs (decls_in m))
+
+-- the text of that
+abbrev pub interface_output : ℕ → List Bool → List ℕ → Module → Output
+interface_output grow recursive prefix m = record { name = interface_name prefix m; text = interface_text (interface_written grow recursive m) }
 
 -- THE STEPS OF A SET
 
@@ -45,17 +64,49 @@ pub record Step : Type 0 where
   pub files : List Output
   pub line : List ℕ
 
--- of a module under the header that is written: a build writes both its files; Lint writes nothing
-abbrev pub step_of : Order → Module → Step
-step_of (Building tuning prefix) m = record {
-  files = core_output prefix m ∷ interface_output prefix m ∷ [];
+-- a build writes both files of a module under the header that is written
+abbrev pub built_step : Tuning → List ℕ → List Bool → Module → Step
+built_step tuning prefix recursive m = record {
+  files = core_output prefix m ∷ interface_output tuning.grow recursive prefix m ∷ [];
   line = codes "built " ++ (name_of m ++ 10 ∷ []);
 }
-step_of Linting m = record { files = []; line = codes "ok " ++ (name_of m ++ 10 ∷ []) }
 
--- for the modules of a set, in the order in which they are built
-abbrev pub steps_of : Order → List Module → List Step
-steps_of order ms = map (step_of order) (set_written ms)
+-- Lint writes nothing
+abbrev pub linted_step : Module → Step
+linted_step m = record { files = []; line = codes "ok " ++ (name_of m ++ 10 ∷ []) }
+
+-- what is said of the first module, and of those behind it
+abbrev pub first_of : List (List Bool) → List Bool
+first_of [] = []
+first_of (r ∷ rs) = r
+
+abbrev pub behind_first : List (List Bool) → List (List Bool)
+behind_first [] = []
+behind_first (r ∷ rs) = rs
+
+-- what a build does for modules, where for each it is said which of its declarations reach themselves
+abbrev pub built_steps : Tuning → List ℕ → List (List Bool) → List Module → List Step
+built_steps tuning prefix recursive [] = []
+built_steps tuning prefix recursive (m ∷ ms) = built_step tuning prefix (first_of recursive) m ∷ built_steps tuning prefix (behind_first recursive) ms
+
+-- for each module it is said which of its declarations are definitions that reach themselves
+abbrev pub AreAllRecursive : List NModule → List (List Bool) → Type 0
+AreAllRecursive [] [] = ⊤
+AreAllRecursive [] (r ∷ rs) = ⊥
+AreAllRecursive (m ∷ ms) [] = ⊥
+AreAllRecursive (m ∷ ms) (r ∷ rs) = AreRecursive m r × AreAllRecursive ms rs
+
+-- These are the steps of a build of modules in the order in which they are built. A header that is written changes no declaration, so which reach
+-- themselves is asked of the modules as they were read.
+pub record AreBuilt (tuning : Tuning) (prefix : List ℕ) (ms : List Module) (steps : List Step) : Type 0 where
+  pub recursive : List (List Bool)
+  pub reach : AreAllRecursive (nameless_forms ms) recursive
+  pub are : steps ≡ built_steps tuning prefix recursive (set_written ms)
+
+-- these are the steps that an order asks for, of modules in the order in which they are built
+abbrev pub AreSteps : Order → List Module → List Step → Type 0
+AreSteps (Building tuning prefix) ms steps = AreBuilt tuning prefix ms steps
+AreSteps Linting ms steps = steps ≡ map linted_step (set_written ms)
 
 -- the files of steps, one after the other, and their lines
 abbrev pub all_files : List Step → List Output

@@ -1,23 +1,30 @@
 -- What each answer of the top call says.
-use Rattle.std.specs.Prelude.{◌≡◌, ℕ, List, [], ◌∷◌, ◌++◌, map, Option}
+use Rattle.std.specs.Prelude.{◌≡◌, ℕ, Bool, List, [], ◌∷◌, ◌++◌, map, Option}
 use Rattle.std.specs.List.{All}
 use Rattle.fc_files.specs.Outside.{FileMap, Rose, Told}
 use Rattle.fc_syntax.specs.Tree.{Module}
 use Rattle.fc_syntax.specs.declared.fault.Fault.{Fault}
 use Rattle.fc_model.specs.Canonical.{canonical}
 use Rattle.fc_model.specs.Headers.{decls_in, exports_of, name_of, set_written}
+use Rattle.fc_model.specs.InterfaceTexts.{interface_text}
 use Rattle.fc_model.specs.Linting.{SetLints}
 use Rattle.fc_model.specs.Planning.{build_order}
-use Rattle.fc_model.specs.Texts.{Spells}
-use Rattle.fc_words.specs.Asking.{Asked, Order, Building, Linting}
+use Rattle.fc_model.specs.Texts.{Spells, SpellsInterface}
+use Rattle.fc_words.specs.Asking.{Order, Building, Linting}
 use Rattle.fc_build.specs.Lines.{Gets, memory_line, read_fault_line, refusal_line, write_fault_line}
 use Rattle.fc_build.specs.Meaning.{KeepsMeaning}
-use Rattle.fc_build.specs.Preparing.{FailsToRead, HasFault, IsAccepted}
-use Rattle.fc_build.specs.Product.{IsNameAmong, Stopped, StopsAt, TakesSome, WritesSome, all_files, all_lines, core_name, put_all, steps_of}
+use Rattle.fc_build.specs.Preparing.{FailsToRead, HasFault, IsProduct}
+use Rattle.fc_build.specs.Product.{IsNameAmong, Step, Stopped, StopsAt, TakesSome, WritesSome, all_files, all_lines, core_name, interface_written, put_all}
 
--- The texts written spell modules that lint as a set, of the same names, with the same exports at the same types: each declaration is unchanged.
+-- the text of an interface spells the interface
+abbrev pub InterfaceSpells : ℕ → List Bool → Module → Type 0
+InterfaceSpells grow recursive m = SpellsInterface (interface_text (interface_written grow recursive m)) (interface_written grow recursive m)
+
+-- The texts written spell modules that lint as a set, of the same names, with the same exports at the same types: each declaration is unchanged. And the
+-- text of an interface spells the interface, whatever it tells.
 pub record AreFaithful (ms : List Module) : Type 0 where
   pub spell : All (λ m. Spells (canonical m) m) (set_written ms)
+  pub interfaces : (grow : ℕ) (recursive : List Bool) → All (InterfaceSpells grow recursive) (set_written ms)
   pub lint : SetLints (set_written ms)
   pub names : map name_of (set_written ms) ≡ map name_of ms
   pub exports : map exports_of (set_written ms) ≡ map exports_of ms
@@ -30,12 +37,11 @@ Keeps Linting ms held held' = held' ≡ held
 
 -- The work is done: the set is accepted, the files held are those before with the files of all modules put in, and the stream got the lines.
 pub record IsDone (words : List (List ℕ)) (held held' : Option FileMap) (out out' : Option (List ℕ)) : Type 0 where
-  pub request : Asked
-  pub set : List Module
-  pub input : IsAccepted words held request set
-  pub files : Told held held' (λ m m'. m' ≡ put_all (all_files (steps_of request.order (build_order set))) m)
-  pub lines : Told out out' (λ a b. b ≡ a ++ all_lines (steps_of request.order (build_order set)))
-  pub keeps : Keeps request.order (build_order set) held held'
+  pub steps : List Step
+  pub product : IsProduct words held steps
+  pub files : Told held held' (λ m m'. m' ≡ put_all (all_files steps) m)
+  pub lines : Told out out' (λ a b. b ≡ a ++ all_lines steps)
+  pub keeps : Keeps product.request.order (build_order product.set) held held'
 
 -- The set is refused: the line names its first fault.
 pub record IsRefused (words : List (List ℕ)) (held : Option FileMap) (err err' : Option (List ℕ)) (faults faults' : ℕ) : Type 0 where
@@ -53,11 +59,11 @@ pub record IsReadFault (words : List (List ℕ)) (held : Option FileMap) (reads 
 -- before, and the lines of the modules before were put. Or the put of a line failed: the files of its module and of those before stand whole, and
 -- the stream took the lines of those before and some of this one.
 pub data IsWriteFault (words : List (List ℕ)) (held held' : Option FileMap) (writes writes' : ℕ) (out out' : Option (List ℕ)) (puts puts' : ℕ) (err err' : Option (List ℕ)) (faults faults' : ℕ) : Type 0 where
-  at_file : (request : Asked) (set : List Module) (name : List ℕ) → IsAccepted words held request set → (at : Stopped (steps_of request.order (build_order set)))
+  at_file : (steps : List Step) (name : List ℕ) → IsProduct words held steps → (at : Stopped steps)
       → IsNameAmong at.step.files name → Rose writes writes' → Told held held' (λ m m'. StopsAt at.step.files name (put_all (all_files at.before) m) m')
       → Told out out' (λ a b. b ≡ a ++ all_lines at.before) → Gets (write_fault_line name) faults faults' err err'
       → IsWriteFault words held held' writes writes' out out' puts puts' err err' faults faults'
-  at_out : (request : Asked) (set : List Module) → IsAccepted words held request set → (at : Stopped (steps_of request.order (build_order set)))
+  at_out : (steps : List Step) → IsProduct words held steps → (at : Stopped steps)
       → Rose puts puts' → Told held held' (λ m m'. m' ≡ put_all (all_files (at.before ++ (at.step ∷ []))) m)
       → Told out out' (λ a b. TakesSome at.step.line (a ++ all_lines at.before) b) → Gets (write_fault_line (45 ∷ [])) faults faults' err err'
       → IsWriteFault words held held' writes writes' out out' puts puts' err err' faults faults'
@@ -73,7 +79,7 @@ pub record IsUntouched (held held' : Option FileMap) (writes writes' : ℕ) (out
 -- anything, every other is as before, and the lines of the modules before were put.
 pub data MemoryEndsAt (words : List (List ℕ)) (held held' : Option FileMap) (out out' : Option (List ℕ)) : Type 0 where
   before_writing : held' ≡ held → out' ≡ out → MemoryEndsAt words held held' out out'
-  at_a_file : (request : Asked) (set : List Module) → IsAccepted words held request set → (at : Stopped (steps_of request.order (build_order set)))
+  at_a_file : (steps : List Step) → IsProduct words held steps → (at : Stopped steps)
       → Told held held' (λ m m'. WritesSome at.step.files (put_all (all_files at.before) m) m') → Told out out' (λ a b. b ≡ a ++ all_lines at.before)
       → MemoryEndsAt words held held' out out'
 

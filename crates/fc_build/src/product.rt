@@ -1,21 +1,28 @@
 //! Makes the files of the modules of a set, and writes them.
-ghost use Rattle.std.specs.Prelude.{◌≡◌, ◌≤◌, ◌++◌, ◌∷◌, [], IfOk, map, slice_get, string_bytes};
+ghost use Rattle.std.specs.Prelude.{◌≡◌, ◌≤◌, ◌++◌, ◌∷◌, [], IfOk, OnOk, map, slice_get, string_bytes};
 ghost use Rattle.std.specs.List.{filter_map};
-ghost use Rattle.fc_syntax.specs.View.{module_of};
+ghost use Rattle.fc_syntax.specs.View.{decls_of, module_of};
 ghost use Rattle.fc_model.specs.Headers.{written_of};
+ghost use Rattle.fc_model.specs.NamelessView.{nmodules_of};
+ghost use Rattle.fc_lattice.specs.View.{sigs_of};
 ghost use Rattle.fc_words.specs.Asking.{order_of};
+ghost use Rattle.fc_words.specs.Numbers.{IsWithinRanges};
 ghost use Rattle.fc_build.specs.Delivering.{IsSameDevice, WritesAll, step_in, steps_in};
 ghost use Rattle.fc_plan.specs.Modules.{behind};
 ghost use Rattle.fc_build.specs.Judging.{modules_in};
-ghost use Rattle.fc_build.specs.Product.{core_output, interface_output, output_of, outputs, step_of as spec_step_of};
+ghost use Rattle.fc_build.specs.Product as spec;
+ghost use Rattle.fc_build.specs.Product.{AreAllRecursive, built_steps, core_output, interface_output, output_of, outputs};
+ghost use Rattle.fc_build.specs.SetSteps.{AreBuiltOf, AreStepsOf, marks_in};
 
 use crate::judge::Set;
 use fc_files::{Files, WriteAnswer};
-use fc_iface::print_interface;
+use fc_iface::{interface, print_interface};
+use fc_lattice::Sig;
 use fc_plan::in_order;
 use fc_printer::{print_module, written};
-use fc_syntax::{Memory, Module, Text};
-use fc_words::Command;
+use fc_reaching::recursive;
+use fc_syntax::{Decl, Memory, Module, NModule, Seq, Text};
+use fc_words::{Command, Tuning};
 use std::alloc::{AllocError, Global};
 
 /// A file to be written.
@@ -66,21 +73,53 @@ fn core_file(alloc: Global, prefix: &str, m: &Module) -> Result<File, Memory>
     Ok(File { name, text })
 }
 
-/// The interface of a module, under its name.
-fn interface_file(alloc: Global, prefix: &str, m: &Module) -> Result<File, Memory>
-    ensures { IfOk result (λ f. output_of f ≡ interface_output prefix.now (module_of m.now)) }
+/// A signature for each definition, which says nothing: no demands are found yet.
+fn unknown_sigs(alloc: Global, decls: &[Decl]) -> Result<Vec<Sig>, Memory>
+    ensures { IfOk result (λ sigs. sigs_of sigs.items ≡ spec.unknown_sigs (decls_of decls.now)) }
+{
+    let mut all = Vec::new(alloc);
+    for decl in decls {
+        if matches!(decl, Decl::Def(_, _, _) | Decl::Wrap(_, _, _)) {
+            all.push(Sig {
+                args: Seq::new(alloc),
+                diverges: false,
+            })?;
+        }
+    }
+    Ok(all)
+}
+
+/// The interface of a module, of which it is said which declarations reach themselves, under its name.
+fn interface_file(
+    alloc: Global,
+    grow: u64,
+    recursive: &[bool],
+    prefix: &str,
+    m: &Module,
+) -> Result<File, Memory>
+    requires { grow ≤ 10000 }
+    ensures { IfOk result (λ f. output_of f ≡ interface_output grow recursive.now prefix.now (module_of m.now)) }
 {
     let name = file_name(alloc, prefix, m.name.as_str(), ".fci")?;
-    let text = print_interface(alloc, m)?;
+    let sigs = unknown_sigs(alloc, m.decls.as_slice())?;
+    let told = interface(alloc, m, recursive, sigs.as_slice(), grow)?;
+    let text = print_interface(alloc, &told)?;
     Ok(File { name, text })
 }
 
 /// The files of a module, in the order in which they are written.
-fn files_of(alloc: Global, prefix: &str, m: &Module) -> Result<Vec<File>, Memory>
-    ensures { IfOk result (λ files. outputs files.items ≡ core_output prefix.now (module_of m.now) ∷ interface_output prefix.now (module_of m.now) ∷ []) }
+fn files_of(
+    alloc: Global,
+    grow: u64,
+    recursive: &[bool],
+    prefix: &str,
+    m: &Module,
+) -> Result<Vec<File>, Memory>
+    requires { grow ≤ 10000 }
+    ensures { IfOk result (λ files. outputs files.items ≡ core_output prefix.now (module_of m.now) ∷ interface_output grow recursive.now prefix.now (module_of m.now) ∷ []) }
 {
     let core = core_file(alloc, prefix, m)?;
-    let interface = interface_file(alloc, prefix, m)?;
+    let interface = interface_file(alloc, grow, recursive, prefix, m)?;
     Ok(vec![in alloc; core, interface]?)
 }
 
@@ -94,36 +133,92 @@ fn line_of(alloc: Global, word: &str, name: &Text) -> Result<Vec<u8>, Memory>
     Ok(line)
 }
 
-/// What is done for a module under the header that is written.
-fn step_of(alloc: Global, command: Command<'_>, m: &Module) -> Result<Step, Memory>
-    ensures { IfOk result (λ s. step_in s ≡ spec_step_of (order_of command.entry) (module_of m.now)) }
+/// What a build does for a module under the header that is written.
+fn built_step(
+    alloc: Global,
+    tuning: Tuning,
+    prefix: &str,
+    recursive: &[bool],
+    m: &Module,
+) -> Result<Step, Memory>
+    requires { tuning.grow ≤ 10000 }
+    ensures { IfOk result (λ s. step_in s ≡ spec.built_step tuning prefix.now recursive.now (module_of m.now)) }
 {
-    match command {
-        Command::Build(_, prefix) => {
-            let line = line_of(alloc, "built ", &m.name)?;
-            let files = files_of(alloc, prefix, m)?;
-            Ok(Step { files, line })
-        }
-        Command::Lint => {
-            let line = line_of(alloc, "ok ", &m.name)?;
-            Ok(Step {
-                files: Vec::new(alloc),
-                line,
-            })
+    let line = line_of(alloc, "built ", &m.name)?;
+    let files = files_of(alloc, tuning.grow, recursive, prefix, m)?;
+    Ok(Step { files, line })
+}
+
+/// What Lint does for a module.
+fn linted_step(alloc: Global, m: &Module) -> Result<Step, Memory>
+    ensures { IfOk result (λ s. step_in s ≡ spec.linted_step (module_of m.now)) }
+{
+    let line = line_of(alloc, "ok ", &m.name)?;
+    Ok(Step {
+        files: Vec::new(alloc),
+        line,
+    })
+}
+
+/// What is said of the first module; nothing where none is left.
+fn first_of(recursive: &[Vec<bool>]) -> &[bool]
+    ensures { result.now ≡ spec.first_of (marks_in recursive.now) }
+{
+    match recursive {
+        [] => &[],
+        [first, ..] => first.as_slice(),
+    }
+}
+
+/// What is said of the modules behind the first.
+fn behind_first(recursive: &[Vec<bool>]) -> &[Vec<bool>]
+    ensures { marks_in result.now ≡ spec.behind_first (marks_in recursive.now) }
+{
+    match recursive {
+        [] => recursive,
+        [_, others @ ..] => others,
+    }
+}
+
+/// Puts what a build does for modules, one after the other, behind other steps.
+fn add_built(
+    alloc: Global,
+    tuning: Tuning,
+    prefix: &str,
+    recursive: &[Vec<bool>],
+    modules: &[&Module],
+    steps: &mut Vec<Step>,
+) -> Result<(), Memory>
+    requires { tuning.grow ≤ 10000 }
+    ensures { OnOk result (steps_in steps.new.items ≡ steps_in steps.old.items ++ built_steps tuning prefix.now (marks_in recursive.now) (behind modules.now)) }
+{
+    match modules {
+        [] => Ok(()),
+        [m, others @ ..] => {
+            steps.push(built_step(alloc, tuning, prefix, first_of(recursive), *m)?)?;
+            add_built(
+                alloc,
+                tuning,
+                prefix,
+                behind_first(recursive),
+                others,
+                steps,
+            )
         }
     }
 }
 
-/// What is done for modules, one after the other.
-fn steps_of(alloc: Global, command: Command<'_>, modules: &[&Module]) -> Result<Vec<Step>, Memory>
-    ensures { IfOk result (λ steps. steps_in steps.items ≡ map (spec_step_of (order_of command.entry)) (behind modules.now)) }
+/// For each module, given by its nameless form, which of its declarations are definitions that reach themselves.
+#[tactic(auto, using(crate::proofs::Products::recursive_step))]
+fn recursive_in(alloc: Global, forms: &[NModule]) -> Result<Vec<Vec<bool>>, Memory>
+    ensures { IfOk result (λ all. AreAllRecursive (nmodules_of forms.now) (marks_in all.items)) }
 {
-    let mut steps = Vec::new(alloc);
-    for m in modules {
-        let step = step_of(alloc, command, *m)?;
-        steps.push(step)?;
+    let mut all = Vec::new(alloc);
+    for form in forms {
+        let marks = recursive(alloc, form)?;
+        all.push(marks)?;
     }
-    Ok(steps)
+    Ok(all)
 }
 
 /// The modules, each under the header that is written.
@@ -138,30 +233,62 @@ fn all_written(alloc: Global, modules: Vec<Module>) -> Result<Vec<Module>, Memor
     Ok(all)
 }
 
-/// The modules as what is done for them takes them: a build writes them under their written headers; of Lint the header changes nothing.
-fn headed(alloc: Global, command: Command<'_>, modules: Vec<Module>) -> Result<Vec<Module>, Memory>
-    ensures { IfOk result (λ all. map (spec_step_of (order_of command.entry)) (map module_of all.items) ≡ map (spec_step_of (order_of command.entry)) (map written_of (map module_of modules.items))) }
-{
-    match command {
-        Command::Build(_, _) => all_written(alloc, modules),
-        Command::Lint => Ok(modules),
-    }
-}
-
-/// What is done for each module of an accepted set, in the order in which they are built. Nothing works on nameless forms yet, so their memory
-/// is given back before any text is made.
-pub(crate) fn steps_for(alloc: Global, command: Command<'_>, set: Set) -> Result<Vec<Step>, Memory>
-    ensures { IfOk result (λ steps. steps_in steps.items ≡ map (spec_step_of (order_of command.entry)) (filter_map (slice_get (map written_of (modules_in set))) set.order)) }
+/// What a build does for each module of an accepted set, in the order in which they are built. The memory of nameless forms is given back before
+/// any text is made.
+fn built(alloc: Global, tuning: Tuning, prefix: &str, set: Set) -> Result<Vec<Step>, Memory>
+    requires { tuning.grow ≤ 10000 }
+    ensures { IfOk result (λ steps. AreBuiltOf tuning prefix.now set (steps_in steps.items)) }
 {
     let Set {
         modules,
         order,
         forms,
     } = set;
+    let recursive = recursive_in(alloc, forms.as_slice())?;
     drop(forms);
-    let modules = headed(alloc, command, modules)?;
+    let modules = all_written(alloc, modules)?;
     let ordered = in_order(alloc, modules.as_slice(), order.as_slice())?;
-    steps_of(alloc, command, ordered.as_slice())
+    let mut steps = Vec::new(alloc);
+    add_built(
+        alloc,
+        tuning,
+        prefix,
+        recursive.as_slice(),
+        ordered.as_slice(),
+        &mut steps,
+    )?;
+    Ok(steps)
+}
+
+/// What Lint does for modules, one after the other.
+fn linted_steps(alloc: Global, modules: &[&Module]) -> Result<Vec<Step>, Memory>
+    ensures { IfOk result (λ steps. steps_in steps.items ≡ map spec.linted_step (behind modules.now)) }
+{
+    let mut steps = Vec::new(alloc);
+    for m in modules {
+        let step = linted_step(alloc, *m)?;
+        steps.push(step)?;
+    }
+    Ok(steps)
+}
+
+/// What Lint does for each module of an accepted set, in the order in which they are built.
+fn linted(alloc: Global, set: Set) -> Result<Vec<Step>, Memory>
+    ensures { IfOk result (λ steps. steps_in steps.items ≡ map spec.linted_step (filter_map (slice_get (modules_in set)) set.order)) }
+{
+    let ordered = in_order(alloc, set.modules.as_slice(), set.order.as_slice())?;
+    linted_steps(alloc, ordered.as_slice())
+}
+
+/// What is done for each module of an accepted set, in the order in which they are built.
+pub(crate) fn steps_for(alloc: Global, command: Command<'_>, set: Set) -> Result<Vec<Step>, Memory>
+    requires { IsWithinRanges command }
+    ensures { IfOk result (λ steps. AreStepsOf (order_of command.entry) set (steps_in steps.items)) }
+{
+    match command {
+        Command::Build(tuning, prefix) => built(alloc, tuning, prefix, set),
+        Command::Lint => linted(alloc, set),
+    }
 }
 
 /// Writes the files in order, up to the first write that fails.

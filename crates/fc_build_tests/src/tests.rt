@@ -570,7 +570,7 @@ fn declarations_are_written(rt: HostRuntime) -> Result<(), Fail> {
         b"(module M (imports) (exports T x) (hidden K P y)\n (data T () (K ()) (P () T Int#))\n (def x T y)\n (def y T (con P (con K) -7#)))\n";
     assert!(rt; holds(alloc, &mut ran, "./M.opt.fc", Some(core))?);
     let interface: &[u8] =
-        b"(interface 1 M (imports) (exports T x) (hidden K P y)\n (data T () (K ()) (P () T Int#))\n (value x T (sig) none)\n (value y T (sig) none))\n";
+        b"(interface 1 M (imports) (exports T x) (hidden K P y)\n (data T () (K ()) (P () T Int#))\n (value x T (sig) (def y))\n (value y T (sig) (def (con P (con K) -7#))))\n";
     assert!(rt; holds(alloc, &mut ran, "./M.fci", Some(interface))?);
     Ok(())
 }
@@ -599,7 +599,7 @@ fn functions_are_written(rt: HostRuntime) -> Result<(), Fail> {
         b"(module M (imports) (exports compose) (hidden T K y)\n (data T () (K ()))\n (def compose (fun (fun T T) (fun T T) T T) (lam ((f (fun T T)) (g (fun T T)) (x T)) (app f (app g x))))\n (def y T (let (z T (con K)) (app compose (lam ((x T)) x) (lam ((x T)) z) z))))\n";
     assert!(rt; holds(alloc, &mut ran, "./M.opt.fc", Some(core))?);
     let interface: &[u8] =
-        b"(interface 1 M (imports) (exports compose) (hidden T K y)\n (data T () (K ()))\n (value compose (fun (fun T T) (fun T T) T T) (sig) none)\n (value y T (sig) none))\n";
+        b"(interface 1 M (imports) (exports compose) (hidden T K y)\n (data T () (K ()))\n (value compose (fun (fun T T) (fun T T) T T) (sig) (def (lam ((f (fun T T)) (g (fun T T)) (x T)) (app f (app g x)))))\n (value y T (sig) (def (let (z T (con K)) (app compose (lam ((x T)) x) (lam ((x T)) z) z)))))\n";
     assert!(rt; holds(alloc, &mut ran, "./M.fci", Some(interface))?);
     Ok(())
 }
@@ -616,7 +616,7 @@ fn polymorphic_functions_are_written(rt: HostRuntime) -> Result<(), Fail> {
         b"(module Id (imports) (exports id)\n (def id (forall (a *) (fun a a)) (lam ((type a *) (x a)) x)))\n";
     assert!(rt; holds(alloc, &mut ran, "./Id.opt.fc", Some(core))?);
     let interface: &[u8] =
-        b"(interface 1 Id (imports) (exports id)\n (value id (forall (a *) (fun a a)) (sig) none))\n";
+        b"(interface 1 Id (imports) (exports id)\n (value id (forall (a *) (fun a a)) (sig) (def (lam ((type a *) (x a)) x))))\n";
     assert!(rt; holds(alloc, &mut ran, "./Id.fci", Some(interface))?);
     Ok(())
 }
@@ -632,8 +632,51 @@ fn loops_are_written(rt: HostRuntime) -> Result<(), Fail> {
         b"(module M (imports) (exports f)\n (wrap f (fun Int# Int#) (lam ((n Int#)) (joinrec Int# ((go ((k Int#)) (case (prim ># k 9#) (b Int#) Int# (default k) (0# (case (prim +# k 1#) (m Int#) Int# (default (jump go m))))))) (jump go n)))))\n";
     assert!(rt; holds(alloc, &mut ran, "./M.opt.fc", Some(core))?);
     let interface: &[u8] =
-        b"(interface 1 M (imports) (exports f)\n (value f (fun Int# Int#) (sig) none))\n";
+        b"(interface 1 M (imports) (exports f)\n (value f (fun Int# Int#) (sig) (wrap (lam ((n Int#)) (joinrec Int# ((go ((k Int#)) (case (prim ># k 9#) (b Int#) Int# (default k) (0# (case (prim +# k 1#) (m Int#) Int# (default (jump go m))))))) (jump go n))))))\n";
     assert!(rt; holds(alloc, &mut ran, "./M.fci", Some(interface))?);
+    Ok(())
+}
+
+#[test]
+fn right_sides_are_told_up_to_the_bound(rt: HostRuntime) -> Result<(), Fail> {
+    let alloc = rt.alloc();
+    let text =
+        b"(module M (imports) (exports) (data T () (K ())) (def f T g) (def g T f) (def h (fun T T) (lam ((f T)) f)) (wrap w T (app h w)))";
+    let front =
+        "(interface 1 M (imports) (exports) (hidden T K f g h w)\n (data T () (K ()))\n (value f T (sig) none)\n (value g T (sig) none)\n ";
+    let cases: [(&str, &str); 4] = [
+        (
+            "1",
+            "(value h (fun T T) (sig) none)\n (value w T (sig) none))\n",
+        ),
+        (
+            "2",
+            "(value h (fun T T) (sig) (def (lam ((f T)) f)))\n (value w T (sig) none))\n",
+        ),
+        (
+            "3",
+            "(value h (fun T T) (sig) (def (lam ((f T)) f)))\n (value w T (sig) (wrap (app h w))))\n",
+        ),
+        (
+            "10000",
+            "(value h (fun T T) (sig) (def (lam ((f T)) f)))\n (value w T (sig) (wrap (app h w))))\n",
+        ),
+    ];
+    for (grow, back) in cases {
+        let words: &[&str] = &["build", "--small", "0", "--grow", grow, "M.fc"];
+        let mut ran = run_over(&rt, alloc, words, text, &SOUND)?;
+        let mut interface = String::from_str(alloc, front)?;
+        interface.push_str(back)?;
+        assert!(rt;
+            holds(
+                alloc,
+                &mut ran,
+                "./M.fci",
+                Some(interface.as_str().as_bytes())
+            )?,
+            "{grow}"
+        );
+    }
     Ok(())
 }
 

@@ -2,8 +2,9 @@
 use Rattle.std.proofs.Common.{◌≡◌, ◌∙◌, ℕ, List, ◌∷◌, refl, sym, ap, subst, arith}
 use Rattle.fc_syntax.specs.Tree.{Module}
 use Rattle.fc_syntax.specs.declared.fault.Fault.{Fault}
+use Rattle.fc_model.specs.FileForms.{ModuleFile}
 use Rattle.fc_model.specs.Texts.{Spells}
-use Rattle.fc_reader.proofs.Laws.{no_module, one_module}
+use Rattle.fc_reader.proofs.Laws.{none_spelled, one_spelled}
 use Rattle.fc_load.specs.Loading.{Amount, AllReadTo, FaultOfBytes, FaultOfEntry, FaultOfReading, FileReadsTo, Holding, in_first, in_later, no_files, one_file, room_for_size, too_long, unread, with_file}
 
 -- a file holds the same bytes each time
@@ -12,7 +13,7 @@ same_bytes p q = cc (p.holds, q.holds)
 
 -- and the same module
 same_module : {held : Holding} {read : Amount} {file bytes others : List ℕ} {m n : Module} → FileReadsTo held read file bytes m → FileReadsTo held read file others n → m ≡ n
-same_module {bytes = bytes} {m = m} {n = n} p q = one_module bytes m n p.reads.spelled (subst (λ b. Spells b n) (sym (same_bytes p q)) q.reads.spelled)
+same_module {bytes = bytes} {m = m} {n = n} p q = one_spelled ModuleFile bytes m n p.reads.spelled (subst (λ b. Spells b n) (sym (same_bytes p q)) q.reads.spelled)
 
 -- so that the same is left for the files behind it
 same_rest : {held : Holding} {read : Amount} {file bytes others : List ℕ} {m n : Module} → FileReadsTo held read file bytes m → FileReadsTo held read file others n → with_file read others n ≡ with_file read bytes m
@@ -30,7 +31,7 @@ one_reading {held = held} (one_file {files = files} p ps) (one_file {ms = ns} q 
 -- bytes that hold a module have no fault
 no_fault_of_bytes : (held : Holding) (read : Amount) (file bytes : List ℕ) (m : Module) (f : Fault) → FileReadsTo held read file bytes m → FaultOfBytes read file bytes f → ⊥
 no_fault_of_bytes held read file bytes m f p (too_long more is) = omega (arith, p.short)
-no_fault_of_bytes held read file bytes m f p (unread fault short first is) = no_module (room_for_size read) bytes fault m first p.reads
+no_fault_of_bytes held read file bytes m f p (unread fault short first is) = none_spelled ModuleFile (room_for_size read) bytes fault m first p.reads
 
 -- files that hold modules have no fault of reading
 pub no_fault_of_read : {held : Holding} {read : Amount} {files : List (List ℕ)} {ms : List Module} {f : Fault} → AllReadTo held read files ms → FaultOfReading held f read files → ⊥

@@ -3,11 +3,12 @@ use Rattle.std.proofs.Common.{◌≡◌, ◌≤◌, ℕ, List, length, subst}
 use Rattle.fc_syntax.specs.declared.fault.Fault.{Fault}
 use Rattle.fc_syntax.specs.declared.fault.Refusal.{Refusal}
 use Rattle.fc_syntax.specs.declared.fault.Refusal.TheVariants as refusal
+use Rattle.fc_model.specs.FileForms.{ModuleFile}
 use Rattle.fc_reader.specs.Refusals.{IsFaultOf, IsReadRefusal}
 use Rattle.fc_load.specs.Loading.{Amount, FaultOfBytes, room_for_bytes, room_for_size, unread}
 
 -- what the reader refuses has a first fault of reading
-pub unread_by : (read : Amount) (file bytes : List ℕ) (f : Fault) → length bytes ≤ room_for_bytes read → IsFaultOf (room_for_size read) file bytes f → FaultOfBytes read file bytes f
+pub unread_by : (read : Amount) (file bytes : List ℕ) (f : Fault) → length bytes ≤ room_for_bytes read → IsFaultOf ModuleFile (room_for_size read) file bytes f → FaultOfBytes read file bytes f
 unread_by read file bytes f short fault =
     unread (record { kind = f.kind; at = fault.at }) short fault.first
     (λ i. record { kind = f.kind; «module» = fault.of_file i; def = fault.of_no_declaration i; path = fault.at_byte i })

@@ -7,6 +7,7 @@ use Rattle.fc_syntax.specs.Tree.{Module}
 use Rattle.fc_syntax.specs.declared.fault.Fault.{Fault}
 use Rattle.fc_syntax.specs.declared.fault.FaultKind.TheVariants as kind
 use Rattle.fc_syntax.specs.declared.fault.Place.TheVariants as place
+use Rattle.fc_model.specs.FileForms.{ModuleFile}
 use Rattle.fc_model.specs.Planning.{of_file}
 use Rattle.fc_model.specs.ReadFaults.{FirstReadFault, ReadsTo}
 
@@ -39,7 +40,7 @@ with_file read bytes m = record { bytes = read.bytes + length bytes; size = read
 pub record FileReadsTo (held : Holding) (read : Amount) (file bytes : List ℕ) (m : Module) : Type 0 where
   pub holds : held file ≡ Some bytes
   pub short : length bytes ≤ room_for_bytes read
-  pub reads : ReadsTo (room_for_size read) bytes m
+  pub reads : ReadsTo ModuleFile (room_for_size read) bytes m
 
 -- files hold these modules, one after the other
 pub data AllReadTo (held : Holding) : Amount → List (List ℕ) → List Module → Type 0 where
@@ -53,7 +54,7 @@ pub data AllReadTo (held : Holding) : Amount → List (List ℕ) → List Module
 -- that is one too many; else they have a first fault of reading.
 pub data FaultOfBytes (read : Amount) (file bytes : List ℕ) (f : Fault) : Type 0 where
   too_long : room_for_bytes read < length bytes → f ≡ of_file kind.TooLong file (place.Byte (room_for_bytes read)) → FaultOfBytes read file bytes f
-  unread : (fault : ByteFault) → length bytes ≤ room_for_bytes read → FirstReadFault (room_for_size read) bytes fault
+  unread : (fault : ByteFault) → length bytes ≤ room_for_bytes read → FirstReadFault ModuleFile (room_for_size read) bytes fault
       → f ≡ of_file fault.kind file (place.Byte fault.at) → FaultOfBytes read file bytes f
 
 -- the first fault of a file, which is missing where its name holds nothing

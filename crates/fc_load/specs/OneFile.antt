@@ -3,6 +3,7 @@ use Rattle.std.specs.Prelude.{◌≡◌, ⊤, ℕ, List}
 use Rattle.fc_files.specs.Outside.{FileMap}
 use Rattle.fc_syntax.specs.Tree.{Module}
 use Rattle.fc_syntax.specs.View.{module_of}
+use Rattle.fc_model.specs.FileForms.{ModuleFile}
 use Rattle.fc_model.specs.Formed.{IsFormed}
 use Rattle.fc_model.specs.ReadFaults.{ReadsTo}
 use Rattle.fc_load.specs.Amounts.{amount_of}
@@ -12,7 +13,7 @@ use Rattle.fc_load.specs.declared.one_file.LoadedFile.TheVariants as one
 
 -- of the bytes of a file, of which there are no more than there may be
 abbrev pub LoadsBytes : Amount → List ℕ → List ℕ → LoadedFile → Type 0
-LoadsBytes read file bytes (one.Module m after) = ReadsTo (room_for_size read) bytes (module_of m) × (amount_of after ≡ with_file read bytes (module_of m))
+LoadsBytes read file bytes (one.Module m after) = ReadsTo ModuleFile (room_for_size read) bytes (module_of m) × (amount_of after ≡ with_file read bytes (module_of m))
 LoadsBytes read file bytes (one.Refused f) = FaultOfBytes read file bytes f
 LoadsBytes read file bytes one.ReadFault = ⊥
 LoadsBytes read file bytes one.Memory = ⊤

@@ -1,6 +1,6 @@
--- The one printed text of a module, and of the interface that is written beside it.
+-- The one printed text of a module.
 use Rattle.std.specs.Prelude.{ℕ, List, [], ◌∷◌, ◌++◌, codes}
-use Rattle.fc_syntax.specs.Tree.{Word, Ty, Expr, Decl, DDef, DWrap, Module, ModuleOf}
+use Rattle.fc_syntax.specs.Tree.{Word, Ty, Expr, Decl, Module, ModuleOf}
 use Rattle.fc_model.specs.Pieces.{NoPieces, first_text, piece_text}
 use Rattle.fc_model.specs.Spelling.{Alone, decl_piece, expr_pieces, type_pieces}
 
@@ -42,20 +42,3 @@ decls_text (d ∷ ds) = codes "\n " ++ (decl_text d ++ decls_text ds)
 abbrev pub canonical : Module → List ℕ
 canonical (ModuleOf m imports exports hidden ds) =
     codes "(module " ++ (header_text (ModuleOf m imports exports hidden ds) ++ (decls_text ds ++ codes ")\n"))
-
--- THE INTERFACE
-
--- a definition by its type, without demands and without its right side; every other declaration as it stands
-abbrev pub item_text : Decl → List ℕ
-item_text (DDef n t e) = codes "(value " ++ (n ++ (32 ∷ (type_text t ++ codes " (sig) none)")))
-item_text (DWrap n t e) = codes "(value " ++ (n ++ (32 ∷ (type_text t ++ codes " (sig) none)")))
-item_text d = decl_text d
-
-abbrev pub items_text : List Decl → List ℕ
-items_text [] = []
-items_text (d ∷ ds) = codes "\n " ++ (item_text d ++ items_text ds)
-
--- the layout of a module, with an item for each declaration
-abbrev pub interface_text : Module → List ℕ
-interface_text (ModuleOf m imports exports hidden ds) =
-    codes "(interface 1 " ++ (header_text (ModuleOf m imports exports hidden ds) ++ (items_text ds ++ codes ")\n"))

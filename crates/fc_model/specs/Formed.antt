@@ -1,5 +1,5 @@
 -- When a tree is one of the text form: every word is one of its form, and every group has a size that can be written.
-use Rattle.std.specs.Prelude.{◌≡◌, ◌-◌, ◌^◌, ℕ, ℤ, pos, negsuc, int_lt, nat_lt, Bool, true, false, not, ◌&&◌, List, [], ◌∷◌, Option, Some, None, is_none}
+use Rattle.std.specs.Prelude.{◌≡◌, ⊤, ◌+◌, ◌-◌, ◌^◌, ℕ, ℤ, pos, negsuc, int_lt, nat_lt, Bool, true, false, not, ◌&&◌, List, [], ◌∷◌, length, Option, Some, None, is_none}
 use Rattle.std.specs.List.{list_all}
 use Rattle.fc_syntax.specs.declared.ty.Name.{Name}
 use Rattle.fc_syntax.specs.declared.ty.Role.{Role}
@@ -16,6 +16,8 @@ use Rattle.fc_syntax.specs.Tree.{Expr, EVar, ELit, EApp, ELam, ELet, ECase, ECas
 use Rattle.fc_syntax.specs.Tree.{Exprs, NoExprs, MoreExprs, Args, NoArgs, MoreArgs, Binds, NoBinds, MoreBinds, Joins, NoJoins, MoreJoins, Alts, NoAlts, MoreAlts}
 use Rattle.fc_syntax.specs.Tree.{Param, ParamOf, Plain, PlainOf, ConDecl, ConOf, Decl, DData, DNew, DFamily, DAxiom, DDef, DWrap, Module, ModuleOf}
 use Rattle.fc_syntax.specs.Tokens.{is_lower_name, is_module_name, is_plain_name, is_upper_name}
+use Rattle.fc_syntax.specs.Demands.{Demand, Product, Demands, NoDemands, MoreDemands, Sig, SigOf}
+use Rattle.fc_model.specs.Grammar.{Interface, InterfaceOf}
 use Rattle.fc_model.specs.Words.{keyword_of}
 
 -- WORDS
@@ -309,6 +311,49 @@ is_formed = module_formed named_words
 
 abbrev pub IsFormed : Module → Type 0
 IsFormed m = is_formed m ≡ true
+
+-- INTERFACES
+
+abbrev mutual
+  pub is_demand_formed : Demand → Bool
+  is_demand_formed (Product k fields) = is_upper_formed k && are_demands_formed fields
+  is_demand_formed d = true
+
+  pub are_demands_formed : Demands → Bool
+  are_demands_formed NoDemands = true
+  are_demands_formed (MoreDemands d rest) = is_demand_formed d && are_demands_formed rest
+
+abbrev pub is_sig_formed : Sig → Bool
+is_sig_formed (SigOf args diverges) = are_demands_formed args
+
+-- how many definitions are among declarations
+abbrev pub definition_count : List Decl → ℕ
+definition_count [] = 0
+definition_count (DDef x t e ∷ ds) = 1 + definition_count ds
+definition_count (DWrap x t e ∷ ds) = 1 + definition_count ds
+definition_count (d ∷ ds) = definition_count ds
+
+-- one truth value for each definition, and each that is not told is a `def` of its type that fails
+abbrev pub FailUntold : List Decl → List Bool → Type 0
+FailUntold [] [] = ⊤
+FailUntold [] (b ∷ told) = ⊥
+FailUntold (DDef x t e ∷ ds) [] = ⊥
+FailUntold (DDef x t e ∷ ds) (true ∷ told) = FailUntold ds told
+FailUntold (DDef x t e ∷ ds) (false ∷ told) = (e ≡ EFail t) × FailUntold ds told
+FailUntold (DWrap x t e ∷ ds) [] = ⊥
+FailUntold (DWrap x t e ∷ ds) (true ∷ told) = FailUntold ds told
+FailUntold (DWrap x t e ∷ ds) (false ∷ told) = ⊥
+FailUntold (d ∷ ds) told = FailUntold ds told
+
+-- the parts of an interface: the module, which has these declarations, their signatures, and which right sides are told
+pub record AreInterfaceParts (m : Module) (ds : List Decl) (sigs : List Sig) (told : List Bool) : Type 0 where
+  pub formed : IsFormed m
+  pub one_sig : length sigs ≡ definition_count ds
+  pub demands : list_all is_sig_formed sigs ≡ true
+  pub untold : FailUntold ds told
+
+abbrev pub IsInterfaceFormed : Interface → Type 0
+IsInterfaceFormed (InterfaceOf (ModuleOf m imports exports hidden ds) sigs told) = AreInterfaceParts (ModuleOf m imports exports hidden ds) ds sigs told
 
 -- THE NAMELESS TREE
 

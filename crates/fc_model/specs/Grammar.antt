@@ -2,7 +2,7 @@
 -- in order, and what tree is given in the end. The first token of a part decides which row it is; a part `..Form` stands behind its
 -- opening bracket, where the next word decides. Nested and flattened spellings give one tree. White space, comments and leading zeros
 -- are not seen here.
-use Rattle.std.specs.Prelude.{ℕ, true, false, List, [], ◌∷◌, ◌++◌, codes, Option, Some, None, if◌then◌else◌}
+use Rattle.std.specs.Prelude.{ℕ, Bool, true, false, List, [], ◌∷◌, ◌++◌, ◌==◌, codes, map, Option, Some, None, if◌then◌else◌}
 use Rattle.std.specs.Str.{bytes_eq}
 use Rattle.fc_syntax.specs.declared.ty.Name.{Name}
 use Rattle.fc_syntax.specs.declared.ty.Role.{Role}
@@ -20,6 +20,7 @@ use Rattle.fc_syntax.specs.Tree.{Binder, BValue, BType, BCo, Arg, ATerm, Bind, B
 use Rattle.fc_syntax.specs.Tree.{Expr, EVar, ELit, EApp, ELam, ELet, ECase, ECast, ECon, EPrim, EFail, EJoin, EJump}
 use Rattle.fc_syntax.specs.Tree.{Exprs, NoExprs, MoreExprs, Args, NoArgs, MoreArgs, Binds, NoBinds, MoreBinds, Joins, NoJoins, MoreJoins, Alts, NoAlts, MoreAlts}
 use Rattle.fc_syntax.specs.Tree.{Param, ParamOf, Plain, PlainOf, ConDecl, ConOf, Decl, DData, DNew, DFamily, DAxiom, DDef, DWrap, Module, ModuleOf}
+use Rattle.fc_syntax.specs.Demands.{Demand, Bottom, Absent, Product, Strict, Lazy, Demands, NoDemands, MoreDemands, Sig, SigOf}
 use Rattle.fc_syntax.specs.Tokens.{is_module_part}
 use Rattle.fc_model.specs.Words.{Tok, Open, Close, Key, Lower, Upper, LowerOf, UpperOf, Star, Hash, Arrow, Operator, Literal, Number}
 
@@ -70,6 +71,22 @@ pub data Part : Type 0 where
   ABody : Part
   ABodyForm : Part
   AModule : Part
+  -- of an interface: a name that is this word, and this number
+  AThis : (w : Word) → Part
+  AThisNumber : (n : ℕ) → Part
+  ADemand : Part
+  ADemandForm : Part
+  ASignature : Part
+  -- the demands of a signature, and whether it diverges
+  SignatureEnd : Part
+  AnUnfolding : Part
+  AnUnfoldingForm : Part
+  AnItem : Part
+  AnItemForm : Part
+  AnInterfaceHeader : Part
+  AnInterfaceBody : Part
+  AnInterfaceBodyForm : Part
+  AnInterface : Part
   -- as many of a part as there are, one at least with `Several`, and the closing bracket behind them
   Many : (p : Part) → Part
   Several : (p : Part) → Part
@@ -78,9 +95,25 @@ pub data Part : Type 0 where
 pub data Header : Type 0 where
   HeaderOf : (m : Word) (imports exports : List Word) → Header
 
--- what stands behind the header of a module: its hidden names and its declarations
-pub data Body : Type 0 where
-  BodyOf : (hidden : List Word) (decls : List Decl) → Body
+-- what stands behind the header of a file: its hidden names and its members, which are declarations or items
+pub data Body (X : Type 0) : Type 0 where
+  BodyOf : (hidden : List Word) (members : List X) → Body X
+
+-- what an interface tells of the right side of a definition
+pub data Unfolding : Type 0 where
+  Untold : Unfolding
+  ToldDef : (e : Expr) → Unfolding
+  ToldWrap : (e : Expr) → Unfolding
+
+-- an item of an interface: a declaration of a type or an axiom, or a value with its type, its signature and its unfolding
+pub data Item : Type 0 where
+  ItemDecl : (d : Decl) → Item
+  ItemValue : (x : Word) (t : Ty) (sig : Sig) (u : Unfolding) → Item
+
+-- An interface: a module, where each definition whose right side is not told is a `def` of its type that fails, the signatures of its
+-- definitions in order, and for each whether its right side is told.
+pub data Interface : Type 0 where
+  InterfaceOf : (m : Module) (sigs : List Sig) (told : List Bool) → Interface
 
 -- nothing but that a part was there
 pub data Here : Type 0 where
@@ -125,9 +158,23 @@ Given AConstructor = ConDecl
 Given ADeclaration = Decl
 Given ADeclarationForm = Decl
 Given AHeader = Header
-Given ABody = Body
-Given ABodyForm = Body
+Given ABody = Body Decl
+Given ABodyForm = Body Decl
 Given AModule = Module
+Given (AThis w) = Here
+Given (AThisNumber n) = Here
+Given ADemand = Demand
+Given ADemandForm = Demand
+Given ASignature = Sig
+Given SignatureEnd = Sig
+Given AnUnfolding = Unfolding
+Given AnUnfoldingForm = Unfolding
+Given AnItem = Item
+Given AnItemForm = Item
+Given AnInterfaceHeader = Header
+Given AnInterfaceBody = Body Item
+Given AnInterfaceBodyForm = Body Item
+Given AnInterface = Interface
 Given (Many p) = List (Given p)
 Given (Several p) = List (Given p)
 
@@ -200,8 +247,45 @@ abbrev pub alts_from : List Alt → Alts
 alts_from [] = NoAlts
 alts_from (a ∷ rest) = MoreAlts a (alts_from rest)
 
-abbrev pub module_from : Header → Body → Module
+abbrev pub module_from : Header → Body Decl → Module
 module_from (HeaderOf m imports exports) (BodyOf hidden decls) = ModuleOf m imports exports hidden decls
+
+abbrev pub demands_from : List Demand → Demands
+demands_from [] = NoDemands
+demands_from (d ∷ ds) = MoreDemands d (demands_from ds)
+
+-- one demand more in front
+abbrev pub more_demand : Demand → Sig → Sig
+more_demand d (SigOf ds diverges) = SigOf (MoreDemands d ds) diverges
+
+-- the definition of which an interface says this: where its right side is not told, one that fails
+abbrev pub definition_of : Word → Ty → Unfolding → Decl
+definition_of x t Untold = DDef x t (EFail t)
+definition_of x t (ToldDef e) = DDef x t e
+definition_of x t (ToldWrap e) = DWrap x t e
+
+-- the declaration that an item stands for
+abbrev pub item_decl : Item → Decl
+item_decl (ItemDecl d) = d
+item_decl (ItemValue x t sig u) = definition_of x t u
+
+abbrev pub item_sigs : List Item → List Sig
+item_sigs [] = []
+item_sigs (ItemDecl d ∷ items) = item_sigs items
+item_sigs (ItemValue x t sig u ∷ items) = sig ∷ item_sigs items
+
+abbrev pub is_told : Unfolding → Bool
+is_told Untold = false
+is_told (ToldDef e) = true
+is_told (ToldWrap e) = true
+
+abbrev pub items_told : List Item → List Bool
+items_told [] = []
+items_told (ItemDecl d ∷ items) = items_told items
+items_told (ItemValue x t sig u ∷ items) = is_told u ∷ items_told items
+
+abbrev pub interface_from : Header → Body Item → Interface
+interface_from (HeaderOf m imports exports) (BodyOf hidden items) = InterfaceOf (ModuleOf m imports exports hidden (map item_decl items)) (item_sigs items) (items_told items)
 
 -- THE ROWS
 
@@ -406,14 +490,75 @@ header_row Open =
     gives (HeaderOf m imports exports))
 header_row _ = None
 
-abbrev pub body_row : Tok → Option (Steps Body)
+abbrev pub body_row : Tok → Option (Steps (Body Decl))
 body_row Close = Some (gives (BodyOf [] []))
 body_row Open = Some (ABodyForm ▸ λ b. gives b)
 body_row _ = None
 
-abbrev pub body_form_row : Tok → Option (Steps Body)
+abbrev pub body_form_row : Tok → Option (Steps (Body Decl))
 body_form_row (Key word.Hidden) = Some (Many AName ▸ λ hidden. Many ADeclaration ▸ λ decls. gives (BodyOf hidden decls))
 body_form_row t = row_then (declaration_form_row t) (λ d. Many ADeclaration ▸ λ decls. gives (BodyOf [] (d ∷ decls)))
+
+-- demand ::= B | A | S | L | (P K demand*)
+abbrev pub demand_word_row : Word → Option (Steps Demand)
+demand_word_row w =
+    if bytes_eq w (codes "B") then Some (gives Bottom) else
+    if bytes_eq w (codes "A") then Some (gives Absent) else
+    if bytes_eq w (codes "S") then Some (gives Strict) else
+    if bytes_eq w (codes "L") then Some (gives Lazy) else None
+
+abbrev pub demand_row : Tok → Option (Steps Demand)
+demand_row (Upper w) = demand_word_row w
+demand_row Open = Some (ADemandForm ▸ λ d. gives d)
+demand_row _ = None
+
+abbrev pub demand_form_row : Tok → Option (Steps Demand)
+demand_form_row (Upper w) = if bytes_eq w (codes "P") then Some (AnUpperName ▸ λ k. Many ADemand ▸ λ ds. gives (Product k (demands_from ds))) else None
+demand_form_row _ = None
+
+-- (sig demand* [diverges])
+abbrev pub signature_row : Tok → Option (Steps Sig)
+signature_row Open = Some (AThis (codes "sig") ▸ λ _. SignatureEnd ▸ λ s. gives s)
+signature_row _ = None
+
+abbrev pub signature_end_row : Tok → Option (Steps Sig)
+signature_end_row Close = Some (gives (SigOf NoDemands false))
+signature_end_row (Key word.Diverges) = Some (AClose ▸ λ _. gives (SigOf NoDemands true))
+signature_end_row t = row_then (demand_row t) (λ d. SignatureEnd ▸ λ s. gives (more_demand d s))
+
+-- unfolding ::= none | (def expr) | (wrap expr)
+abbrev pub unfolding_row : Tok → Option (Steps Unfolding)
+unfolding_row (Key word.None) = Some (gives Untold)
+unfolding_row Open = Some (AnUnfoldingForm ▸ λ u. gives u)
+unfolding_row _ = None
+
+abbrev pub unfolding_form_row : Tok → Option (Steps Unfolding)
+unfolding_form_row (Key word.Def) = Some (AnExpression ▸ λ e. AClose ▸ λ _. gives (ToldDef e))
+unfolding_form_row (Key word.Wrap) = Some (AnExpression ▸ λ e. AClose ▸ λ _. gives (ToldWrap e))
+unfolding_form_row _ = None
+
+-- item ::= a declaration of a type or an axiom | (value x type (sig demand* [diverges]) unfolding)
+abbrev pub item_form_row : Tok → Option (Steps Item)
+item_form_row (Lower w) = if bytes_eq w (codes "value") then Some (ALower ▸ λ x. AType ▸ λ t. ASignature ▸ λ s. AnUnfolding ▸ λ u. AClose ▸ λ _. gives (ItemValue x t s u)) else None
+item_form_row (Key word.Def) = None
+item_form_row (Key word.Wrap) = None
+item_form_row t = row_then (declaration_form_row t) (λ d. gives (ItemDecl d))
+
+-- interface ::= (interface 1 M (imports M*) (exports n*) [(hidden n*)] item*)
+abbrev pub interface_header_row : Tok → Option (Steps Header)
+interface_header_row Open =
+    Some (AThis (codes "interface") ▸ λ _. AThisNumber 1 ▸ λ _. AModuleName ▸ λ m. AnOpen ▸ λ _. AWord word.Imports ▸ λ _. Many AModuleName ▸ λ imports. AnOpen ▸ λ _. AWord word.Exports ▸ λ _. Many AName ▸ λ exports.
+    gives (HeaderOf m imports exports))
+interface_header_row _ = None
+
+abbrev pub interface_body_row : Tok → Option (Steps (Body Item))
+interface_body_row Close = Some (gives (BodyOf [] []))
+interface_body_row Open = Some (AnInterfaceBodyForm ▸ λ b. gives b)
+interface_body_row _ = None
+
+abbrev pub interface_body_form_row : Tok → Option (Steps (Body Item))
+interface_body_form_row (Key word.Hidden) = Some (Many AName ▸ λ hidden. Many AnItem ▸ λ items. gives (BodyOf hidden items))
+interface_body_form_row t = row_then (item_form_row t) (λ i. Many AnItem ▸ λ items. gives (BodyOf [] (i ∷ items)))
 
 abbrev pub at_bracket : {A : Type 0} → Tok → Steps A → Option (Steps A)
 at_bracket Open st = Some st
@@ -461,6 +606,20 @@ row_of AHeader t = header_row t
 row_of ABody t = body_row t
 row_of ABodyForm t = body_form_row t
 row_of AModule t = row_then (header_row t) (λ h. ABody ▸ λ b. gives (module_from h b))
+row_of (AThis w) (Lower v) = if bytes_eq v w then Some (gives here) else None
+row_of (AThisNumber n) (Number m) = if m == n then Some (gives here) else None
+row_of ADemand t = demand_row t
+row_of ADemandForm t = demand_form_row t
+row_of ASignature t = signature_row t
+row_of SignatureEnd t = signature_end_row t
+row_of AnUnfolding t = unfolding_row t
+row_of AnUnfoldingForm t = unfolding_form_row t
+row_of AnItem t = at_bracket t (AnItemForm ▸ λ i. gives i)
+row_of AnItemForm t = item_form_row t
+row_of AnInterfaceHeader t = interface_header_row t
+row_of AnInterfaceBody t = interface_body_row t
+row_of AnInterfaceBodyForm t = interface_body_form_row t
+row_of AnInterface t = row_then (interface_header_row t) (λ h. AnInterfaceBody ▸ λ b. gives (interface_from h b))
 row_of (Many p) Close = Some (gives [])
 row_of (Many p) t = row_then (row_of p t) (λ x. Many p ▸ λ xs. gives (x ∷ xs))
 row_of (Several p) t = row_then (row_of p t) (λ x. Many p ▸ λ xs. gives (x ∷ xs))

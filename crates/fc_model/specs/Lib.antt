@@ -7,9 +7,11 @@ pub mod DeclaredWords
 pub mod Declaring
 pub mod Erasure
 pub mod Faulting
+pub mod FileForms
 pub mod Formed
 pub mod Grammar
 pub mod Headers
+pub mod InterfaceTexts
 pub mod Kinding
 pub mod Laws
 pub mod Linting

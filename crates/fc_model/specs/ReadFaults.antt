@@ -1,4 +1,4 @@
--- The limits on what is read, and the first fault of a file that spells no module within them.
+-- The limits on what is read, and the first fault of a file that spells no module, or no interface, within them.
 use Rattle.std.specs.Prelude.{◌≡◌, ◌≤◌, ◌+◌, ◌-◌, ℕ, Bool, true, false, ◌&&◌, nat_le, nat_lt, List, [], ◌∷◌, ◌++◌, length, map, Ok, Err}
 use Rattle.std.specs.List.{list_all}
 use Rattle.fc_syntax.specs.Limits.{standard_limits}
@@ -7,9 +7,9 @@ use Rattle.fc_syntax.specs.Measures.{decls_size, depth_of}
 use Rattle.fc_syntax.specs.Tokens.{ByteFault, Lexeme, tokens_of}
 use Rattle.fc_syntax.specs.declared.fault.FaultKind.TheVariants as fault
 use Rattle.fc_model.specs.Words.{Tok, Open, Close, tok_of}
-use Rattle.fc_model.specs.Grammar.{ADeclaration, AModule}
+use Rattle.fc_model.specs.FileForms.{FileForm, File, Member, whole_part, member_part, member_decl, member_decls, module_in}
 use Rattle.fc_model.specs.Reading.{Reads}
-use Rattle.fc_model.specs.Texts.{BeginsWithDecls, Spells}
+use Rattle.fc_model.specs.Texts.{BeginsWith, SpellsPart}
 
 -- LIMITS
 
@@ -59,39 +59,40 @@ counts_fit (DWrap n t e) = true
 abbrev pub depth_fits : Decl → Bool
 depth_fits d = nat_le (depth_of d) standard_limits.depth
 
--- every declaration is within the limits of its own, and all together have at most the size for which there is room
+-- Every declaration is within the limits of its own, and all together have at most the size for which there is room. Of an interface, the
+-- declarations are those of its module; signatures have no limit of their own but the brackets and the bytes of the file.
 abbrev pub are_within : ℕ → List Decl → Bool
 are_within room ds = (list_all depth_fits ds && list_all counts_fit ds) && nat_le (decls_size ds) room
 
 abbrev pub decls_within : ℕ → Module → Bool
 decls_within room (ModuleOf m imports exports hidden ds) = are_within room ds
 
--- the bytes spell this module, and both are within the limits, where there is room for declarations of a size
-pub record ReadsTo (room : ℕ) (bytes : List ℕ) (m : Module) : Type 0 where
+-- the bytes spell this file, and both are within the limits, where there is room for declarations of a size
+pub record ReadsTo (f : FileForm) (room : ℕ) (bytes : List ℕ) (m : File f) : Type 0 where
   pub short : length bytes ≤ standard_limits.file_bytes
-  pub spelled : Spells bytes m
+  pub spelled : SpellsPart (whole_part f) bytes m
   pub nested : NestsWithin (map tok_of spelled.lexemes)
-  pub within : decls_within room m ≡ true
+  pub within : decls_within room (module_in f m) ≡ true
 
 -- THE FIRST FAULT
 
--- the tokens of a whole module
-abbrev pub IsText : List Tok → Type 0
-IsText ts = (m : Module) × Reads AModule ts m []
+-- the tokens of a whole file
+abbrev pub IsText : FileForm → List Tok → Type 0
+IsText f ts = (m : File f) × Reads (whole_part f) ts m []
 
--- some further tokens make them those of a whole module
-abbrev pub Begins : List Tok → Type 0
-Begins ts = (more : List Tok) × IsText (ts ++ more)
+-- some further tokens make them those of a whole file
+abbrev pub Begins : FileForm → List Tok → Type 0
+Begins f ts = (more : List Tok) × IsText f (ts ++ more)
 
--- the tokens so far do not go on with those that follow: they are no whole module, or no module begins with them and the
+-- the tokens so far do not go on with those that follow: they are no whole file, or no file begins with them and the
 -- next token
-abbrev pub CannotGoOn : List Tok → List Tok → Type 0
-CannotGoOn good [] = IsText good → ⊥
-CannotGoOn good (t ∷ bad) = Begins (good ++ t ∷ []) → ⊥
+abbrev pub CannotGoOn : FileForm → List Tok → List Tok → Type 0
+CannotGoOn f good [] = IsText f good → ⊥
+CannotGoOn f good (t ∷ bad) = Begins f (good ++ t ∷ []) → ⊥
 
--- all declarations that stand whole in the tokens are within the limits, together too
-abbrev pub WithinSoFar : ℕ → List Tok → Type 0
-WithinSoFar room ts = (ds : List Decl) (rest : List Tok) → BeginsWithDecls ts ds rest → are_within room ds ≡ true
+-- the declarations of all members that stand whole in the tokens are within the limits, together too
+abbrev pub WithinSoFar : FileForm → ℕ → List Tok → Type 0
+WithinSoFar f room ts = (xs : List (Member f)) (rest : List Tok) → BeginsWith f ts xs rest → are_within room (member_decls f xs) ≡ true
 
 -- the byte of the first of these tokens, or the length of the file where there is none
 abbrev pub byte_of : List ℕ → List Lexeme → ℕ
@@ -99,52 +100,53 @@ byte_of bytes [] = length bytes
 byte_of bytes (t ∷ ts) = t.from
 
 -- The form of the file cannot go on at this byte, and could up to there; up to there nothing is past a limit.
-pub record IsBadFormAt (room : ℕ) (bytes : List ℕ) (lexemes : List Lexeme) (at : ℕ) : Type 0 where
+pub record IsBadFormAt (f : FileForm) (room : ℕ) (bytes : List ℕ) (lexemes : List Lexeme) (at : ℕ) : Type 0 where
   pub good : List Lexeme
   pub bad : List Lexeme
   pub parts : lexemes ≡ good ++ bad
-  pub begins : Begins (map tok_of good)
-  pub stops : CannotGoOn (map tok_of good) (map tok_of bad)
+  pub begins : Begins f (map tok_of good)
+  pub stops : CannotGoOn f (map tok_of good) (map tok_of bad)
   pub nested : NestsWithin (map tok_of good)
-  pub within : WithinSoFar room (map tok_of good)
+  pub within : WithinSoFar f room (map tok_of good)
   pub place : at ≡ byte_of bytes bad
 
 -- A bracket that may stand at this byte nests too deep; up to there nothing is past a limit.
-pub record IsDeepBracketAt (room : ℕ) (lexemes : List Lexeme) (at : ℕ) : Type 0 where
+pub record IsDeepBracketAt (f : FileForm) (room : ℕ) (lexemes : List Lexeme) (at : ℕ) : Type 0 where
   pub good : List Lexeme
   pub bracket : Lexeme
   pub bad : List Lexeme
   pub parts : lexemes ≡ good ++ (bracket ∷ bad)
   pub opens : tok_of bracket ≡ Open
-  pub begins : Begins (map tok_of good ++ Open ∷ [])
+  pub begins : Begins f (map tok_of good ++ Open ∷ [])
   pub nested : NestsWithin (map tok_of good)
   pub deep : nests_within standard_limits.brackets 0 (map tok_of good ++ Open ∷ []) ≡ false
-  pub within : WithinSoFar room (map tok_of good)
+  pub within : WithinSoFar f room (map tok_of good)
   pub place : at ≡ bracket.from
 
--- A declaration begins at this byte and stands whole; the declarations before it are within the limits, and its own form too.
-pub record IsDeclAt (room : ℕ) (bytes : List ℕ) (lexemes : List Lexeme) (before : List Decl) (d : Decl) (at : ℕ) : Type 0 where
+-- A member begins at this byte and stands whole; the members before it are within the limits, and its own form too.
+pub record IsMemberAt (f : FileForm) (room : ℕ) (bytes : List ℕ) (lexemes : List Lexeme) (before : List (Member f)) (x : Member f) (at : ℕ) : Type 0 where
   pub good : List Lexeme
   pub own : List Lexeme
   pub others : List Lexeme
   pub parts : lexemes ≡ good ++ (own ++ others)
-  pub start : BeginsWithDecls (map tok_of good) before []
-  pub declares : Reads ADeclaration (map tok_of own) d []
-  pub whole : BeginsWithDecls (map tok_of good ++ map tok_of own) (before ++ d ∷ []) []
+  pub start : BeginsWith f (map tok_of good) before []
+  pub own_reads : Reads (member_part f) (map tok_of own) x []
+  pub whole : BeginsWith f (map tok_of good ++ map tok_of own) (before ++ x ∷ []) []
   pub nested : NestsWithin (map tok_of good ++ map tok_of own)
-  pub within : are_within room before ≡ true
+  pub within : are_within room (member_decls f before) ≡ true
   pub place : at ≡ byte_of bytes own
 
--- The first fault of a file of at most the limit of bytes: first of all its tokens; then, declaration after declaration, of its
--- form and its brackets up to its end, then of its depth, then of its counts and the size of all so far, for which there is this much room.
-pub data FirstReadFault (room : ℕ) (bytes : List ℕ) : ByteFault → Type 0 where
-  of_tokens : {f : ByteFault} → tokens_of bytes ≡ Err f → FirstReadFault room bytes f
-  of_form : {lexemes : List Lexeme} {at : ℕ} → tokens_of bytes ≡ Ok lexemes → IsBadFormAt room bytes lexemes at
-      → FirstReadFault room bytes (record { kind = fault.BadForm; at = at })
-  of_brackets : {lexemes : List Lexeme} {at : ℕ} → tokens_of bytes ≡ Ok lexemes → IsDeepBracketAt room lexemes at
-      → FirstReadFault room bytes (record { kind = fault.TooDeep; at = at })
-  of_depth : {lexemes : List Lexeme} {at : ℕ} (before : List Decl) (d : Decl) → tokens_of bytes ≡ Ok lexemes → IsDeclAt room bytes lexemes before d at
-      → depth_fits d ≡ false → FirstReadFault room bytes (record { kind = fault.TooDeep; at = at })
-  of_counts : {lexemes : List Lexeme} {at : ℕ} (before : List Decl) (d : Decl) → tokens_of bytes ≡ Ok lexemes → IsDeclAt room bytes lexemes before d at
-      → depth_fits d ≡ true → (counts_fit d && nat_le (decls_size (before ++ d ∷ [])) room) ≡ false
-      → FirstReadFault room bytes (record { kind = fault.TooMany; at = at })
+-- The first fault of a file of at most the limit of bytes: first of all its tokens; then, member after member, of its
+-- form and its brackets up to its end, then of the depth of its declaration, then of the counts of that and the size of all so far, for
+-- which there is this much room.
+pub data FirstReadFault (f : FileForm) (room : ℕ) (bytes : List ℕ) : ByteFault → Type 0 where
+  of_tokens : {e : ByteFault} → tokens_of bytes ≡ Err e → FirstReadFault f room bytes e
+  of_form : {lexemes : List Lexeme} {at : ℕ} → tokens_of bytes ≡ Ok lexemes → IsBadFormAt f room bytes lexemes at
+      → FirstReadFault f room bytes (record { kind = fault.BadForm; at = at })
+  of_brackets : {lexemes : List Lexeme} {at : ℕ} → tokens_of bytes ≡ Ok lexemes → IsDeepBracketAt f room lexemes at
+      → FirstReadFault f room bytes (record { kind = fault.TooDeep; at = at })
+  of_depth : {lexemes : List Lexeme} {at : ℕ} (before : List (Member f)) (x : Member f) → tokens_of bytes ≡ Ok lexemes → IsMemberAt f room bytes lexemes before x at
+      → depth_fits (member_decl f x) ≡ false → FirstReadFault f room bytes (record { kind = fault.TooDeep; at = at })
+  of_counts : {lexemes : List Lexeme} {at : ℕ} (before : List (Member f)) (x : Member f) → tokens_of bytes ≡ Ok lexemes → IsMemberAt f room bytes lexemes before x at
+      → depth_fits (member_decl f x) ≡ true → (counts_fit (member_decl f x) && nat_le (decls_size (member_decls f (before ++ x ∷ []))) room) ≡ false
+      → FirstReadFault f room bytes (record { kind = fault.TooMany; at = at })

@@ -12,4 +12,6 @@ pub mod Names
 pub mod Printed
 pub mod Leaves
 pub mod LeavesOfForms
+pub mod ReadHeader
+pub mod ReadMembers
 pub mod ReadBack

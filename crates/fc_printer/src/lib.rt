@@ -24,6 +24,7 @@ use fc_syntax::{Memory, Module};
 pub use header::put_header;
 use std::alloc::Global;
 pub use types::put_type;
+pub use words::{put_name, put_word};
 pub use written_header::written;
 
 /// The canonical text of a module, which reads back to the module where each of its words is one of its form.

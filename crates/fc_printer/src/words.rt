@@ -7,16 +7,17 @@ ghost use Rattle.fc_model.specs.Spelling.{lower_tok, operator_tok, role_tok, upp
 use fc_syntax::{Memory, Name, PrimOp, Role, Text};
 use itoa::Buffer;
 
-// Where memory runs out, the bytes before stand and a part of the text may follow, here and in all functions that put a text.
-pub(crate) fn put_word(w: &Text, to: &mut Vec<u8>) -> Result<(), Memory>
+/// Appends a word. Where memory runs out, the bytes before stand and a part of the text may follow, here and in all functions that put a
+/// text.
+pub fn put_word(w: &Text, to: &mut Vec<u8>) -> Result<(), Memory>
     ensures { OnOk result (to.new.items ≡ to.old.items ++ w.now) }
 {
     to.extend_from_slice(w.as_str().as_bytes())?;
     Ok(())
 }
 
-// A name of either case, behind its module where it has one.
-pub(crate) fn put_name(n: &Name, to: &mut Vec<u8>) -> Result<(), Memory>
+/// Appends a name of either case, behind its module where it has one.
+pub fn put_name(n: &Name, to: &mut Vec<u8>) -> Result<(), Memory>
     ensures upper { OnOk result (to.new.items ≡ to.old.items ++ tok_text (upper_tok n.now)) }
     ensures lower { OnOk result (to.new.items ≡ to.old.items ++ tok_text (lower_tok n.now)) }
 {

@@ -1,4 +1,4 @@
-//! Tests of `fc_printer` and `fc_iface`, which are proved once without them.
+//! Tests of `fc_printer`, which is proved once without them.
 #![tactic(auto)]
 
 #[cfg(test)]

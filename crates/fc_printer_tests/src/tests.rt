@@ -4,7 +4,6 @@ mod declarations;
 mod expressions;
 mod types;
 
-use fc_iface::print_interface;
 use fc_printer::print_module;
 use fc_reader::read_module;
 use fc_syntax::Limits;
@@ -242,26 +241,4 @@ fn cases_are_printed_with_each_alternative(rt: HostRuntime) -> Result<(), Fail> 
         ),
     ];
     are_printed(&rt, alloc, cases.as_slice())
-}
-
-/// The text of the interface of the module that a text spells. Fails where it spells none.
-fn interface(alloc: Global, text: &[u8]) -> Result<Vec<u8>, Fail> {
-    if text.len() > 4000 {
-        return Err("a long text".into());
-    }
-    let Ok(m) = read_module(alloc, "M.fc", text, Limits::standard().size) else {
-        return Err("no module".into());
-    };
-    Ok(print_interface(alloc, &m)?)
-}
-
-#[test]
-fn an_interface_leaves_out_right_sides(rt: HostRuntime) -> Result<(), Fail> {
-    let alloc = rt.alloc();
-    let text =
-        b"(module M (imports) (exports f) (hidden Int) (data Int () (I# () Int#)) (def f Int 7#) (def g (fun Int Int) (lam ((x Int)) x)))";
-    let expected =
-        b"(interface 1 M (imports) (exports f) (hidden Int)\n (data Int () (I# () Int#))\n (value f Int (sig) none)\n (value g (fun Int Int) (sig) none))\n";
-    assert_eq!(rt; interface(alloc, text)?.as_slice(), expected.as_slice());
-    Ok(())
 }

@@ -29,8 +29,8 @@ pub fn read_declaration(alloc: Global, tokens: &mut Tokens<'_>) -> Result<Decl, 
     Ok(decl)
 }
 
-/// A declaration behind its opening bracket.
-fn read_declaration_form(alloc: Global, tokens: &mut Tokens<'_>) -> Result<Decl, Stop>
+/// Reads a declaration behind its opening bracket. Stops at the first token that cannot go on.
+pub fn read_declaration_form(alloc: Global, tokens: &mut Tokens<'_>) -> Result<Decl, Stop>
     ensures read { IfOk result (λ x. Takes ADeclarationForm (ahead tokens.old) (decl_of x) (ahead tokens.new)) }
     ensures shorter { IfOk result (λ _. length (ahead tokens.new) < length (ahead tokens.old)) }
     ensures fault { IfErr result (StopsAt ADeclarationForm (ahead tokens.old)) }

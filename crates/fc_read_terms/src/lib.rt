@@ -7,5 +7,5 @@ mod expressions;
 mod groups;
 mod trees;
 
-pub use declarations::read_declaration;
+pub use declarations::{read_declaration, read_declaration_form};
 pub use expressions::read_expression;

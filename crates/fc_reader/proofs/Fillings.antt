@@ -1,5 +1,5 @@
 -- Each part of the grammar has a text.
-use Rattle.std.proofs.Common.{◌≡◌, suc, length, Bool, true, false, Some, None, if◌then◌else◌, pos, List, [], ◌∷◌, ◌++◌, refl, sym, ap, ◌∙◌, append_assoc}
+use Rattle.std.proofs.Common.{◌≡◌, ◌==◌, eq-eqb, codes, suc, length, Bool, true, false, Some, None, if◌then◌else◌, pos, List, [], ◌∷◌, ◌++◌, refl, sym, ap, ◌∙◌, append_assoc}
 use Rattle.fc_syntax.specs.declared.expr.PrimOp.TheVariants as op
 use Rattle.std.specs.Str.{bytes_eq}
 use Rattle.std.proofs.lemmas.Bool.{true≢false}
@@ -8,7 +8,7 @@ use Rattle.fc_syntax.specs.declared.keyword.Keyword.TheVariants as word
 use Rattle.fc_syntax.specs.Keywords.{keyword_text}
 use Rattle.fc_model.specs.Words.{Tok, Open, Close, Key, Lower, Upper, Star, Arrow, Operator, Literal, Number}
 use Rattle.fc_model.specs.Grammar.{Part, Given, Steps, gives, ◌▸◌, and_then, here}
-use Rattle.fc_model.specs.Grammar.{AnOpen, AClose, AWord, ALower, AnUpper, AName, AModuleName, AnUpperName, ARole, AnEqualityRole, ANumber, AnOperator, AKind, AKindForm, AType, ATypeForm, ACoercion, ACoercionForm, ABinder, ABinderForm, AnArgument, AnArgumentForm, AnExpression, AnExpressionForm, ABind, AJoinBind, AnAlternative, AnAlternativeForm, AParameter, APlainParameter, FieldBinders, FieldBindersForm, ACoercionField, AConstructor, ADeclaration, ADeclarationForm, AHeader, ABody, ABodyForm, AModule, Many, Several}
+use Rattle.fc_model.specs.Grammar.{AnOpen, AClose, AWord, ALower, AnUpper, AName, AModuleName, AnUpperName, ARole, AnEqualityRole, ANumber, AnOperator, AKind, AKindForm, AType, ATypeForm, ACoercion, ACoercionForm, ABinder, ABinderForm, AnArgument, AnArgumentForm, AnExpression, AnExpressionForm, ABind, AJoinBind, AnAlternative, AnAlternativeForm, AParameter, APlainParameter, FieldBinders, FieldBindersForm, ACoercionField, AConstructor, ADeclaration, ADeclarationForm, AHeader, ABody, ABodyForm, AModule, AThis, AThisNumber, ADemand, ADemandForm, ASignature, SignatureEnd, AnUnfolding, AnUnfoldingForm, AnItem, AnItemForm, AnInterfaceHeader, AnInterfaceBody, AnInterfaceBodyForm, AnInterface, Many, Several}
 use Rattle.fc_model.specs.Reading.{Got, Stuck, read_steps, read_part}
 use Rattle.fc_read_parts.proofs.Stars.{several_is}
 use Rattle.fc_reader.proofs.Steps.{outcome_then, read_then}
@@ -40,6 +40,16 @@ int = Key word.IntHash
 
 abbrev header : List Tok
 header = Open ∷ Key word.Module ∷ n ∷ Open ∷ Key word.Imports ∷ Close ∷ Open ∷ Key word.Exports ∷ Close ∷ []
+
+abbrev interface_header : List Tok
+interface_header = Open ∷ Lower (codes "interface") ∷ Number 1 ∷ n ∷ Open ∷ Key word.Imports ∷ Close ∷ Open ∷ Key word.Exports ∷ Close ∷ []
+
+abbrev signature : List Tok
+signature = Open ∷ Lower (codes "sig") ∷ Close ∷ []
+
+-- a value of which nothing is told, behind its bracket
+abbrev value : List Tok
+value = Lower (codes "value") ∷ a ∷ int ∷ (signature ++ Key word.None ∷ Close ∷ [])
 
 by_word : (b : Bool) → b ≡ true → (r : List Tok)
     → elim (if b then Some (gives here) else None) [ None ↦ Stuck (suc (length r)) | Some st ↦ read_steps r (and_then st (λ x. gives x)) ] ≡ Got here r
@@ -87,6 +97,20 @@ part_filled AHeader = by_tokens AHeader header _ (λ r. refl)
 part_filled ABody = by_tokens ABody (Close ∷ []) _ (λ r. refl)
 part_filled ABodyForm = by_tokens ABodyForm (Key word.Hidden ∷ Close ∷ Close ∷ []) _ (λ r. refl)
 part_filled AModule = by_tokens AModule (header ++ Close ∷ []) _ (λ r. refl)
+part_filled (AThis w) = by_tokens (AThis w) (Lower w ∷ []) here (by_word (bytes_eq w w) ((bytes_eq-Decides w w).1 refl))
+part_filled (AThisNumber k) = by_tokens (AThisNumber k) (Number k ∷ []) here (by_word (k == k) (eq-eqb k k refl))
+part_filled ADemand = by_tokens ADemand (Upper (codes "L") ∷ []) _ (λ r. refl)
+part_filled ADemandForm = by_tokens ADemandForm (Upper (codes "P") ∷ n ∷ Close ∷ []) _ (λ r. refl)
+part_filled ASignature = by_tokens ASignature signature _ (λ r. refl)
+part_filled SignatureEnd = by_tokens SignatureEnd (Close ∷ []) _ (λ r. refl)
+part_filled AnUnfolding = by_tokens AnUnfolding (Key word.None ∷ []) _ (λ r. refl)
+part_filled AnUnfoldingForm = by_tokens AnUnfoldingForm (Key word.Def ∷ zero ∷ Close ∷ []) _ (λ r. refl)
+part_filled AnItem = by_tokens AnItem (Open ∷ value) _ (λ r. refl)
+part_filled AnItemForm = by_tokens AnItemForm value _ (λ r. refl)
+part_filled AnInterfaceHeader = by_tokens AnInterfaceHeader interface_header _ (λ r. refl)
+part_filled AnInterfaceBody = by_tokens AnInterfaceBody (Close ∷ []) _ (λ r. refl)
+part_filled AnInterfaceBodyForm = by_tokens AnInterfaceBodyForm (Key word.Hidden ∷ Close ∷ Close ∷ []) _ (λ r. refl)
+part_filled AnInterface = by_tokens AnInterface (interface_header ++ Close ∷ []) _ (λ r. refl)
 part_filled (Many p) = by_tokens (Many p) (Close ∷ []) [] (λ r. refl)
 part_filled (Several p) = several_filled (part_filled p) where
   several_filled : FilledPart p → FilledPart (Several p)

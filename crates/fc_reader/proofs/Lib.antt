@@ -5,6 +5,7 @@ pub mod Ends
 pub mod Fillings
 pub mod FirstFaults
 pub mod Firsts
+pub mod Forms
 pub mod Fronts
 pub mod Halts
 pub mod Laws

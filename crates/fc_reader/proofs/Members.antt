@@ -1,13 +1,12 @@
 -- What may be repeated, as it is read member by member.
 use Rattle.std.proofs.Common.{◌≡◌, ◌<◌, List, [], ◌∷◌, ◌++◌, length, map, refl, sym, ap, ◌∙◌, subst}
 use Rattle.fc_model.specs.Words.{Tok, Close}
-use Rattle.fc_model.specs.Grammar.{Part, Given, gives, ◌▸◌, row_of, Many}
+use Rattle.fc_model.specs.Grammar.{Part, Given, Steps, gives, ◌▸◌, row_of, row_then, Many}
 use Rattle.fc_model.specs.Reading.{Got, read_steps, Reads}
 use Rattle.fc_read_parts.specs.Reading.{GoesOn, Takes}
-use Rattle.fc_read_parts.proofs.Rows.{goes_by}
 use Rattle.fc_read_parts.proofs.Stars.{Star, many_at, many_start, star_more}
 use Rattle.fc_reader.proofs.Lists.{head_same, tail_same}
-use Rattle.fc_reader.proofs.Steps.{got_rest, got_value, last, split}
+use Rattle.fc_reader.proofs.Steps.{by_other, got_rest, got_value, last, split}
 
 -- ---- lists of names, which are seen as they are
 
@@ -26,6 +25,15 @@ names_more p {ts = ts} {us = us} {ws = ws} {vs = vs} {old = old} {new = new} {x 
 
 -- ---- what was read, in its members
 
+many_row : (p : Part) (t : Tok) → (t ≡ Close → ⊥) → row_of (Many p) t ≡ row_then (row_of p t) (λ x. Many p ▸ λ xs. gives (x ∷ xs))
+many_row p Close n = absurd (n refl)
+many_row p t n = refl
+
+-- where the first token is no closing bracket, a member comes first
+pub many_goes : {A : Type 0} (p : Part) (t : Tok) (ts : List Tok) (g : List (Given p) → Steps A) → (t ≡ Close → ⊥)
+    → read_steps (t ∷ ts) (Many p ▸ g) ≡ read_steps (t ∷ ts) (p ▸ λ x. Many p ▸ λ xs. g (x ∷ xs))
+many_goes p t ts g n = by_other t ts (Many p) p (λ x. Many p ▸ λ xs. gives (x ∷ xs)) g (many_row p t n)
+
 -- a member was read, and then the others
 pub record Member (p : Part) (ts : List Tok) (x : Given p) (xs : List (Given p)) (rest : List Tok) : Type 0 where
   pub behind : List Tok
@@ -40,10 +48,10 @@ data Members (p : Part) (ts : List Tok) (xs : List (Given p)) (rest : List Tok) 
 members : (p : Part) (xs : List (Given p)) (ts rest : List Tok) → Reads (Many p) ts xs rest → Members p ts xs rest
 members p xs [] rest e = absurd cc
 members p xs (Close ∷ ts) rest e = closes (ap (λ (r : List Tok). Close ∷ r) (got_rest e)) (sym (got_value e))
-members p xs (t ∷ ts) rest e = goes (sym (goes_by p (Many p) (λ ys. gives ys) ts (row_of p t)) ∙ e)
+members p xs (t ∷ ts) rest e = goes (sym (many_goes p t ts (λ ys. gives ys) (λ h. cc)) ∙ e)
 
-pub no_members : (p : Part) (ts rest : List Tok) → Reads (Many p) ts [] rest → ts ≡ Close ∷ rest
-no_members p ts rest e = by (members p [] ts rest e) where
+pub ends_at_once : (p : Part) (ts rest : List Tok) → Reads (Many p) ts [] rest → ts ≡ Close ∷ rest
+ends_at_once p ts rest e = by (members p [] ts rest e) where
   by : Members p ts [] rest → ts ≡ Close ∷ rest
   by (closes h k) = h
   by (goes h) =

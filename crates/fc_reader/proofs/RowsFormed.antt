@@ -1,5 +1,5 @@
 -- What the rows of the grammar give is formed, if what they are given is.
-use Rattle.std.proofs.Common.{◌≡◌, ◌^◌, ℕ, suc, length, map, subst, Bool, true, false, ◌&&◌, ◌||◌, nat_lt, List, [], ◌∷◌, ◌++◌, Option, Some, None, if◌then◌else◌, refl}
+use Rattle.std.proofs.Common.{◌≡◌, ◌==◌, ◌^◌, ℕ, suc, arith, length, map, sym, ◌∙◌, subst, Bool, true, false, ◌&&◌, ◌||◌, nat_lt, List, [], ◌∷◌, ◌++◌, Option, Some, None, if◌then◌else◌, refl}
 use Rattle.std.specs.Prelude.{⊤}
 use Rattle.std.specs.List.{list_all}
 use Rattle.std.specs.Str.{bytes_eq}
@@ -7,17 +7,20 @@ use Rattle.std.specs.Prelude.{codes, is_none}
 use Rattle.std.proofs.lemmas.Bool.{and_parts}
 use Rattle.fc_syntax.specs.declared.keyword.Keyword.TheVariants as word
 use Rattle.fc_syntax.specs.Keywords.{keyword_text}
-use Rattle.fc_syntax.specs.Tree.{Word, Ty, TApp, Co, Binder, BValue, BType, BCo, Arg, ATerm, Bind, JoinBind, Alt, Expr, EApp, Decl, Module}
+use Rattle.fc_syntax.specs.Tree.{Word, Ty, TApp, Co, Binder, BValue, BType, BCo, Arg, ATerm, Bind, JoinBind, Alt, Expr, EApp, Decl, DData, DNew, DFamily, DAxiom, DDef, DWrap, Module}
+use Rattle.fc_syntax.specs.Demands.{Demand, Bottom, Absent, Product, Strict, Lazy, Sig, SigOf}
+use Rattle.fc_model.specs.FileForms.{FileForm, ModuleFile, InterfaceFile, File, whole_part}
 use Rattle.fc_syntax.specs.Tokens.{is_lower_name, is_upper_name, is_module_name, is_module_part}
 use Rattle.fc_model.specs.Words.{keyword_of, tok_of, Tok, Open, Close, Key, Lower, Upper, LowerOf, UpperOf, Arrow, Operator, Literal, Number}
-use Rattle.fc_model.specs.Grammar.{Here, here, Part, AnOpen, AClose, AWord, ALower, AnUpper, AName, AModuleName, AnUpperName, ARole, AnEqualityRole, ANumber, AnOperator, AKind, AKindForm, AType, ATypeForm, ACoercion, ACoercionForm, ABinder, ABinderForm, AnArgument, AnArgumentForm, AnExpression, AnExpressionForm, ABind, AJoinBind, AnAlternative, AnAlternativeForm, AParameter, APlainParameter, FieldBinders, FieldBindersForm, ACoercionField, AConstructor, ADeclaration, ADeclarationForm, AHeader, ABody, ABodyForm, AModule, Many, Several}
-use Rattle.fc_model.specs.Grammar.{Header, HeaderOf, Body, BodyOf, Given, Steps, gives, ◌▸◌, and_then, row_then, row_of, functions, type_applications, applications, lambdas, cos_from, args_from, exprs_from, binds_from, joins_from, alts_from, module_from}
-use Rattle.fc_model.specs.Grammar.{role_row, equality_role_row, module_name_row, upper_name_row, operator_row, type_row, type_form_row, coercion_row, coercion_form_row, binder_form_row, expression_row, expression_form_row, argument_row, argument_form_row, alternative_form_row, field_binders_form_row, declaration_form_row, header_row, body_form_row, at_bracket}
+use Rattle.fc_model.specs.Grammar.{Here, here, Part, AnOpen, AClose, AWord, ALower, AnUpper, AName, AModuleName, AnUpperName, ARole, AnEqualityRole, ANumber, AnOperator, AKind, AKindForm, AType, ATypeForm, ACoercion, ACoercionForm, ABinder, ABinderForm, AnArgument, AnArgumentForm, AnExpression, AnExpressionForm, ABind, AJoinBind, AnAlternative, AnAlternativeForm, AParameter, APlainParameter, FieldBinders, FieldBindersForm, ACoercionField, AConstructor, ADeclaration, ADeclarationForm, AHeader, ABody, ABodyForm, AModule, AThis, AThisNumber, ADemand, ADemandForm, ASignature, SignatureEnd, AnUnfolding, AnUnfoldingForm, AnItem, AnItemForm, AnInterfaceHeader, AnInterfaceBody, AnInterfaceBodyForm, AnInterface, Many, Several}
+use Rattle.fc_model.specs.Grammar.{Header, HeaderOf, Body, BodyOf, Item, ItemDecl, ItemValue, Unfolding, Untold, ToldDef, ToldWrap, Interface, Given, Steps, gives, ◌▸◌, and_then, row_then, row_of, functions, type_applications, applications, lambdas, cos_from, args_from, exprs_from, binds_from, joins_from, alts_from, module_from, demands_from, more_demand, item_decl, item_sigs, items_told, interface_from}
+use Rattle.fc_model.specs.Grammar.{role_row, equality_role_row, module_name_row, upper_name_row, operator_row, type_row, type_form_row, coercion_row, coercion_form_row, binder_form_row, expression_row, expression_form_row, argument_row, argument_form_row, alternative_form_row, field_binders_form_row, declaration_form_row, header_row, body_form_row, demand_word_row, demand_row, demand_form_row, signature_row, signature_end_row, unfolding_row, unfolding_form_row, item_form_row, interface_header_row, interface_body_form_row, at_bracket}
 use Rattle.fc_syntax.specs.declared.ty.Role.TheVariants as role
-use Rattle.fc_model.specs.Formed.{is_word, is_lower_word, is_upper_word, is_upper_formed, is_equality_role, is_type_formed, is_co_formed, are_cos_formed, are_some_cos, is_binder_formed, is_expr_formed, is_arg_formed, are_args_formed, are_exprs_formed, is_bind_formed, are_binds_formed, are_some_binds, is_join_formed, are_joins_formed, are_some_joins, is_alt_formed, are_alts_formed, is_param_formed, is_plain_formed, are_field_coercions, are_field_binders, is_con_formed, is_decl_formed, is_formed, IsFormed}
+use Rattle.fc_model.specs.Formed.{is_word, is_lower_word, is_upper_word, is_upper_formed, is_equality_role, is_type_formed, is_co_formed, are_cos_formed, are_some_cos, is_binder_formed, is_expr_formed, is_arg_formed, are_args_formed, are_exprs_formed, is_bind_formed, are_binds_formed, are_some_binds, is_join_formed, are_joins_formed, are_some_joins, is_alt_formed, are_alts_formed, is_param_formed, is_plain_formed, are_field_coercions, are_field_binders, is_con_formed, is_decl_formed, is_formed, IsFormed, is_demand_formed, are_demands_formed, is_sig_formed, definition_count, FailUntold, IsInterfaceFormed}
 use Rattle.fc_reader.proofs.ModuleNames.{part_is_name, name_and_part}
 use Rattle.fc_reader.proofs.TokensFormed.{AreGood, IsGood, tokens_good}
 use Rattle.fc_model.specs.ReadFaults.{ReadsTo}
+use Rattle.fc_reader.specs.Refusals.{IsFileFormed}
 use Rattle.fc_model.specs.Reading.{Outcome, Got, Stuck, read_steps, Reads}
 
 both : {p q : Bool} → p ≡ true → q ≡ true → (p && q) ≡ true
@@ -36,8 +39,26 @@ Some1 P (x ∷ xs) = P x × All P xs
 abbrev pub IsHeaderFormed : Header → Type 0
 IsHeaderFormed (HeaderOf m imports exports) = (is_module_name m ≡ true) × (list_all is_module_name imports ≡ true) × (list_all is_word exports ≡ true)
 
-abbrev pub IsBodyFormed : Body → Type 0
+abbrev pub IsBodyFormed : Body Decl → Type 0
 IsBodyFormed (BodyOf hidden decls) = (list_all is_word hidden ≡ true) × (list_all is_decl_formed decls ≡ true)
+
+-- no definition of a value
+abbrev pub IsNoDefinition : Decl → Type 0
+IsNoDefinition (DDef n t e) = ⊥
+IsNoDefinition (DWrap n t e) = ⊥
+IsNoDefinition d = ⊤
+
+abbrev pub IsUnfoldingFormed : Unfolding → Type 0
+IsUnfoldingFormed Untold = ⊤
+IsUnfoldingFormed (ToldDef e) = is_expr_formed e ≡ true
+IsUnfoldingFormed (ToldWrap e) = is_expr_formed e ≡ true
+
+abbrev pub IsItemFormed : Item → Type 0
+IsItemFormed (ItemDecl d) = (is_decl_formed d ≡ true) × IsNoDefinition d
+IsItemFormed (ItemValue x t s u) = (is_lower_word x ≡ true) × ((is_type_formed t ≡ true) × ((is_sig_formed s ≡ true) × IsUnfoldingFormed u))
+
+abbrev pub IsInterfaceBodyFormed : Body Item → Type 0
+IsInterfaceBodyFormed (BodyOf hidden items) = (list_all is_word hidden ≡ true) × All IsItemFormed items
 
 abbrev pub IsFormedGiven : (p : Part) → Given p → Type 0
 IsFormedGiven ALower w = is_lower_word w ≡ true
@@ -73,6 +94,18 @@ IsFormedGiven AHeader h = IsHeaderFormed h
 IsFormedGiven ABody b = IsBodyFormed b
 IsFormedGiven ABodyForm b = IsBodyFormed b
 IsFormedGiven AModule m = is_formed m ≡ true
+IsFormedGiven ADemand d = is_demand_formed d ≡ true
+IsFormedGiven ADemandForm d = is_demand_formed d ≡ true
+IsFormedGiven ASignature s = is_sig_formed s ≡ true
+IsFormedGiven SignatureEnd s = is_sig_formed s ≡ true
+IsFormedGiven AnUnfolding u = IsUnfoldingFormed u
+IsFormedGiven AnUnfoldingForm u = IsUnfoldingFormed u
+IsFormedGiven AnItem i = IsItemFormed i
+IsFormedGiven AnItemForm i = IsItemFormed i
+IsFormedGiven AnInterfaceHeader h = IsHeaderFormed h
+IsFormedGiven AnInterfaceBody b = IsInterfaceBodyFormed b
+IsFormedGiven AnInterfaceBodyForm b = IsInterfaceBodyFormed b
+IsFormedGiven AnInterface i = IsInterfaceFormed i
 IsFormedGiven (Many p) xs = All (IsFormedGiven p) xs
 IsFormedGiven (Several p) xs = Some1 (IsFormedGiven p) xs
 IsFormedGiven _ x = ⊤
@@ -307,10 +340,134 @@ header_keeps _ = tt
 
 body_form_keeps : (t : Tok) → IsGood t → KeepsRow IsBodyFormed (body_form_row t)
 body_form_keeps (Key word.Hidden) g = λ ns hns ds hds. (all_true is_word ns hns, all_true is_decl_formed ds hds)
-body_form_keeps t g = row_keeps_then {A = Decl} {B = Body} (λ d. is_decl_formed d ≡ true) IsBodyFormed (declaration_form_row t) (λ d. Many ADeclaration ▸ λ decls. gives (BodyOf [] (d ∷ decls))) (declaration_form_keeps t g) (λ d hd ds hds. (refl, both hd (all_true is_decl_formed ds hds)))
+body_form_keeps t g = row_keeps_then {A = Decl} {B = Body Decl} (λ d. is_decl_formed d ≡ true) IsBodyFormed (declaration_form_row t) (λ d. Many ADeclaration ▸ λ decls. gives (BodyOf [] (d ∷ decls))) (declaration_form_keeps t g) (λ d hd ds hds. (refl, both hd (all_true is_decl_formed ds hds)))
 
-module_is_formed : (h : Header) (b : Body) → IsHeaderFormed h → IsBodyFormed b → is_formed (module_from h b) ≡ true
+module_is_formed : (h : Header) (b : Body Decl) → IsHeaderFormed h → IsBodyFormed b → is_formed (module_from h b) ≡ true
 module_is_formed (HeaderOf m imports exports) (BodyOf hidden decls) h b = both (both h.0 h.1) (both (both h.2 b.0) b.1)
+
+-- ---- interfaces
+
+demands_formed : (ds : List Demand) → All (λ d. is_demand_formed d ≡ true) ds → are_demands_formed (demands_from ds) ≡ true
+demands_formed [] h = refl
+demands_formed (d ∷ ds) h = both h.0 (demands_formed ds h.1)
+
+demand_word_keeps : (w : Word) → KeepsRow (λ d. is_demand_formed d ≡ true) (demand_word_row w)
+demand_word_keeps w = by (bytes_eq w (codes "B")) (bytes_eq w (codes "A")) (bytes_eq w (codes "S")) (bytes_eq w (codes "L")) where
+  by : (a b c d : Bool) → KeepsRow (λ d. is_demand_formed d ≡ true) (if a then Some (gives Bottom) else if b then Some (gives Absent) else if c then Some (gives Strict) else if d then Some (gives Lazy) else None)
+  by true b c d = refl
+  by false true c d = refl
+  by false false true d = refl
+  by false false false true = refl
+  by false false false false = tt
+
+demand_keeps : (t : Tok) → KeepsRow (λ d. is_demand_formed d ≡ true) (demand_row t)
+demand_keeps (Upper w) = demand_word_keeps w
+demand_keeps Open = λ d h. h
+demand_keeps _ = tt
+
+demand_form_keeps : (t : Tok) → KeepsRow (λ d. is_demand_formed d ≡ true) (demand_form_row t)
+demand_form_keeps (Upper w) = by (bytes_eq w (codes "P")) where
+  by : (b : Bool) → KeepsRow (λ d. is_demand_formed d ≡ true) (if b then Some (AnUpperName ▸ λ k. Many ADemand ▸ λ ds. gives (Product k (demands_from ds))) else None)
+  by true = λ k hk ds hds. both hk (demands_formed ds hds)
+  by false = tt
+demand_form_keeps _ = tt
+
+signature_keeps : (t : Tok) → KeepsRow (λ s. is_sig_formed s ≡ true) (signature_row t)
+signature_keeps Open = λ w p s h. h
+signature_keeps _ = tt
+
+one_demand_more : (d : Demand) (s : Sig) → is_demand_formed d ≡ true → is_sig_formed s ≡ true → is_sig_formed (more_demand d s) ≡ true
+one_demand_more d (SigOf ds diverges) h k = both h k
+
+signature_end_keeps : (t : Tok) → KeepsRow (λ s. is_sig_formed s ≡ true) (signature_end_row t)
+signature_end_keeps Close = refl
+signature_end_keeps (Key word.Diverges) = λ c q. refl
+signature_end_keeps t = row_keeps_then {A = Demand} {B = Sig} (λ d. is_demand_formed d ≡ true) (λ s. is_sig_formed s ≡ true) (demand_row t) (λ d. SignatureEnd ▸ λ s. gives (more_demand d s)) (demand_keeps t) (λ d h s k. one_demand_more d s h k)
+
+unfolding_keeps : (t : Tok) → KeepsRow IsUnfoldingFormed (unfolding_row t)
+unfolding_keeps (Key word.None) = tt
+unfolding_keeps Open = λ u h. h
+unfolding_keeps _ = tt
+
+unfolding_form_keeps : (t : Tok) → KeepsRow IsUnfoldingFormed (unfolding_form_row t)
+unfolding_form_keeps (Key word.Def) = λ e he c q. he
+unfolding_form_keeps (Key word.Wrap) = λ e he c q. he
+unfolding_form_keeps _ = tt
+
+item_form_keeps : (t : Tok) → IsGood t → KeepsRow IsItemFormed (item_form_row t)
+item_form_keeps (Lower w) g = by (bytes_eq w (codes "value")) where
+  by : (b : Bool) → KeepsRow IsItemFormed (if b then Some (ALower ▸ λ x. AType ▸ λ t. ASignature ▸ λ s. AnUnfolding ▸ λ u. AClose ▸ λ _. gives (ItemValue x t s u)) else None)
+  by true = λ x hx t ht s hs u hu c q. (hx, (ht, (hs, hu)))
+  by false = tt
+item_form_keeps (Key word.Data) g = λ n hn o p ps hps cs hcs. (declaration_form_keeps (Key word.Data) g n hn o p ps hps cs hcs, tt)
+item_form_keeps (Key word.NewType) g = λ n hn o p ps hps t ht c hc d q. (declaration_form_keeps (Key word.NewType) g n hn o p ps hps t ht c hc d q, tt)
+item_form_keeps (Key word.Family) g = λ n hn o p ps hps k q c r. (declaration_form_keeps (Key word.Family) g n hn o p ps hps k q c r, tt)
+item_form_keeps (Key word.Axiom) g = λ n hn o p ps hps t ht u hu c q. (declaration_form_keeps (Key word.Axiom) g n hn o p ps hps t ht u hu c q, tt)
+item_form_keeps _ g = tt
+
+interface_header_keeps : (t : Tok) → KeepsRow IsHeaderFormed (interface_header_row t)
+interface_header_keeps Open = λ w p v q m hm o r i s imports hi a b e u exports he. (hm, all_true is_module_name imports hi, all_true is_word exports he)
+interface_header_keeps _ = tt
+
+interface_body_form_keeps : (t : Tok) → IsGood t → KeepsRow IsInterfaceBodyFormed (interface_body_form_row t)
+interface_body_form_keeps (Key word.Hidden) g = λ ns hns items hitems. (all_true is_word ns hns, hitems)
+interface_body_form_keeps t g = row_keeps_then {A = Item} {B = Body Item} IsItemFormed IsInterfaceBodyFormed (item_form_row t) (λ i. Many AnItem ▸ λ items. gives (BodyOf [] (i ∷ items))) (item_form_keeps t g) (λ i hi items hitems. (refl, (hi, hitems)))
+
+item_decl_formed : (i : Item) → IsItemFormed i → is_decl_formed (item_decl i) ≡ true
+item_decl_formed (ItemDecl d) h = h.0
+item_decl_formed (ItemValue x t s Untold) h = both h.0 (both h.1.0 h.1.0)
+item_decl_formed (ItemValue x t s (ToldDef e)) h = both h.0 (both h.1.0 h.1.1.1)
+item_decl_formed (ItemValue x t s (ToldWrap e)) h = both h.0 (both h.1.0 h.1.1.1)
+
+item_decls_formed : (items : List Item) → All IsItemFormed items → list_all is_decl_formed (map item_decl items) ≡ true
+item_decls_formed [] h = refl
+item_decls_formed (i ∷ items) h = both (item_decl_formed i h.0) (item_decls_formed items h.1)
+
+-- a declaration that is no definition is not counted, and nothing is told of it
+no_definition_count : (d : Decl) (ds : List Decl) → IsNoDefinition d → definition_count (d ∷ ds) ≡ definition_count ds
+no_definition_count (DData n ps cs) ds h = refl
+no_definition_count (DNew n ps t c) ds h = refl
+no_definition_count (DFamily n ps k) ds h = refl
+no_definition_count (DAxiom n ps t u) ds h = refl
+no_definition_count (DDef n t e) ds h = absurd h
+no_definition_count (DWrap n t e) ds h = absurd h
+
+no_definition_untold : (d : Decl) (ds : List Decl) (told : List Bool) → IsNoDefinition d → FailUntold ds told → FailUntold (d ∷ ds) told
+no_definition_untold (DData n ps cs) ds told h k = k
+no_definition_untold (DNew n ps t c) ds told h k = k
+no_definition_untold (DFamily n ps k) ds told h l = l
+no_definition_untold (DAxiom n ps t u) ds told h k = k
+no_definition_untold (DDef n t e) ds told h k = absurd h
+no_definition_untold (DWrap n t e) ds told h k = absurd h
+
+one_sig : (items : List Item) → All IsItemFormed items → length (item_sigs items) ≡ definition_count (map item_decl items)
+one_sig [] h = refl
+one_sig (ItemDecl d ∷ items) h = one_sig items h.1 ∙ sym (no_definition_count d (map item_decl items) h.0.1)
+one_sig (ItemValue x t s Untold ∷ items) h = omega (arith, one_sig items h.1)
+one_sig (ItemValue x t s (ToldDef e) ∷ items) h = omega (arith, one_sig items h.1)
+one_sig (ItemValue x t s (ToldWrap e) ∷ items) h = omega (arith, one_sig items h.1)
+
+sigs_formed : (items : List Item) → All IsItemFormed items → list_all is_sig_formed (item_sigs items) ≡ true
+sigs_formed [] h = refl
+sigs_formed (ItemDecl d ∷ items) h = sigs_formed items h.1
+sigs_formed (ItemValue x t s u ∷ items) h = both h.0.1.1.0 (sigs_formed items h.1)
+
+untold_fail : (items : List Item) → All IsItemFormed items → FailUntold (map item_decl items) (items_told items)
+untold_fail [] h = tt
+untold_fail (ItemDecl d ∷ items) h = no_definition_untold d (map item_decl items) (items_told items) h.0.1 (untold_fail items h.1)
+untold_fail (ItemValue x t s Untold ∷ items) h = (refl, untold_fail items h.1)
+untold_fail (ItemValue x t s (ToldDef e) ∷ items) h = untold_fail items h.1
+untold_fail (ItemValue x t s (ToldWrap e) ∷ items) h = untold_fail items h.1
+
+interface_is_formed : (h : Header) (b : Body Item) → IsHeaderFormed h → IsInterfaceBodyFormed b → IsInterfaceFormed (interface_from h b)
+interface_is_formed (HeaderOf m imports exports) (BodyOf hidden items) h b = record {
+  formed = module_is_formed (HeaderOf m imports exports) (BodyOf hidden (map item_decl items)) h (b.0, item_decls_formed items b.1);
+  one_sig = one_sig items b.1;
+  demands = sigs_formed items b.1;
+  untold = untold_fail items b.1;
+}
+
+-- ---- all rows
 
 at_open : {A : Type 0} (P : A → Type 0) (t : Tok) (st : Steps A) → Keeps P st → KeepsRow P (at_bracket t st)
 at_open P Open st h = h
@@ -371,6 +528,21 @@ row_keeps ABody Close g = (refl, refl)
 row_keeps ABody Open g = λ b h. h
 row_keeps ABodyForm t g = body_form_keeps t g
 row_keeps AModule t g = row_keeps_then {A = Header} {B = Module} IsHeaderFormed (λ m. is_formed m ≡ true) (header_row t) (λ h. ABody ▸ λ b. gives (module_from h b)) (header_keeps t) (λ h e b f. module_is_formed h b e f)
+row_keeps (AThis w) (Lower v) g = word_keeps (bytes_eq v w)
+row_keeps (AThisNumber n) (Number m) g = word_keeps (m == n)
+row_keeps ADemand t g = demand_keeps t
+row_keeps ADemandForm t g = demand_form_keeps t
+row_keeps ASignature t g = signature_keeps t
+row_keeps SignatureEnd t g = signature_end_keeps t
+row_keeps AnUnfolding t g = unfolding_keeps t
+row_keeps AnUnfoldingForm t g = unfolding_form_keeps t
+row_keeps AnItem t g = at_open {A = Item} IsItemFormed t (AnItemForm ▸ λ i. gives i) (λ i h. h)
+row_keeps AnItemForm t g = item_form_keeps t g
+row_keeps AnInterfaceHeader t g = interface_header_keeps t
+row_keeps AnInterfaceBody Close g = (refl, tt)
+row_keeps AnInterfaceBody Open g = λ b h. h
+row_keeps AnInterfaceBodyForm t g = interface_body_form_keeps t g
+row_keeps AnInterface t g = row_keeps_then {A = Header} {B = Interface} IsHeaderFormed IsInterfaceFormed (interface_header_row t) (λ h. AnInterfaceBody ▸ λ b. gives (interface_from h b)) (interface_header_keeps t) (λ h e b f. interface_is_formed h b e f)
 row_keeps (Many p) Close g = tt
 row_keeps (Many p) t g = row_keeps_then (IsFormedGiven p) (All (IsFormedGiven p)) (row_of p t) (λ x. Many p ▸ λ xs. gives (x ∷ xs)) (row_keeps p t g) (λ x h xs k. (h, k))
 row_keeps (Several p) t g = row_keeps_then (IsFormedGiven p) (Some1 (IsFormedGiven p)) (row_of p t) (λ x. Many p ▸ λ xs. gives (x ∷ xs)) (row_keeps p t g) (λ x h xs k. (h, k))
@@ -392,6 +564,15 @@ reading_formed {A = A} P (t ∷ ts) (p ▸ f) x rest g k e = by (row_of p t) (ro
 pub part_formed : (p : Part) (ts : List Tok) (x : Given p) (rest : List Tok) → AreGood ts → Reads p ts x rest → IsFormedGiven p x
 part_formed p ts x rest g e = reading_formed (IsFormedGiven p) ts (p ▸ λ x. gives x) x rest g (λ y h. h) e
 
+whole_formed : (f : FileForm) (m : File f) → IsFormedGiven (whole_part f) m → IsFileFormed f m
+whole_formed ModuleFile m h = h
+whole_formed InterfaceFile m h = h
+
 -- what a text spells is formed
-pub reads_formed : (room : ℕ) (bytes : List ℕ) (m : Module) → ReadsTo room bytes m → IsFormed m
-reads_formed room bytes m r = part_formed AModule (map tok_of r.spelled.lexemes) m [] (tokens_good bytes r.spelled.lexemes r.spelled.lexed) r.spelled.parsed
+pub reads_formed : (f : FileForm) (room : ℕ) (bytes : List ℕ) (m : File f) → ReadsTo f room bytes m → IsFileFormed f m
+reads_formed f room bytes m r =
+    whole_formed f m (part_formed (whole_part f) (map tok_of r.spelled.lexemes) m [] (tokens_good bytes r.spelled.lexemes r.spelled.lexed) r.spelled.parsed)
+
+-- the same of a module
+pub module_formed : (room : ℕ) (bytes : List ℕ) (m : Module) → ReadsTo ModuleFile room bytes m → IsFormed m
+module_formed room bytes m r = reads_formed ModuleFile room bytes m r

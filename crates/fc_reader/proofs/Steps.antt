@@ -38,6 +38,20 @@ read_first {A = A} t ts p f = by (row_of p t) where
   by None = refl
   by (Some st) = refl
 
+-- the first token, by a row that is known
+pub by_row : {A : Type 0} (t : Tok) (ts : List Tok) (p : Part) (f : Given p → Steps A) {o : Option (Steps (Given p))} → row_of p t ≡ o → read_steps (t ∷ ts) (p ▸ f) ≡ read_row (row_then o f) ts
+by_row t ts p f e = read_first t ts p f ∙ ap (λ o. read_row (row_then o f) ts) e
+
+pub row_associates : {A B C : Type 0} (o : Option (Steps A)) (g : A → Steps B) (f : B → Steps C) → row_then (row_then o g) f ≡ row_then o (λ x. and_then (g x) f)
+row_associates None g f = refl
+row_associates (Some st) g f = ap (λ s. Some s) (associates st g f)
+
+-- the first token, by a row that is made of another part's
+pub by_other : {A : Type 0} (t : Tok) (ts : List Tok) (p q : Part) (g : Given q → Steps (Given p)) (f : Given p → Steps A) → row_of p t ≡ row_then (row_of q t) g
+    → read_steps (t ∷ ts) (p ▸ f) ≡ read_steps (t ∷ ts) (q ▸ λ x. and_then (g x) f)
+by_other t ts p q g f e =
+    by_row t ts p f e ∙ ap (λ o. read_row o ts) (row_associates (row_of q t) g f) ∙ sym (read_first t ts q (λ x. and_then (g x) f))
+
 -- ---- what was read, in its parts
 
 pub got_value : {A : Type 0} {x y : A} {us vs : List Tok} → Got x us ≡ Got y vs → x ≡ y

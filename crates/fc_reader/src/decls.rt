@@ -2,7 +2,8 @@
 ghost use Rattle.std.specs.Prelude.{◌≡◌, ◌<◌, length, true, IfOk, IfErr};
 ghost use Rattle.fc_syntax.specs.View.{decls_of};
 ghost use Rattle.fc_model.specs.Grammar.{ADeclaration, Many};
-ghost use Rattle.fc_model.specs.Texts.{SomeDeclsAt};
+ghost use Rattle.fc_model.specs.FileForms.{ModuleFile};
+ghost use Rattle.fc_model.specs.Texts.{SomeMembersAt};
 ghost use Rattle.fc_model.specs.ReadFaults.{are_within};
 ghost use Rattle.fc_read_parts.specs.Reading.{Takes};
 ghost use Rattle.fc_read_parts.specs.Seen.{ahead};
@@ -26,7 +27,7 @@ pub(crate) fn read_decls(
     ensures read { IfOk result (λ x. Takes (Many ADeclaration) (ahead tokens.old) (decls_of x) (ahead tokens.new)) }
     ensures within { IfOk result (λ x. are_within room (decls_of x) ≡ true) }
     ensures shorter { IfOk result (λ _. length (ahead tokens.new) < length (ahead tokens.old)) }
-    ensures halt { IfErr result (Halts room SomeDeclsAt (Many ADeclaration) (ahead tokens.old)) }
+    ensures halt { IfErr result (Halts ModuleFile room (SomeMembersAt ModuleFile) (Many ADeclaration) (ahead tokens.old)) }
 {
     let mut all = Seq::new(alloc);
     let mut size = 0;

@@ -3,7 +3,8 @@ ghost use Rattle.std.specs.Prelude.{◌≡◌, ◌<◌, length, true, IfOk, IfEr
 ghost use Rattle.fc_syntax.specs.View.{decls_of, module_of};
 ghost use Rattle.fc_syntax.specs.Tree.{ModuleOf};
 ghost use Rattle.fc_model.specs.Grammar.{ABody, AHeader, AModule, AModuleName, AName, BodyOf, HeaderOf, Many};
-ghost use Rattle.fc_model.specs.Texts.{SomeBodyAt, BeginsWithDecls};
+ghost use Rattle.fc_model.specs.FileForms.{ModuleFile};
+ghost use Rattle.fc_model.specs.Texts.{SomeBodyAt, BeginsWith};
 ghost use Rattle.fc_model.specs.ReadFaults.{are_within, decls_within};
 ghost use Rattle.fc_read_parts.specs.Reading.{StopsAt, Takes};
 ghost use Rattle.fc_read_parts.specs.Seen.{ahead};
@@ -17,15 +18,15 @@ use fc_read_parts::{
 use fc_syntax::{Decl, Keyword, Module, Seq, Text};
 use std::alloc::Global;
 
-/// The front of a module.
+/// The front of a module or an interface.
 #[derive(Debug, Drop)]
-pub(crate) struct Header {
-    /// Its name.
-    name: Text,
+pub struct Header {
+    /// The name of the module.
+    pub name: Text,
     /// The modules that it imports.
-    imports: Seq<Text>,
+    pub imports: Seq<Text>,
     /// The names that it exports.
-    exports: Seq<Text>,
+    pub exports: Seq<Text>,
 }
 
 /// What stands behind the header of a module.
@@ -39,7 +40,7 @@ pub(crate) struct Body {
 
 /// Reads names up to the closing bracket, and that. Stops at the first token that cannot go on.
 #[tactic(auto, using(fc_read_parts::proofs::Stars::star_rules))]
-fn read_names(alloc: Global, tokens: &mut Tokens<'_>) -> Result<Seq<Text>, Stop>
+pub fn read_names(alloc: Global, tokens: &mut Tokens<'_>) -> Result<Seq<Text>, Stop>
     ensures read { IfOk result (λ x. Takes (Many AName) (ahead tokens.old) x (ahead tokens.new)) }
     ensures shorter { IfOk result (λ _. length (ahead tokens.new) < length (ahead tokens.old)) }
     ensures fault { IfErr result (StopsAt (Many AName) (ahead tokens.old)) }
@@ -55,7 +56,7 @@ fn read_names(alloc: Global, tokens: &mut Tokens<'_>) -> Result<Seq<Text>, Stop>
 
 /// Reads names of modules up to the closing bracket, and that. Stops at the first token that cannot go on.
 #[tactic(auto, using(fc_read_parts::proofs::Stars::star_rules))]
-fn read_module_names(alloc: Global, tokens: &mut Tokens<'_>) -> Result<Seq<Text>, Stop>
+pub fn read_module_names(alloc: Global, tokens: &mut Tokens<'_>) -> Result<Seq<Text>, Stop>
     ensures read { IfOk result (λ x. Takes (Many AModuleName) (ahead tokens.old) x (ahead tokens.new)) }
     ensures shorter { IfOk result (λ _. length (ahead tokens.new) < length (ahead tokens.old)) }
     ensures fault { IfErr result (StopsAt (Many AModuleName) (ahead tokens.old)) }
@@ -100,7 +101,7 @@ fn read_body(alloc: Global, tokens: &mut Tokens<'_>, room: u32) -> Result<Body, 
     ensures read { IfOk result (λ x. Takes ABody (ahead tokens.old) (BodyOf x.hidden (decls_of x.decls)) (ahead tokens.new)) }
     ensures within { IfOk result (λ x. are_within room (decls_of x.decls) ≡ true) }
     ensures shorter { IfOk result (λ _. length (ahead tokens.new) < length (ahead tokens.old)) }
-    ensures halt { IfErr result (Halts room SomeBodyAt ABody (ahead tokens.old)) }
+    ensures halt { IfErr result (Halts ModuleFile room (SomeBodyAt ModuleFile) ABody (ahead tokens.old)) }
 {
     if opens_hidden(tokens) {
         let hidden = read_names(alloc, tokens)?;
@@ -140,7 +141,7 @@ pub(crate) fn read_module_form(
     ensures read { IfOk result (λ x. Takes AModule (ahead tokens.old) (module_of x) (ahead tokens.new)) }
     ensures within { IfOk result (λ x. decls_within room (module_of x) ≡ true) }
     ensures shorter { IfOk result (λ _. length (ahead tokens.new) < length (ahead tokens.old)) }
-    ensures halt { IfErr result (Halts room BeginsWithDecls AModule (ahead tokens.old)) }
+    ensures halt { IfErr result (Halts ModuleFile room (BeginsWith ModuleFile) AModule (ahead tokens.old)) }
 {
     let header = read_header(alloc, tokens)?;
     let body = read_body(alloc, tokens, room)?;

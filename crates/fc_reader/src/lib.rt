@@ -3,11 +3,15 @@
 //! `read_expr`, `read_type` and `read_decl` each read one form from the tokens ahead, and leave those behind it; at the first token
 //! that cannot go on they stop. They go as deep as brackets nest in the tokens that they are given: `up_to_deep_bracket` cuts these
 //! where they nest too deep. The other limits are those of a module, and `read_module` alone looks at them.
+//!
+//! What a reader of interfaces shares with that of modules is offered too: `read_module_names` and `read_names` for the header, `measure`
+//! for the limits of each declaration, and `refusal_of` and `halted` for the faults of a file.
 #![tactic(auto)]
 
 ghost use Rattle.std.specs.Prelude.{◌≡◌, ◌≤◌, length, IfOk, IfErr};
 ghost use Rattle.fc_syntax.specs.Limits.{standard_limits};
 ghost use Rattle.fc_syntax.specs.View.{module_of};
+ghost use Rattle.fc_model.specs.FileForms.{FileForm, ModuleFile};
 ghost use Rattle.fc_model.specs.Formed.{IsFormed};
 ghost use Rattle.fc_model.specs.ReadFaults.{ReadsTo};
 ghost use Rattle.fc_reader.specs.Refusals.{HasOneFirstFault, IsReadRefusal, SpellsOne};
@@ -18,8 +22,11 @@ mod limits;
 mod nesting;
 mod whole;
 
+pub use crate::header::{Header, read_module_names, read_names};
+pub use crate::limits::{Halt, Measured, measure};
 pub use crate::nesting::up_to_deep_bracket;
-use crate::whole::{read_tokens, refusal_of};
+use crate::whole::read_tokens;
+pub use crate::whole::{halted, refusal_of};
 pub use fc_read_parts::{Stop, Terminal, Tokens, terminals};
 pub use fc_read_terms::{read_declaration as read_decl, read_expression as read_expr};
 pub use fc_read_types::read_type;
@@ -34,10 +41,10 @@ use std::alloc::Global;
 /// fault of form stands at the first token that cannot go on, or at the length of the file; brackets that nest too deep, at
 /// the first such bracket; a declaration that is too deep, has too many parts or makes the module too large for the room, at
 /// its own opening bracket.
-#[tactic(auto, using(crate::proofs::RowsFormed::reads_formed))]
+#[tactic(auto, using(crate::proofs::RowsFormed::module_formed))]
 pub fn read_module(alloc: Global, file: &str, bytes: &[u8], room: u32) -> Result<Module, Refusal>
     requires { length bytes.now ≤ standard_limits.file_bytes }
-    ensures found { IfOk result (λ m. ReadsTo room bytes.now (module_of m)) }
+    ensures found { IfOk result (λ m. ReadsTo ModuleFile room bytes.now (module_of m)) }
     ensures formed { IfOk result (λ m. IsFormed (module_of m)) }
     ensures fault { IfErr result (IsReadRefusal room file.now bytes.now) }
 {
@@ -56,12 +63,12 @@ pub fn read_module(alloc: Global, file: &str, bytes: &[u8], room: u32) -> Result
     )
 }
 
-/// Bytes spell at most one module, and where there is a first fault they spell none within the limits, whatever room there is.
+/// Bytes spell at most one file of a form, and where there is a first fault they spell none within the limits, whatever room there is.
 pub fn a_text_has_one_module()
-    ensures one { SpellsOne }
+    ensures one { (f : FileForm) → SpellsOne f }
 {}
 
-/// Bytes have at most one first fault, whatever room there is.
+/// Bytes have at most one first fault as a file of a form, whatever room there is.
 pub fn a_text_has_one_first_fault()
-    ensures one { HasOneFirstFault }
+    ensures one { (f : FileForm) → HasOneFirstFault f }
 {}

@@ -11,9 +11,9 @@ use fc_measures::{add, depth, size_of_decl};
 use fc_read_parts::Stop;
 use fc_syntax::{Binder, ConDecl, Decl, Limits, Memory};
 
-/// Why the declarations of a module were not read to their end.
+/// Why a module or an interface was not read to its end.
 #[derive(Debug, Drop)]
-pub(crate) enum Halt {
+pub enum Halt {
     /// The form cannot go on, or memory ran out.
     Stop(Stop),
     /// A declaration is too deep; how many tokens are left from its bracket on.
@@ -40,7 +40,7 @@ impl From<Memory> for Halt {
 
 /// What a declaration is to the limits.
 #[derive(Debug, Drop)]
-pub(crate) enum Measured {
+pub enum Measured {
     /// It is too deep.
     Deep,
     /// It has too many parts, or is too large with those before it.
@@ -120,7 +120,7 @@ fn counts_fit(decl: &Decl) -> bool
 }
 
 /// What a declaration is to the limits, behind others of this size, where there is this much room for all of them.
-pub(crate) fn measure(decl: &Decl, size: u64, room: u32) -> Measured
+pub fn measure(decl: &Decl, size: u64, room: u32) -> Measured
     requires { size ≤ room }
     ensures { IsMeasured room (decl_of decl.now) size result }
 {

@@ -10,3 +10,4 @@ pub mod Keywords
 pub mod Hints
 pub mod Measures
 pub mod Primitives
+pub mod Demands

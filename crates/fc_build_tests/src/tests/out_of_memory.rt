@@ -13,7 +13,7 @@ const CORE: &[u8] =
     b"(module M (imports) (exports not) (hidden Bool False True)\n (data Bool () (False ()) (True ()))\n (def not (fun Bool Bool) (lam ((b Bool)) (case b (same Bool) Bool (default (con True)) (True () (con False))))))\n";
 
 const INTERFACE: &[u8] =
-    b"(interface 1 M (imports) (exports not) (hidden Bool False True)\n (data Bool () (False ()) (True ()))\n (value not (fun Bool Bool) (sig) none))\n";
+    b"(interface 1 M (imports) (exports not) (hidden Bool False True)\n (data Bool () (False ()) (True ()))\n (value not (fun Bool Bool) (sig) (def (lam ((b Bool)) (case b (same Bool) Bool (default (con True)) (True () (con False)))))))\n";
 
 /// Builds the text. Fails where there is no memory for the files and streams of the test.
 fn build(rt: &impl Abort, alloc: Global) -> Result<(), Fail> {

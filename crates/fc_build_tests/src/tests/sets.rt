@@ -20,7 +20,7 @@ const CORE_B: &[u8] = b"(module B (imports A) (exports x)\n (def x A.T (con A.K)
 const CORE_C: &[u8] = b"(module C (imports B A) (exports) (hidden y)\n (def y A.T B.x))\n";
 
 const INTERFACE_C: &[u8] =
-    b"(interface 1 C (imports B A) (exports) (hidden y)\n (value y A.T (sig) none))\n";
+    b"(interface 1 C (imports B A) (exports) (hidden y)\n (value y A.T (sig) (def B.x)))\n";
 
 /// The set, with the module that is built last in front.
 const SET: [Entry<'static>; 3] = [("C.fc", C), ("A.fc", A), ("B.fc", B)];

@@ -1,5 +1,5 @@
-//! The canonical text of declarations and headers, and of an interface.
-use super::{are_declared, are_printed, interface};
+//! The canonical text of declarations and headers.
+use super::{are_declared, are_printed};
 use std::test::Fail;
 
 #[test]
@@ -66,23 +66,4 @@ fn hidden_names_are_printed_only_where_there_is_one(rt: HostRuntime) -> Result<(
         ),
     ];
     are_printed(&rt, rt.alloc(), cases.as_slice())
-}
-
-#[test]
-fn an_interface_has_each_declaration_and_values_by_their_type(rt: HostRuntime) -> Result<(), Fail> {
-    let text =
-        b"(module A.M (imports B) (exports f T) (hidden g) (data T ((a * N)) (K ((type b *) (co c N a b)) (fun a (fun b Int#)))) (newtype W ((a * R)) (T a) CoW) (family F ((a *)) (-> * *)) (axiom CoF ((a *)) (F a) ((T a) a)) (def f (fun T (fun T T)) x) (wrap g (forall (a *) (fun a a)) (lam ((type a *) (x a)) x)))";
-    let expected =
-        b"(interface 1 A.M (imports B) (exports f T) (hidden g)\n (data T ((a * N)) (K ((type b *) (co c N a b)) (fun a b Int#)))\n (newtype W ((a * R)) (T a) CoW)\n (family F ((a *)) (-> * *))\n (axiom CoF ((a *)) (F a) (T a a))\n (value f (fun T T T) (sig) none)\n (value g (forall (a *) (fun a a)) (sig) none))\n";
-    assert_eq!(rt;
-        interface(rt.alloc(), text)?.as_slice(),
-        expected.as_slice()
-    );
-    let text = b"(module M (imports) (exports) (hidden) (wrap g T x))";
-    let expected = b"(interface 1 M (imports) (exports)\n (value g T (sig) none))\n";
-    assert_eq!(rt;
-        interface(rt.alloc(), text)?.as_slice(),
-        expected.as_slice()
-    );
-    Ok(())
 }

@@ -1,12 +1,10 @@
-use Rattle.std.proofs.Common.{rules, ◌≡◌, ◌∙◌, Some, IfSome, map, slice_get}
-use Rattle.std.specs.List.{filter_map}
-use Rattle.fc_model.specs.Headers.{written_of}
+use Rattle.std.proofs.Common.{rules, ◌≡◌, Some, IfSome}
 use Rattle.fc_words.specs.Asking.{asked, asked_of, order_of, texts}
 use Rattle.fc_build.specs.Acceptance.{Accepted}
 use Rattle.fc_build.specs.Delivering.{steps_in}
 use Rattle.fc_build.specs.Judging.{IsReadySet, modules_in}
 use Rattle.fc_build.specs.Preparing.{files_in}
-use Rattle.fc_build.specs.Product.{step_of}
+use Rattle.fc_build.specs.SetSteps.{AreStepsOf}
 use Rattle.fc_build.proofs.Products.{steps_are}
 use Rattle.fc_build.proofs.prepare.prepare.Goals as goal
 
@@ -17,10 +15,10 @@ returns-in-Ok-steps_for-clause-answer g c =
     let asks : asked (texts c.args.words.now) ≡ Some request = search rules in
     let accepted : IfSome (g.F.Files.held c.args.files.now) (λ m. Accepted (files_in request) m (modules_in set)) = search rules in
     let ready : IsReadySet set = search rules in
-    let made : steps_in c.in-Ok-steps_for.steps.items ≡ map (step_of (order_of c.in-Ok.request.command)) (filter_map (slice_get (map written_of (modules_in set))) set.order) = search rules in
+    let made : AreStepsOf (order_of c.in-Ok.request.command) set (steps_in c.in-Ok-steps_for.steps.items) = search rules in
     record {
       request = request;
       set = modules_in set;
       input = record { asks = asks; accepted = accepted; ready = ready.ready };
-      steps = made ∙ steps_are (order_of c.in-Ok.request.command) set ready;
+      are = steps_are (order_of c.in-Ok.request.command) set (steps_in c.in-Ok-steps_for.steps.items) ready made;
     }

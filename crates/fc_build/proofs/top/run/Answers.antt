@@ -1,6 +1,7 @@
 use Rattle.std.proofs.Common.{◌≡◌, ◌∙◌, None, subst, sym, rules}
 use Rattle.fc_words.specs.Asking.{asked, texts}
 use Rattle.fc_words.proofs.PlainWords.{plain_is_asked}
+use Rattle.fc_build.specs.Delivering.{steps_in}
 use Rattle.fc_build.specs.Preparing.{IsProduct}
 use Rattle.fc_build.proofs.RunLemmas.{delivered_done, delivered_lint, delivered_memory, delivered_write_fault, product_has_no_fault, stop_complete}
 use Rattle.fc_build.proofs.top.run.Goals as goal
@@ -15,24 +16,24 @@ returns-in-Err-clause-complete g c a asks reads writes puts = stop_complete (tex
 
 pub returns-clause-done : goal.returns-clause-done
 returns-clause-done g c is =
-    delivered_done (texts c.args.words.now) _ _ _ c.as_slice.result.now (subst (IsProduct (texts c.args.words.now) _) (sym c.as_slice.ensures.value) c.in-Ok.ensures.answer) c.in-Ok.ensures.held _ _ _ c.in-Ok.ensures.writes _ _ _ _
+    delivered_done (texts c.args.words.now) _ _ _ (steps_in c.as_slice.result.now) (subst (λ ss. IsProduct (texts c.args.words.now) (g.F.Files.held c.args.files.now) (steps_in ss)) (sym c.as_slice.ensures.value) c.in-Ok.ensures.answer) c.in-Ok.ensures.held _ _ _ c.in-Ok.ensures.writes _ _ _ _
     c.deliver-delivery.result c.deliver-delivery.ensures.delivers c.deliver-delivery.ensures.nothing (sym c.tell_delivery.ensures.status ∙ is)
 
 pub returns-clause-write_fault : goal.returns-clause-write_fault
 returns-clause-write_fault g c is =
-    delivered_write_fault (texts c.args.words.now) _ _ _ c.as_slice.result.now (subst (IsProduct (texts c.args.words.now) _) (sym c.as_slice.ensures.value) c.in-Ok.ensures.answer) c.in-Ok.ensures.held _ _ _ c.in-Ok.ensures.writes _ _ _ _ _ _ _ _
+    delivered_write_fault (texts c.args.words.now) _ _ _ (steps_in c.as_slice.result.now) (subst (λ ss. IsProduct (texts c.args.words.now) (g.F.Files.held c.args.files.now) (steps_in ss)) (sym c.as_slice.ensures.value) c.in-Ok.ensures.answer) c.in-Ok.ensures.held _ _ _ c.in-Ok.ensures.writes _ _ _ _ _ _ _ _
     c.deliver-delivery.result c.deliver-delivery.ensures.delivers c.tell_delivery.ensures.line (sym c.tell_delivery.ensures.status ∙ is)
 
 pub returns-clause-memory : goal.returns-clause-memory
 returns-clause-memory g c is =
-    delivered_memory (texts c.args.words.now) _ _ _ c.as_slice.result.now (subst (IsProduct (texts c.args.words.now) _) (sym c.as_slice.ensures.value) c.in-Ok.ensures.answer) c.in-Ok.ensures.held _ _ _ c.in-Ok.ensures.writes _ _ _ _ _ _ _ _
+    delivered_memory (texts c.args.words.now) _ _ _ (steps_in c.as_slice.result.now) (subst (λ ss. IsProduct (texts c.args.words.now) (g.F.Files.held c.args.files.now) (steps_in ss)) (sym c.as_slice.ensures.value) c.in-Ok.ensures.answer) c.in-Ok.ensures.held _ _ _ c.in-Ok.ensures.writes _ _ _ _ _ _ _ _
     c.deliver-delivery.result c.deliver-delivery.ensures.delivers c.tell_delivery.ensures.line (sym c.tell_delivery.ensures.status ∙ is)
 
 pub returns-clause-lint_writes_nothing : goal.returns-clause-lint_writes_nothing
 returns-clause-lint_writes_nothing g c a asks lint =
-    delivered_lint (texts c.args.words.now) _ _ _ c.as_slice.result.now (subst (IsProduct (texts c.args.words.now) _) (sym c.as_slice.ensures.value) c.in-Ok.ensures.answer) c.in-Ok.ensures.held _ _ _ c.in-Ok.ensures.writes
+    delivered_lint (texts c.args.words.now) _ _ _ (steps_in c.as_slice.result.now) (subst (λ ss. IsProduct (texts c.args.words.now) (g.F.Files.held c.args.files.now) (steps_in ss)) (sym c.as_slice.ensures.value) c.in-Ok.ensures.answer) c.in-Ok.ensures.held _ _ _ c.in-Ok.ensures.writes
     (g.O.Sink.taken c.args.out.now) (g.O.Sink.taken c.deliver-delivery.new.out) (g.O.Sink.faults c.args.out.now) (g.O.Sink.faults c.deliver-delivery.new.out)
     c.deliver-delivery.ensures.nothing a asks lint
 
 pub returns-clause-complete_refused : goal.returns-clause-complete_refused
-returns-clause-complete_refused g c a asks reads = product_has_no_fault (texts c.args.words.now) (g.F.Files.held c.args.files.now) c.in-Ok.steps.items _ c.in-Ok.ensures.answer a asks
+returns-clause-complete_refused g c a asks reads = product_has_no_fault (texts c.args.words.now) (g.F.Files.held c.args.files.now) (steps_in c.in-Ok.steps.items) _ c.in-Ok.ensures.answer a asks

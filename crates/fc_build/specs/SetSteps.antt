@@ -1,0 +1,26 @@
+-- What is done for an accepted set, by its modules, their order and their nameless forms.
+use Rattle.std.specs.Prelude.{◌≡◌, ℕ, Bool, List, Vec, map, slice_get}
+use Rattle.std.specs.declared.alloc.Global.{Global}
+use Rattle.std.specs.List.{filter_map}
+use Rattle.fc_model.specs.Headers.{written_of}
+use Rattle.fc_model.specs.NamelessView.{nmodules_of}
+use Rattle.fc_words.specs.declared.Tuning.{Tuning}
+use Rattle.fc_words.specs.Asking.{Order, Building, Linting}
+use Rattle.fc_build.specs.Judging.{modules_in}
+use Rattle.fc_build.specs.Product.{AreAllRecursive, Step, built_steps, linted_step}
+use Rattle.fc_build.specs.declared.judge.Set.{Set}
+
+-- what lists of truth values say, each of the declarations of a module
+abbrev pub marks_in : List (Vec Bool Global) → List (List Bool)
+marks_in = map (λ marks. marks.items)
+
+-- the steps of a build of its modules, each under the header that is written alone
+pub record AreBuiltOf (tuning : Tuning) (prefix : List ℕ) (set : Set) (steps : List Step) : Type 0 where
+  pub recursive : List (List Bool)
+  pub reach : AreAllRecursive (nmodules_of set.forms.items) recursive
+  pub are : steps ≡ built_steps tuning prefix recursive (filter_map (slice_get (map written_of (modules_in set))) set.order)
+
+-- the steps that an order asks for
+abbrev pub AreStepsOf : Order → Set → List Step → Type 0
+AreStepsOf (Building tuning prefix) set steps = AreBuiltOf tuning prefix set steps
+AreStepsOf Linting set steps = steps ≡ map linted_step (filter_map (slice_get (modules_in set)) set.order)

@@ -1,0 +1,4 @@
+pub mod Lists
+pub mod Others
+pub mod Signatures
+pub mod Starts
