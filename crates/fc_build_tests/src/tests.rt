@@ -644,7 +644,11 @@ fn right_sides_are_told_up_to_the_bound(rt: HostRuntime) -> Result<(), Fail> {
         b"(module M (imports) (exports) (data T () (K ())) (def f T g) (def g T f) (def h (fun T T) (lam ((f T)) f)) (wrap w T (app h w)))";
     let front =
         "(interface 1 M (imports) (exports) (hidden T K f g h w)\n (data T () (K ()))\n (value f T (sig) none)\n (value g T (sig) none)\n ";
-    let cases: [(&str, &str); 4] = [
+    let cases: [(&str, &str); 5] = [
+        (
+            "0",
+            "(value h (fun T T) (sig) none)\n (value w T (sig) none))\n",
+        ),
         (
             "1",
             "(value h (fun T T) (sig) none)\n (value w T (sig) none))\n",

@@ -23,11 +23,6 @@ abbrev pub decls_told : ℕ → List Bool → ℕ → List Decl → List Decl
 decls_told grow marks k [] = []
 decls_told grow marks k (d ∷ ds) = decl_told (is_told grow (is_marked marks k) d) d ∷ decls_told grow marks (k + 1) ds
 
-abbrev pub is_definition : Decl → Bool
-is_definition (DDef x t e) = true
-is_definition (DWrap x t e) = true
-is_definition d = false
-
 -- one more truth value, if it is that of a definition
 abbrev pub if_definition : Decl → Bool → List Bool → List Bool
 if_definition (DDef x t e) told rest = told ∷ rest

@@ -20,8 +20,8 @@ use fc_syntax::Memory;
 use items::put_items;
 use std::alloc::Global;
 
-/// The text of an interface, in the layout of a module's text. It reads back to the interface where the interface is formed. Fails only
-/// where memory runs out.
+/// The text of an interface, in the layout of a module's text. It reads back to the interface where the interface is formed. Of one with too few
+/// signatures or truth values, the items end in front of the definition that has none. Fails only where memory runs out.
 pub fn print_interface(alloc: Global, i: &Interface) -> Result<Vec<u8>, Memory>
     ensures text { IfOk result (λ v. v.items ≡ interface_text (as_interface i.now)) }
     ensures reads_back { IfOk result (λ v. IsInterfaceFormed (as_interface i.now) → SpellsInterface v.items (as_interface i.now)) }

@@ -100,9 +100,12 @@ fn copy_sigs(alloc: Global, sigs: &[Sig]) -> Result<Seq<Sig>, Memory>
     Ok(all)
 }
 
-/// The interface of a module with a signature for each of its definitions. `recursive` has for each declaration whether it is a
-/// definition that reaches itself, as `fc_reaching::recursive` answers it. The right side is told of each `wrap`, and of each `def` that
-/// does not reach itself, if it has at most `grow` nodes. Fails only where memory runs out.
+/// The interface of a module with a signature for each of its definitions (the interface files of GHC). The right side is told of each
+/// `wrap`, and of each `def` that does not reach itself, if it has at most `grow` nodes. Fails only where memory runs out.
+///
+/// `recursive` has for each declaration whether it is a definition that reaches itself, as `fc_reaching::recursive` answers it; a declaration
+/// behind its end counts as one that does not. The signatures are handed on as they are: where there is not one for each definition, what comes
+/// of it is not formed. Condition: `grow` is less than 2^64 - 1, so that nodes can be counted to one more.
 pub fn interface(
     alloc: Global,
     m: &Module,

@@ -11,7 +11,7 @@ use fc_lattice::Sig;
 use fc_printer::{put_expr, put_type, put_word};
 use fc_syntax::{Decl, Expr, Memory, Text, Ty};
 
-// The right side of a definition behind the word of its declaration.
+/// The right side of a definition behind the word of its declaration.
 #[tactic(auto, using(fc_printer::proofs::SpacedForms::next_expr_rules))]
 fn put_right(opening: &[u8], e: &Expr, to: &mut Vec<u8>) -> Result<(), Memory>
     ensures { OnOk result (to.new.items ≡ to.old.items ++ (opening.now ++ (spaced_text (expr_pieces Alone (expr_of e.now) NoPieces) ++ codes ")"))) }
@@ -23,7 +23,7 @@ fn put_right(opening: &[u8], e: &Expr, to: &mut Vec<u8>) -> Result<(), Memory>
     Ok(())
 }
 
-// What is told of the right side of a declaration.
+/// What is told of the right side of a declaration.
 fn put_unfolding(d: &Decl, told: bool, to: &mut Vec<u8>) -> Result<(), Memory>
     ensures { OnOk result (to.new.items ≡ to.old.items ++ first_text (unfolding_pieces told (decl_of d.now) NoPieces)) }
 {
@@ -37,7 +37,7 @@ fn put_unfolding(d: &Decl, told: bool, to: &mut Vec<u8>) -> Result<(), Memory>
     }
 }
 
-// A name and its type, behind the word of a value.
+/// A name and its type, behind the word of a value.
 #[tactic(auto, using(fc_printer::proofs::Spaced::next_type_rules))]
 fn put_typed(x: &Text, t: &Ty, to: &mut Vec<u8>) -> Result<(), Memory>
     ensures { OnOk result (to.new.items ≡ to.old.items ++ (codes "(value " ++ (x.now ++ spaced_text (type_pieces Alone (ty_of t.now) NoPieces)))) }
@@ -48,7 +48,7 @@ fn put_typed(x: &Text, t: &Ty, to: &mut Vec<u8>) -> Result<(), Memory>
     put_type(t, to)
 }
 
-// A signature and what is told of the right side.
+/// A signature and what is told of the right side.
 #[tactic(auto, using(crate::proofs::Spaced::told_rules))]
 fn put_told(s: &Sig, told: bool, d: &Decl, to: &mut Vec<u8>) -> Result<(), Memory>
     ensures { OnOk result (to.new.items ≡ to.old.items ++ spaced_text (sig_pieces (sig_of s.now) (unfolding_pieces told (decl_of d.now) NoPieces))) }
@@ -59,7 +59,7 @@ fn put_told(s: &Sig, told: bool, d: &Decl, to: &mut Vec<u8>) -> Result<(), Memor
     put_unfolding(d, told, to)
 }
 
-// A definition as a value.
+/// A definition as a value.
 #[tactic(auto, using(crate::proofs::Spaced::value_rules))]
 pub(crate) fn put_value(
     x: &Text,

@@ -4,6 +4,7 @@
 
 use fc_files::{Files, HostFiles, HostSink, PutAnswer, ReadAnswer, Sink};
 use fc_iface::{print_interface, read_interface};
+use fc_lattice::Interface;
 use fc_syntax::{Fault, Limits, Memory, Place, Refusal};
 use itoa::Buffer;
 use std::alloc::Global;
@@ -32,13 +33,13 @@ fn refusal(alloc: Global, fault: &Fault) -> Result<Vec<u8>, Memory> {
     Ok(line)
 }
 
-/// What is said of the bytes of a file.
-fn said_of(alloc: Global, file: &str, bytes: &[u8]) -> Result<Vec<u8>, Memory> {
-    let limits = Limits::standard();
-    if bytes.len() > limits.file_bytes as usize {
-        return Ok(Vec::from_slice(alloc, b"too long\n")?);
-    }
-    let interface = match read_interface(alloc, file, bytes, limits.size) {
+/// What is said of a file, by its bytes and what was read of them.
+fn said_of(
+    alloc: Global,
+    bytes: &[u8],
+    read: Result<Interface, Refusal>,
+) -> Result<Vec<u8>, Memory> {
+    let interface = match read {
         Ok(interface) => interface,
         Err(Refusal::Fault(fault)) => return refusal(alloc, &fault),
         Err(Refusal::Memory) => return Err(Memory),
@@ -56,8 +57,13 @@ fn said_of(alloc: Global, file: &str, bytes: &[u8]) -> Result<Vec<u8>, Memory> {
 fn line_of<F: Files>(alloc: Global, files: &mut F, file: &str) -> Result<Vec<u8>, Memory> {
     let limits = Limits::standard();
     match files.read(alloc, file, limits.file_bytes as u64) {
-        ReadAnswer::Ok(bytes) => said_of(alloc, file, &bytes),
-        _ => Ok(Vec::from_slice(alloc, b"unread\n")?),
+        ReadAnswer::Ok(bytes) => {
+            let read = read_interface(alloc, file, &bytes, limits.size);
+            said_of(alloc, &bytes, read)
+        }
+        ReadAnswer::TooLong => Ok(Vec::from_slice(alloc, b"too long\n")?),
+        ReadAnswer::Absent | ReadAnswer::Failed => Ok(Vec::from_slice(alloc, b"unread\n")?),
+        ReadAnswer::Memory => Err(Memory),
     }
 }
 

@@ -1,7 +1,7 @@
 //! What callers of a function know of how it uses its arguments.
 use fc_syntax::{Name, Seq};
 
-/// How a value is used (the demands of demand analysis, Sergey, Vytiniotis, Jones and Breitner, *Modular, higher-order cardinality analysis*).
+/// How a value is used (the demands of demand analysis: Sergey, Vytiniotis, Peyton Jones, *Modular, higher-order cardinality analysis in theory and practice*).
 #[derive(Debug)]
 pub enum Demand {
     /// `B`: whatever uses it diverges.

@@ -134,3 +134,35 @@ fn reads_signatures(rt: HostRuntime) -> Result<(), Fail> {
     assert!(rt; z.args.is_empty() && z.diverges);
     Ok(())
 }
+
+#[test]
+fn bad_bytes_tokens_and_literals_come_first(rt: HostRuntime) -> Result<(), Fail> {
+    let alloc = rt.alloc();
+    let rows: [(&[u8], FaultKind, u32); 4] = [
+        (
+            b"(interface 1 M (imports) (exports) (value x T (sig) none\x80",
+            FaultKind::BadByte,
+            56,
+        ),
+        (
+            b"(interface 1 M (imports) (exports) (value x T (sig 1x) none))",
+            FaultKind::BadToken,
+            51,
+        ),
+        (
+            b"(interface 1 M (imports) (exports) (value x T (sig)) 'x)",
+            FaultKind::BadToken,
+            53,
+        ),
+        (
+            b"(interface 1 M (imports) (exports) (value x Int# (sig) (def 9223372036854775808#)))",
+            FaultKind::LiteralRange,
+            60,
+        ),
+    ];
+    for (number, row) in rows.iter().enumerate() {
+        let (text, kind, at) = row;
+        assert_eq!(&rt; fault(alloc, text)?, Some((*kind, *at)), "row {number}");
+    }
+    Ok(())
+}

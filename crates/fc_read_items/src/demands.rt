@@ -42,7 +42,7 @@ fn product(constructor: Name, fields: Seq<Demand>) -> Demand
 /// Reads a demand. Stops at the first token that cannot go on.
 #[cycle(demands)]
 #[inline(never)]
-pub fn read_demand(alloc: Global, tokens: &mut Tokens<'_>) -> Result<Demand, Stop>
+fn read_demand(alloc: Global, tokens: &mut Tokens<'_>) -> Result<Demand, Stop>
     ensures read { IfOk result (λ x. Takes ADemand (ahead tokens.old) (demand_of x) (ahead tokens.new)) }
     ensures shorter { IfOk result (λ _. length (ahead tokens.new) < length (ahead tokens.old)) }
     ensures fault { IfErr result (StopsAt ADemand (ahead tokens.old)) }
@@ -123,7 +123,7 @@ fn read_signature_end(alloc: Global, tokens: &mut Tokens<'_>) -> Result<Sig, Sto
 }
 
 /// Reads a signature. Stops at the first token that cannot go on.
-pub fn read_signature(alloc: Global, tokens: &mut Tokens<'_>) -> Result<Sig, Stop>
+pub(crate) fn read_signature(alloc: Global, tokens: &mut Tokens<'_>) -> Result<Sig, Stop>
     ensures read { IfOk result (λ x. Takes ASignature (ahead tokens.old) (sig_of x) (ahead tokens.new)) }
     ensures shorter { IfOk result (λ _. length (ahead tokens.new) < length (ahead tokens.old)) }
     ensures fault { IfErr result (StopsAt ASignature (ahead tokens.old)) }

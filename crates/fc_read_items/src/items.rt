@@ -36,7 +36,7 @@ pub enum Item {
 }
 
 /// Reads what is told of the right side of a definition. Stops at the first token that cannot go on.
-pub fn read_unfolding(alloc: Global, tokens: &mut Tokens<'_>) -> Result<Unfolding, Stop>
+fn read_unfolding(alloc: Global, tokens: &mut Tokens<'_>) -> Result<Unfolding, Stop>
     ensures read { IfOk result (λ x. Takes AnUnfolding (ahead tokens.old) (unfolding_of x) (ahead tokens.new)) }
     ensures shorter { IfOk result (λ _. length (ahead tokens.new) < length (ahead tokens.old)) }
     ensures fault { IfErr result (StopsAt AnUnfolding (ahead tokens.old)) }
@@ -86,7 +86,6 @@ fn read_value(alloc: Global, tokens: &mut Tokens<'_>) -> Result<Item, Stop>
 }
 
 /// An item behind its opening bracket.
-
 fn read_item_form(alloc: Global, tokens: &mut Tokens<'_>) -> Result<Item, Stop>
     ensures read { IfOk result (λ x. Takes AnItemForm (ahead tokens.old) (item_of x) (ahead tokens.new)) }
     ensures shorter { IfOk result (λ _. length (ahead tokens.new) < length (ahead tokens.old)) }

@@ -5,6 +5,5 @@ mod demands;
 mod items;
 mod words;
 
-pub use demands::{read_demand, read_signature};
-pub use items::{Item, Unfolding, read_item, read_unfolding};
+pub use items::{Item, Unfolding, read_item};
 pub use words::{read_this, read_this_number};

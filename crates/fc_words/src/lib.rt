@@ -17,7 +17,7 @@ pub struct Tuning {
     pub ticks: u64,
     /// What a growing step may add in any case, in nodes, up to 10,000; at most `grow`.
     pub small: u64,
-    /// The most that a growing step may add, in nodes, and so the most nodes of a right side that an interface tells; up to 10,000.
+    /// The most nodes of a right side that an interface tells, and the most nodes that a growing step may add; up to 10,000.
     pub grow: u64,
 }
 
