@@ -1,5 +1,5 @@
 #!/usr/bin/env python3
-"""Want of memory, one allocation at a time: builds each example with a malloc whose Nth call fails, for N = 1, 2, .. as long as a call
+"""Out of memory, one allocation at a time: builds each example with a malloc whose Nth call fails, for N = 1, 2, .. as long as a call
 has that number. The answer must be 5, with a prefix of the work, or the same as with ample memory. Needs a C compiler.
 
     bench/memory.py [EXAMPLE ..]        names such as Lists; all of examples/ where none is given
@@ -63,7 +63,7 @@ def try_each(shim, example):
             print(f"{example}: allocation {at}: status {ran[0]}, {ran[1]}, {ran[2]}, {list(ran[3])}")
         at += 1
         ran, failed = build(shim, example, at)
-    print(f"{example}: {at - 1} allocations, {wanting} times want of memory, {wrong} wrong")
+    print(f"{example}: {at - 1} allocations, {wanting} times out of memory, {wrong} wrong")
     return wrong
 
 
