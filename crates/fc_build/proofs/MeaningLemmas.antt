@@ -8,7 +8,9 @@ use Rattle.fc_syntax.specs.Tree.{Module, ModuleOf}
 use Rattle.fc_model.specs.Canonical.{canonical}
 use Rattle.fc_model.specs.Formed.{IsFormed}
 use Rattle.fc_model.specs.Headers.{decls_in, exports_of, name_of, set_written, written_of}
+use Rattle.fc_model.specs.InterfaceTexts.{interface_text}
 use Rattle.fc_model.specs.Linting.{SetLints, nameless_forms}
+use Rattle.fc_model.specs.Nameless.{NModule}
 use Rattle.fc_model.specs.Texts.{Spells}
 use Rattle.fc_model.proofs.Sameness.{bytes_eq_refl}
 use Rattle.fc_model.proofs.SetWritten.{all_written_alone, set_written_lints}
@@ -18,7 +20,7 @@ use Rattle.fc_printer.proofs.ReadBack.{canonical_spells}
 use Rattle.fc_iface.proofs.ReadInterface.{interface_spells}
 use Rattle.fc_words.specs.declared.Tuning.{Tuning}
 use Rattle.fc_build.specs.Meaning.{AllSpell, KeepsMeaning, none_spell, one_spells}
-use Rattle.fc_build.specs.Product.{Output, all_files, behind_first, built_steps, core_name, interface_name, interface_written, put_all}
+use Rattle.fc_build.specs.Product.{AreBuilt, IsBuilt, Step, all_files, core_name, interface_name, interface_written, put_all}
 use Rattle.fc_build.specs.Run.{AreFaithful, InterfaceSpells}
 use Rattle.fc_build.proofs.InterfacesWritten as interfaces
 use Rattle.fc_build.proofs.Ordered.{AreDistinctWords}
@@ -101,34 +103,47 @@ core_apart prefix m n apart =
     false_differ (name_of m) (name_of n) apart (sym (append_cancel_right (name_of n) (name_of m) (codes ".opt.fc") ends)))
 
 module _ (tuning : Tuning) (prefix : List ℕ) where
-  abbrev files_of : List (List Bool) → List Module → List Output
-  files_of recursive ms = all_files (built_steps tuning prefix recursive ms)
+  -- the files of the first step and of those behind it
+  first_files : (form : NModule) (m : Module) (s : Step) (ss : List Step) (old : FileMap) (built : IsBuilt tuning prefix form m s)
+      → put_all (all_files (s ∷ ss)) old
+      ≡ put_all (all_files ss) (put (interface_name prefix m) (interface_text (interface_written tuning.grow built.recursive m)) (put (core_name prefix m) (canonical m) old))
+  first_files form m s ss old built = ap (λ (t : Step). put_all (t.files ++ all_files ss) old) built.is
 
   -- files of modules of other names leave a core as it is
-  core_kept : (recursive : List (List Bool)) (m : Module) (ms : List Module) (old : FileMap) → All (λ v. bytes_eq (name_of m) v ≡ false) (map name_of ms)
-      → put_all (files_of recursive ms) old (core_name prefix m) ≡ old (core_name prefix m)
-  core_kept recursive m [] old apart = refl
-  core_kept recursive m (n ∷ ms) old apart =
-      core_kept (behind_first recursive) m ms _ (All-tail (λ v. bytes_eq (name_of m) v ≡ false) (name_of n) (map name_of ms) apart)
+  core_kept : (forms : List NModule) (m : Module) (ms : List Module) (steps : List Step) (old : FileMap) → AreBuilt tuning prefix forms ms steps
+      → All (λ v. bytes_eq (name_of m) v ≡ false) (map name_of ms) → put_all (all_files steps) old (core_name prefix m) ≡ old (core_name prefix m)
+  core_kept [] m [] [] old built apart = refl
+  core_kept [] m [] (s ∷ ss) old built apart = absurd built
+  core_kept [] m (n ∷ ms) steps old built apart = absurd built
+  core_kept (form ∷ forms) m [] steps old built apart = absurd built
+  core_kept (form ∷ forms) m (n ∷ ms) [] old built apart = absurd built
+  core_kept (form ∷ forms) m (n ∷ ms) (s ∷ ss) old built apart =
+      ap (λ (f : FileMap). f (core_name prefix m)) (first_files form n s ss old built.0)
+      ∙ core_kept forms m ms ss _ built.1 (All-tail (λ v. bytes_eq (name_of m) v ≡ false) (name_of n) (map name_of ms) apart)
       ∙ rw (interface_apart prefix n m, core_apart prefix m n (All-head (λ v. bytes_eq (name_of m) v ≡ false) (name_of n) (map name_of ms) apart)) refl
 
   core_is_put : (m : Module) (text : List ℕ) (old : FileMap) → put (interface_name prefix m) text (put (core_name prefix m) (canonical m) old) (core_name prefix m) ≡ Some (canonical m)
   core_is_put m text old = rw (interface_apart prefix m m, bytes_eq_refl (core_name prefix m)) refl
 
   -- each core stands in the end
-  cores_stand : (recursive : List (List Bool)) (ms : List Module) → AreDistinctWords (map name_of ms) → All (λ m. Spells (canonical m) m) ms → (old new : FileMap)
-      → new ≡ put_all (files_of recursive ms) old → AllSpell (map (λ m. new (core_name prefix m)) ms) ms
-  cores_stand recursive [] distinct spell old new e = none_spell
-  cores_stand recursive (m ∷ ms) distinct spell old new e =
-      let held : new (core_name prefix m) ≡ Some (canonical m) = ap (λ (f : FileMap). f (core_name prefix m)) e ∙ core_kept (behind_first recursive) m ms _ distinct.0 ∙ core_is_put m _ old in
+  cores_stand : (forms : List NModule) (ms : List Module) (steps : List Step) → AreBuilt tuning prefix forms ms steps → AreDistinctWords (map name_of ms) → All (λ m. Spells (canonical m) m) ms
+      → (old new : FileMap) → new ≡ put_all (all_files steps) old → AllSpell (map (λ m. new (core_name prefix m)) ms) ms
+  cores_stand [] [] [] built distinct spell old new e = none_spell
+  cores_stand [] [] (s ∷ ss) built distinct spell old new e = absurd built
+  cores_stand [] (m ∷ ms) steps built distinct spell old new e = absurd built
+  cores_stand (form ∷ forms) [] steps built distinct spell old new e = absurd built
+  cores_stand (form ∷ forms) (m ∷ ms) [] built distinct spell old new e = absurd built
+  cores_stand (form ∷ forms) (m ∷ ms) (s ∷ ss) built distinct spell old new e =
+      let put_first = e ∙ first_files form m s ss old built.0 in
+      let held : new (core_name prefix m) ≡ Some (canonical m) = ap (λ (f : FileMap). f (core_name prefix m)) put_first ∙ core_kept forms m ms ss _ built.1 distinct.0 ∙ core_is_put m _ old in
       subst (λ (entry : Option (List ℕ)). AllSpell (entry ∷ map (λ n. new (core_name prefix n)) ms) (m ∷ ms)) (sym held)
-      (one_spells (All-head (λ k. Spells (canonical k) k) m ms spell) (cores_stand (behind_first recursive) ms distinct.1 (All-tail (λ k. Spells (canonical k) k) m ms spell) _ new e))
+      (one_spells (All-head (λ k. Spells (canonical k) k) m ms spell) (cores_stand forms ms ss built.1 distinct.1 (All-tail (λ k. Spells (canonical k) k) m ms spell) _ new put_first))
 
   -- what stands at the names of the cores means what was read
-  pub keeps_meaning : (ms : List Module) → SetLints ms → AreFaithful ms → AreDistinctWords (map name_of ms) → (recursive : List (List Bool)) (old new : FileMap)
-      → new ≡ put_all (files_of recursive (set_written ms)) old → KeepsMeaning ms (map (λ m. new (core_name prefix m)) (set_written ms))
-  keeps_meaning ms lint faithful distinct recursive old new e = record {
+  pub keeps_meaning : (ms : List Module) (steps : List Step) → SetLints ms → AreFaithful ms → AreDistinctWords (map name_of ms) → AreBuilt tuning prefix (nameless_forms ms) (set_written ms) steps
+      → (old new : FileMap) → new ≡ put_all (all_files steps) old → KeepsMeaning ms (map (λ m. new (core_name prefix m)) (set_written ms))
+  keeps_meaning ms steps lint faithful distinct built old new e = record {
     written = set_written ms;
-    spell = cores_stand recursive (set_written ms) (subst AreDistinctWords (sym faithful.names) distinct) faithful.spell old new e;
+    spell = cores_stand (nameless_forms ms) (set_written ms) steps built (subst AreDistinctWords (sym faithful.names) distinct) faithful.spell old new e;
     same = λ t main. written_means_the_same ms lint t main;
   }

@@ -17,7 +17,7 @@ use Rattle.fc_build.specs.Judging.{IsReady}
 use Rattle.fc_build.specs.Meaning.{KeepsMeaning}
 use Rattle.fc_build.specs.Delivering.{Delivers, IsSameDevice}
 use Rattle.fc_build.specs.Preparing.{IsAccepted, IsProduct, Stops, files_in}
-use Rattle.fc_build.specs.Product.{AreBuilt, AreSteps, Step, all_files, core_name, linted_step, put_all}
+use Rattle.fc_build.specs.Product.{AreSteps, Step, all_files, core_name, linted_step, put_all}
 use Rattle.fc_build.specs.Ending.{TellsDelivery, delivery_status, stop_status}
 use Rattle.fc_build.specs.Run.{AreFaithful, IsDone, IsMemoryEnd, IsWriteFault, Keeps, at_a_file, at_file, at_out}
 use Rattle.fc_build.specs.declared.deliver.Delivery.{Delivery}
@@ -75,12 +75,12 @@ stop_complete words (Some m) reads reads' stop.Memory status is why a asks stays
 
 -- what stands at the names of the cores means what was read
 means : (tuning : Tuning) (prefix : List ℕ) (set : List Module) (steps : List Step) (held held' : Option FileMap) → IsReady set → AreFaithful (build_order set)
-    → AreBuilt tuning prefix (build_order set) steps → Told held held' (λ m m'. m' ≡ put_all (all_files steps) m)
+    → AreSteps (Building tuning prefix) (build_order set) steps → Told held held' (λ m m'. m' ≡ put_all (all_files steps) m)
     → Told held held' (λ m m'. KeepsMeaning (build_order set) (map (λ w. m' (core_name prefix w)) (set_written (build_order set))))
 means tuning prefix set steps None held' ready is built told = tt
 means tuning prefix set steps (Some m) None ready is built told = told
 means tuning prefix set steps (Some m) (Some m') ready is built told =
-    keeps_meaning tuning prefix (build_order set) ready.lints is (built_names_differ set) built.recursive m m' (told ∙ ap (λ ss. put_all (all_files ss) m) built.are)
+    keeps_meaning tuning prefix (build_order set) steps ready.lints is (built_names_differ set) built m m' told
 
 -- Lint has no files to write
 lint_files : (ms : List Module) → all_files (map linted_step ms) ≡ []

@@ -53,9 +53,9 @@ unknown_sigs (d ∷ ds) = unknown_sigs ds
 abbrev pub interface_written : ℕ → List Bool → Module → Interface
 interface_written grow recursive m = interface_of grow recursive m (unknown_sigs (decls_in m))
 
--- the text of that
-abbrev pub interface_output : ℕ → List Bool → List ℕ → Module → Output
-interface_output grow recursive prefix m = record { name = interface_name prefix m; text = interface_text (interface_written grow recursive m) }
+-- its text
+abbrev pub interface_output : List ℕ → Module → Interface → Output
+interface_output prefix m i = record { name = interface_name prefix m; text = interface_text i }
 
 -- THE STEPS OF A SET
 
@@ -64,10 +64,10 @@ pub record Step : Type 0 where
   pub files : List Output
   pub line : List ℕ
 
--- a build writes both files of a module under the header that is written
-abbrev pub built_step : Tuning → List ℕ → List Bool → Module → Step
-built_step tuning prefix recursive m = record {
-  files = core_output prefix m ∷ interface_output tuning.grow recursive prefix m ∷ [];
+-- a build writes both files of a module under the header that is written, of which this is the interface
+abbrev pub built_step : List ℕ → Module → Interface → Step
+built_step prefix m i = record {
+  files = core_output prefix m ∷ interface_output prefix m i ∷ [];
   line = codes "built " ++ (name_of m ++ 10 ∷ []);
 }
 
@@ -75,37 +75,23 @@ built_step tuning prefix recursive m = record {
 abbrev pub linted_step : Module → Step
 linted_step m = record { files = []; line = codes "ok " ++ (name_of m ++ 10 ∷ []) }
 
--- what is said of the first module, and of those behind it
-abbrev pub first_of : List (List Bool) → List Bool
-first_of [] = []
-first_of (r ∷ rs) = r
+-- This is the step of a build for a module that has this nameless form: truth values say which of its declarations are definitions that reach
+-- themselves, and the interface tells of the others, and of each `wrap`, what has at most so many nodes.
+pub record IsBuilt (tuning : Tuning) (prefix : List ℕ) (form : NModule) (m : Module) (s : Step) : Type 0 where
+  pub recursive : List Bool
+  pub reach : AreRecursive form recursive
+  pub is : s ≡ built_step prefix m (interface_written tuning.grow recursive m)
 
-abbrev pub behind_first : List (List Bool) → List (List Bool)
-behind_first [] = []
-behind_first (r ∷ rs) = rs
+-- the steps of a build of modules, one after the other, each with its nameless form
+abbrev pub AreBuilt : Tuning → List ℕ → List NModule → List Module → List Step → Type 0
+AreBuilt tuning prefix [] [] [] = ⊤
+AreBuilt tuning prefix (form ∷ forms) (m ∷ ms) (s ∷ steps) = IsBuilt tuning prefix form m s × AreBuilt tuning prefix forms ms steps
+AreBuilt tuning prefix forms ms steps = ⊥
 
--- what a build does for modules, where for each it is said which of its declarations reach themselves
-abbrev pub built_steps : Tuning → List ℕ → List (List Bool) → List Module → List Step
-built_steps tuning prefix recursive [] = []
-built_steps tuning prefix recursive (m ∷ ms) = built_step tuning prefix (first_of recursive) m ∷ built_steps tuning prefix (behind_first recursive) ms
-
--- for each module it is said which of its declarations are definitions that reach themselves
-abbrev pub AreAllRecursive : List NModule → List (List Bool) → Type 0
-AreAllRecursive [] [] = ⊤
-AreAllRecursive [] (r ∷ rs) = ⊥
-AreAllRecursive (m ∷ ms) [] = ⊥
-AreAllRecursive (m ∷ ms) (r ∷ rs) = AreRecursive m r × AreAllRecursive ms rs
-
--- These are the steps of a build of modules in the order in which they are built. A header that is written changes no declaration, so which reach
--- themselves is asked of the modules as they were read.
-pub record AreBuilt (tuning : Tuning) (prefix : List ℕ) (ms : List Module) (steps : List Step) : Type 0 where
-  pub recursive : List (List Bool)
-  pub reach : AreAllRecursive (nameless_forms ms) recursive
-  pub are : steps ≡ built_steps tuning prefix recursive (set_written ms)
-
--- these are the steps that an order asks for, of modules in the order in which they are built
+-- These are the steps that an order asks for, of modules in the order in which they are built. A header that is written changes no declaration, so which
+-- reach themselves is asked of the modules as they were read.
 abbrev pub AreSteps : Order → List Module → List Step → Type 0
-AreSteps (Building tuning prefix) ms steps = AreBuilt tuning prefix ms steps
+AreSteps (Building tuning prefix) ms steps = AreBuilt tuning prefix (nameless_forms ms) (set_written ms) steps
 AreSteps Linting ms steps = steps ≡ map linted_step (set_written ms)
 
 -- the files of steps, one after the other, and their lines

@@ -11,8 +11,9 @@ ghost use Rattle.fc_build.specs.Delivering.{IsSameDevice, WritesAll, step_in, st
 ghost use Rattle.fc_plan.specs.Modules.{behind};
 ghost use Rattle.fc_build.specs.Judging.{modules_in};
 ghost use Rattle.fc_build.specs.Product as spec;
-ghost use Rattle.fc_build.specs.Product.{AreAllRecursive, built_steps, core_output, interface_output, output_of, outputs};
-ghost use Rattle.fc_build.specs.SetSteps.{AreBuiltOf, AreStepsOf, marks_in};
+ghost use Rattle.fc_build.specs.Product.{core_output, interface_output, interface_written, output_of, outputs};
+ghost use Rattle.fc_build.specs.SetSteps as marks;
+ghost use Rattle.fc_build.specs.SetSteps.{AreAllRecursive, AreBuiltOf, AreStepsOf, built_steps, marks_in};
 
 use crate::judge::Set;
 use fc_files::{Files, WriteAnswer};
@@ -98,7 +99,7 @@ fn interface_file(
     m: &Module,
 ) -> Result<File, Memory>
     requires { grow ≤ 10000 }
-    ensures { IfOk result (λ f. output_of f ≡ interface_output grow recursive.now prefix.now (module_of m.now)) }
+    ensures { IfOk result (λ f. output_of f ≡ interface_output prefix.now (module_of m.now) (interface_written grow recursive.now (module_of m.now))) }
 {
     let name = file_name(alloc, prefix, m.name.as_str(), ".fci")?;
     let sigs = unknown_sigs(alloc, m.decls.as_slice())?;
@@ -116,7 +117,7 @@ fn files_of(
     m: &Module,
 ) -> Result<Vec<File>, Memory>
     requires { grow ≤ 10000 }
-    ensures { IfOk result (λ files. outputs files.items ≡ core_output prefix.now (module_of m.now) ∷ interface_output grow recursive.now prefix.now (module_of m.now) ∷ []) }
+    ensures { IfOk result (λ files. outputs files.items ≡ core_output prefix.now (module_of m.now) ∷ interface_output prefix.now (module_of m.now) (interface_written grow recursive.now (module_of m.now)) ∷ []) }
 {
     let core = core_file(alloc, prefix, m)?;
     let interface = interface_file(alloc, grow, recursive, prefix, m)?;
@@ -142,7 +143,7 @@ fn built_step(
     m: &Module,
 ) -> Result<Step, Memory>
     requires { tuning.grow ≤ 10000 }
-    ensures { IfOk result (λ s. step_in s ≡ spec.built_step tuning prefix.now recursive.now (module_of m.now)) }
+    ensures { IfOk result (λ s. step_in s ≡ spec.built_step prefix.now (module_of m.now) (interface_written tuning.grow recursive.now (module_of m.now))) }
 {
     let line = line_of(alloc, "built ", &m.name)?;
     let files = files_of(alloc, tuning.grow, recursive, prefix, m)?;
@@ -162,7 +163,7 @@ fn linted_step(alloc: Global, m: &Module) -> Result<Step, Memory>
 
 /// What is said of the first module; nothing where none is left.
 fn first_of(recursive: &[Vec<bool>]) -> &[bool]
-    ensures { result.now ≡ spec.first_of (marks_in recursive.now) }
+    ensures { result.now ≡ marks.first_of (marks_in recursive.now) }
 {
     match recursive {
         [] => &[],
@@ -172,7 +173,7 @@ fn first_of(recursive: &[Vec<bool>]) -> &[bool]
 
 /// What is said of the modules behind the first.
 fn behind_first(recursive: &[Vec<bool>]) -> &[Vec<bool>]
-    ensures { marks_in result.now ≡ spec.behind_first (marks_in recursive.now) }
+    ensures { marks_in result.now ≡ marks.behind_first (marks_in recursive.now) }
 {
     match recursive {
         [] => recursive,

@@ -1,7 +1,6 @@
 use Rattle.std.proofs.Common.{take}
 use Rattle.fc_model.specs.NamelessView.{nmodules_of}
-use Rattle.fc_build.specs.Product.{AreAllRecursive}
-use Rattle.fc_build.specs.SetSteps.{marks_in}
+use Rattle.fc_build.specs.SetSteps.{AreAllRecursive, marks_in}
 use Rattle.fc_build.proofs.product.recursive_in.Given as goal
 
 abbrev pub invariant-loop-form : goal.invariant-loop-form
