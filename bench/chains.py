@@ -3,12 +3,10 @@
 five runs), the bytes a second of the build and its peak memory. In a chain each definition mentions the next; in a ring the last mentions the first too, so
 that all reach themselves and no right side is told; in a web each mentions a hundred others, of which many reach each other. Run it from anywhere, on a
 machine where the program is built (`./coreopt build examples/Shapes.fc`), or with another program as its only word."""
-import os
-import sys
 import tempfile
 
-TOP = os.path.dirname(os.path.dirname(os.path.abspath(__file__)))
-PROGRAM = os.path.abspath(sys.argv[1]) if len(sys.argv) > 1 else os.path.join(TOP, "crates", "coreopt", "out", "coreopt")
+from measured import best, write
+
 RUNS = 5
 WEB = 100
 
@@ -37,35 +35,15 @@ def text_of(kind, count):
     return "(module M (imports) (exports)\n" + "\n".join(lines) + ")\n"
 
 
-def best(words, folder):
-    """The least processor seconds of a run with these words, and its peak memory in MB."""
-    least, peak = None, 0
-    for _ in range(RUNS):
-        child = os.fork()
-        if child == 0:
-            os.chdir(folder)
-            out = os.open(os.devnull, os.O_WRONLY)
-            os.dup2(out, 1)
-            os.execv(PROGRAM, [PROGRAM, *words])
-        _, status, used = os.wait4(child, 0)
-        if status != 0:
-            sys.exit("chains: the program did not accept the file")
-        seconds = used.ru_utime + used.ru_stime
-        least = seconds if least is None else min(least, seconds)
-        peak = max(peak, used.ru_maxrss)
-    return least, peak // 1024
-
-
 def main():
     print("| Kind | Bytes | Definitions | Lint: seconds | Build: seconds | Bytes a second | Peak MB |\n|---|---|---|---|---|---|---|")
     for kind, counts in (("chain", (15_000, 30_000, 60_000)), ("ring", (15_000, 30_000, 60_000)), ("web", (400, 800, 1_600))):
         for count in counts:
             with tempfile.TemporaryDirectory() as folder:
                 text = text_of(kind, count)
-                with open(os.path.join(folder, "M.fc"), "w", encoding="ascii") as it:
-                    it.write(text)
-                lint, _ = best(["lint", "M.fc"], folder)
-                build, peak = best(["build", "M.fc"], folder)
+                write(folder, "M.fc", text)
+                lint, _ = best(["lint", "M.fc"], folder, RUNS)
+                build, peak = best(["build", "M.fc"], folder, RUNS)
                 print(f"| {kind} | {len(text):,} | {count:,} | {lint:.3f} | {build:.3f} | {round(len(text) / build, -5):,.0f} | {peak} |")
 
 

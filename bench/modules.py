@@ -7,13 +7,10 @@ existential types and equalities, newtypes and families with their axioms; appli
 functions, which call others at types made of their own variables; join points, fifty deep, with jumps in their alternatives; applications of a
 polymorphic function, whose type has 65,535 pieces, each at a type of its own; and functions that cast what they take and what they answer. Run it from anywhere, on a
 machine where the program is built (`./coreopt build examples/Shapes.fc`), or with another program as its only word."""
-import os
-import subprocess
-import sys
 import tempfile
 
-TOP = os.path.dirname(os.path.dirname(os.path.abspath(__file__)))
-PROGRAM = os.path.abspath(sys.argv[1]) if len(sys.argv) > 1 else os.path.join(TOP, "crates", "coreopt", "out", "coreopt")
+from measured import best, write
+
 RUNS = 5
 DEEP = 100
 
@@ -158,41 +155,17 @@ def module(kind, count):
     return "\n".join(lines) + ")\n"
 
 
-def run(folder, command):
-    """Runs the program in a child of its own, so that its seconds and its peak memory are told alone."""
-    code = (
-        "import resource, subprocess, sys;"
-        "status = subprocess.run([sys.argv[1], sys.argv[2], 'B.fc'], stdout=subprocess.DEVNULL, stderr=subprocess.DEVNULL).returncode;"
-        "used = resource.getrusage(resource.RUSAGE_CHILDREN);"
-        "print(status, used.ru_utime + used.ru_stime, used.ru_maxrss)"
-    )
-    said = subprocess.run([sys.executable, "-c", code, PROGRAM, command], cwd=folder, capture_output=True, text=True, check=True).stdout.split()
-    return int(said[0]), float(said[1]), int(said[2])
-
-
-def best(folder, command, wanted):
-    """The least seconds of some runs, and the peak memory in kilobytes."""
-    runs = [run(folder, command) for _ in range(RUNS)]
-    for status, _, _ in runs:
-        if status != wanted:
-            sys.exit(f"{command}: status {status}")
-    return min(seconds for _, seconds, _ in runs), runs[0][2]
-
-
 def main():
-    if not os.access(PROGRAM, os.X_OK):
-        sys.exit("the program is not built")
     print("kind  bytes  definitions or binders  lint: seconds  bytes/second  build: seconds  bytes/second  peak MB")
     for name, kind, counts, wanted in KINDS:
         for count in counts:
             with tempfile.TemporaryDirectory() as folder:
                 text = module(kind, count)
-                with open(os.path.join(folder, "B.fc"), "w", encoding="ascii") as file:
-                    file.write(text)
-                lint, _ = best(folder, "lint", wanted)
-                build, kilobytes = best(folder, "build", wanted)
+                write(folder, "B.fc", text)
+                lint, _ = best(["lint", "B.fc"], folder, RUNS, wanted)
+                build, peak = best(["build", "B.fc"], folder, RUNS, wanted)
                 rates = f"{lint:.2f}  {len(text) / lint:.0f}  {build:.2f}  {len(text) / build:.0f}"
-                print(f"{name}  {len(text)}  {count}  {rates}  {kilobytes / 1024:.0f}")
+                print(f"{name}  {len(text)}  {count}  {rates}  {peak}")
 
 
 if __name__ == "__main__":

@@ -4,12 +4,10 @@ for each size the bytes, the seconds of the processor (the least of nine runs), 
 call others of their own module, half take a value of the type of the module before and call one of its functions. The same definitions are written in two
 ways: in as few bytes as they take, with names of one letter and a number (dense), and with whole words, and lines as the examples have them (plain). Run it
 from anywhere, on a machine where the program is built (`./coreopt lint examples/Shapes.fc`), or with another program as its only word."""
-import os
-import sys
 import tempfile
 
-TOP = os.path.dirname(os.path.dirname(os.path.abspath(__file__)))
-PROGRAM = os.path.abspath(sys.argv[1]) if len(sys.argv) > 1 else os.path.join(TOP, "crates", "coreopt", "out", "coreopt")
+from measured import best, write
+
 RUNS = 9
 MODULES = 100
 
@@ -57,27 +55,12 @@ def one_of(words, count):
     yield "One.fc", f"(module One (imports) (exports){words.line}{words.line.join(parts)})\n"
 
 
-def best(files):
+def best_lint(files):
     """The least processor seconds of linting the files, and the peak memory in MB."""
     with tempfile.TemporaryDirectory() as folder:
         for name, text in files:
-            with open(os.path.join(folder, name), "w", encoding="ascii") as it:
-                it.write(text)
-        least, peak = None, 0
-        for _ in range(RUNS):
-            child = os.fork()
-            if child == 0:
-                os.chdir(folder)
-                out = os.open(os.devnull, os.O_WRONLY)
-                os.dup2(out, 1)
-                os.execv(PROGRAM, [PROGRAM, "lint", *[name for name, _ in files]])
-            _, status, used = os.wait4(child, 0)
-            if status != 0:
-                sys.exit("sets: the program did not accept the files")
-            seconds = used.ru_utime + used.ru_stime
-            least = seconds if least is None else min(least, seconds)
-            peak = max(peak, used.ru_maxrss)
-        return least, peak // 1024
+            write(folder, name, text)
+        return best(["lint", *[name for name, _ in files]], folder, RUNS)
 
 
 def main():
@@ -87,7 +70,7 @@ def main():
         for count in (20, 60, 140):
             for what, files in ((MODULES, list(set_of(words, count))), (1, list(one_of(words, count)))):
                 size = sum(len(content) for _, content in files)
-                seconds, peak = best(files)
+                seconds, peak = best_lint(files)
                 print(f"| {text} | {what} | {size:,} | {seconds:.3f} | {int(size / seconds):,} | {peak} |")
 
 

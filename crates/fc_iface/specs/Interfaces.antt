@@ -1,5 +1,5 @@
 -- The interface of a module: which right sides it tells.
-use Rattle.std.specs.Prelude.{ℕ, ◌+◌, Bool, true, false, not, ◌&&◌, nat_le, List, [], ◌∷◌}
+use Rattle.std.specs.Prelude.{ℕ, ◌+◌, Bool, false, not, ◌&&◌, nat_le, List, [], ◌∷◌}
 use Rattle.fc_syntax.specs.Measures.{nodes_of}
 use Rattle.fc_syntax.specs.Tree.{Decl, DDef, DWrap, EFail, Module, ModuleOf}
 use Rattle.fc_syntax.specs.Demands.{Sig}

@@ -1,5 +1,5 @@
 //! Prints demands and signatures.
-ghost use Rattle.std.specs.Prelude.{◌≡◌, ◌++◌, codes, OnOk};
+ghost use Rattle.std.specs.Prelude.{◌≡◌, ◌++◌, OnOk};
 ghost use Rattle.fc_model.specs.Pieces.{NoPieces, first_text, spaced_text};
 ghost use Rattle.fc_lattice.specs.View.{demand_of, demands_of, sig_of};
 ghost use Rattle.fc_model.specs.InterfaceTexts.{demand_pieces, demands_pieces, sig_pieces};

@@ -1,11 +1,11 @@
 //! What an interface tells of the definitions of a module.
-ghost use Rattle.std.specs.Prelude.{◌≡◌, ◌-◌, ◌^◌, ◌<◌, IfOk};
+ghost use Rattle.std.specs.Prelude.{◌≡◌, ◌-◌, ◌^◌, ◌<◌, ◌++◌, Bool, IfOk, List, OnOk};
 ghost use Rattle.fc_syntax.specs.Tree.{DDef, EFail};
 ghost use Rattle.fc_syntax.specs.View.{decl_of, decls_of, module_of, ty_of};
 ghost use Rattle.fc_lattice.specs.View.{as_interface, sigs_of};
 ghost use Rattle.fc_graph.specs.Graphs.{is_marked};
 ghost use Rattle.fc_iface.specs.Interfaces as spec;
-ghost use Rattle.fc_iface.specs.Interfaces.{are_told, decl_told, decls_told, interface_of};
+ghost use Rattle.fc_iface.specs.Interfaces.{are_told, decl_told, decls_told, if_definition, interface_of};
 
 use fc_lattice::{Interface, Sig};
 use fc_measures::nodes;
@@ -55,38 +55,37 @@ fn told(alloc: Global, decl: &Decl, is_told: bool) -> Result<Decl, Memory>
     }
 }
 
-/// Declarations as the interface has them.
-fn all_told(alloc: Global, decls: &[Decl], marks: &[bool], grow: u64) -> Result<Seq<Decl>, Memory>
-    requires { grow < 2 ^ 64 - 1 }
-    ensures { IfOk result (λ ds. decls_of ds ≡ decls_told grow marks.now 0 (decls_of decls.now)) }
+/// Puts whether the right side of a declaration is told behind what is known of others, where the declaration is a definition.
+fn add_told(decl: &Decl, is_told: bool, known: &mut Seq<bool>) -> Result<(), Memory>
+    ensures { OnOk result ((rest : List Bool) → known.new ++ rest ≡ known.old ++ if_definition (decl_of decl.now) is_told rest) }
 {
-    let mut all = Seq::new(alloc);
-    for number in 0..decls.len() {
-        let decl = &decls[number];
-        let is_told = is_told(decl, has_mark(marks, number), grow);
-        all.push(told(alloc, decl, is_told)?)?;
+    match decl {
+        Decl::Def(_, _, _) => known.push(is_told),
+        Decl::Wrap(_, _, _) => known.push(is_told),
+        _ => Ok(()),
     }
-    Ok(all)
 }
 
-/// For each definition whether its right side is told.
-fn definitions_told(
+/// Declarations as the interface has them, and for each definition among them whether its right side is told.
+fn all_told(
     alloc: Global,
     decls: &[Decl],
     marks: &[bool],
     grow: u64,
-) -> Result<Seq<bool>, Memory>
+) -> Result<(Seq<Decl>, Seq<bool>), Memory>
     requires { grow < 2 ^ 64 - 1 }
-    ensures { IfOk result (λ told. told ≡ are_told grow marks.now 0 (decls_of decls.now)) }
+    ensures decls { IfOk result (λ r. decls_of r.0 ≡ decls_told grow marks.now 0 (decls_of decls.now)) }
+    ensures told { IfOk result (λ r. r.1 ≡ are_told grow marks.now 0 (decls_of decls.now)) }
 {
     let mut all = Seq::new(alloc);
+    let mut known = Seq::new(alloc);
     for number in 0..decls.len() {
         let decl = &decls[number];
-        if matches!(decl, Decl::Def(_, _, _) | Decl::Wrap(_, _, _)) {
-            all.push(is_told(decl, has_mark(marks, number), grow))?;
-        }
+        let is_told = is_told(decl, has_mark(marks, number), grow);
+        add_told(decl, is_told, &mut known)?;
+        all.push(told(alloc, decl, is_told)?)?;
     }
-    Ok(all)
+    Ok((all, known))
 }
 
 /// The same signatures again.
@@ -116,8 +115,7 @@ pub fn interface(
     requires { grow < 2 ^ 64 - 1 }
     ensures { IfOk result (λ i. as_interface i ≡ interface_of grow recursive.now (module_of m.now) (sigs_of sigs.now)) }
 {
-    let decls = all_told(alloc, m.decls.as_slice(), recursive, grow)?;
-    let unfold = definitions_told(alloc, m.decls.as_slice(), recursive, grow)?;
+    let (decls, unfold) = all_told(alloc, m.decls.as_slice(), recursive, grow)?;
     let module = Module {
         name: m.name.copy(alloc)?,
         imports: copy_words(alloc, m.imports.as_slice())?,

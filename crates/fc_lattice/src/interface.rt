@@ -1,6 +1,5 @@
 //! What is known of a module from outside.
-ghost use Rattle.std.specs.Prelude.{◌≡◌, [], ◌∷◌, ◌++◌, map, OnErr, OnOk};
-ghost use Rattle.fc_lattice.specs.View.{as_interface};
+ghost use Rattle.std.specs.Prelude.{◌≡◌, [], ◌∷◌, ◌++◌, OnErr, OnOk};
 
 use crate::demand::Sig;
 use fc_syntax::{Memory, Module, Seq};

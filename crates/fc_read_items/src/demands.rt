@@ -1,7 +1,7 @@
 //! Demands and signatures.
 ghost use Rattle.std.specs.Prelude.{◌≡◌, ◌<◌, length, map, None, Some, IfNone, IfOk, IfErr, IfSome};
-ghost use Rattle.fc_syntax.specs.Demands.{Product, SigOf};
-ghost use Rattle.fc_model.specs.Grammar.{ADemand, ADemandForm, ASignature, Many, SignatureEnd, demand_word_row, demands_from, gives};
+ghost use Rattle.fc_syntax.specs.Demands.{Product};
+ghost use Rattle.fc_model.specs.Grammar.{ADemand, ADemandForm, ASignature, Many, SignatureEnd, demand_word_row, gives};
 ghost use Rattle.fc_lattice.specs.View.{demand_of, demands_of, sig_of};
 ghost use Rattle.fc_read_parts.specs.Reading.{StopsAt, Takes};
 ghost use Rattle.fc_read_parts.specs.Seen.{ahead};

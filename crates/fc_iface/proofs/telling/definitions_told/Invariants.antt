@@ -1,8 +1,0 @@
-use Rattle.std.proofs.Common.{◌≡◌, ◌++◌, drop}
-use Rattle.fc_syntax.specs.View.{decls_of}
-use Rattle.fc_iface.specs.Interfaces.{are_told}
-use Rattle.fc_iface.proofs.telling.definitions_told.Given as goal
-
--- what is found, before what is still to come, is the whole
-abbrev pub invariant-loop-number : goal.invariant-loop-number
-invariant-loop-number l = l.all ++ are_told l.grow l.marks l.number (decls_of (drop l.number l.decls)) ≡ are_told l.grow l.marks 0 (decls_of l.decls)
