@@ -12,7 +12,7 @@ use Rattle.fc_type_scope.specs.declared.ends.Ends as code
 use Rattle.fc_type_table.specs.Scopes.{shown_at}
 use Rattle.fc_type_table.specs.declared.node.Node.{Node}
 use Rattle.fc_type_table.specs.declared.node.TypeId.{TypeId}
-use Rattle.fc_lint_calls.proofs.Heads.{left-more, no_id}
+use Rattle.fc_type_spines.proofs.Heads.{left-more, no_id}
 use Rattle.fc_coercion_forms.proofs.Groups.{shown_all_ends-snoc}
 
 abbrev turned : List Node → List Kind → List TypeId → List NTy

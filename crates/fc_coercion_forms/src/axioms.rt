@@ -24,7 +24,7 @@ use fc_types::LocalKind;
 use std::alloc::Global;
 
 /// Whether both ends of a coercion are of a kind.
-#[tactic(auto, using(fc_lint_calls::proofs::Givens::given_rules))]
+#[tactic(auto, using(fc_type_scope::proofs::Proven::table_rules))]
 fn is_between<'a>(
     kind: &Kind,
     ends: &Ends,
@@ -63,7 +63,7 @@ fn are_of_kinds<'a>(
 
 /// Whether coercions fit parameters of these kinds and roles, in what stands at a role: `AxiomArity`, `RoleWrong` and `KindsDiffer`, in this
 /// order. The answer is that role.
-#[tactic(auto, using(fc_lint_calls::proofs::Givens::given_rules))]
+#[tactic(auto, using(fc_type_scope::proofs::Proven::table_rules))]
 pub fn fit<'a>(
     alloc: Global,
     role: Role,
@@ -100,7 +100,7 @@ pub struct Pair {
 
 /// Two `forall`s at one type more, the first at the left end of a coercion and the second at its right end; nothing where one is no
 /// `forall`.
-#[tactic(auto, using(fc_lint_calls::proofs::Givens::given_rules))]
+#[tactic(auto, using(fc_type_scope::proofs::Proven::table_rules))]
 fn at_ends<'a>(
     alloc: Global,
     pair: Pair,

@@ -47,7 +47,7 @@ fn applied_to<'a>(
 }
 
 /// A declared type at what coercions relate, whatever the kinds.
-#[tactic(auto, using(fc_lint_calls::proofs::Givens::given_rules))]
+#[tactic(auto, using(fc_type_scope::proofs::Proven::table_rules))]
 fn named<'a>(
     role: Role,
     name: &'a Name,
@@ -74,7 +74,7 @@ fn takes(alloc: Global, name: &Name, count: usize, declared: &Declarations) -> R
 
 /// A declared type at what coercions relate: `RoleWrong` where one is not at the role of its parameter, then the fault of a name that takes
 /// more arguments, and `KindMismatch` where one of the types has no kind.
-#[tactic(auto, using(fc_lint_calls::proofs::Givens::given_rules))]
+#[tactic(auto, using(fc_type_scope::proofs::Proven::table_rules))]
 pub fn constructed<'a>(
     alloc: Global,
     role: Role,

@@ -65,7 +65,7 @@ pub fn represented<'a>(
 }
 
 /// Two types, each applied to one more.
-#[tactic(auto, using(fc_lint_calls::proofs::Givens::given_rules))]
+#[tactic(auto, using(fc_type_scope::proofs::Proven::table_rules))]
 pub(crate) fn applied_once<'a>(
     so_far: Ends,
     ends: Ends,
@@ -106,7 +106,7 @@ pub(crate) fn kinded<'a>(
 
 /// Applications of what one coercion relates to what the other does: `RoleWrong` where the first is at P or the second not at N, and then
 /// `KindMismatch` where one of them has no kind.
-#[tactic(auto, using(fc_lint_calls::proofs::Givens::given_rules))]
+#[tactic(auto, using(fc_type_scope::proofs::Proven::table_rules))]
 pub fn applied<'a>(
     alloc: Global,
     head: Ends,
@@ -129,7 +129,7 @@ pub fn applied<'a>(
 
 /// Functions from what one coercion relates to what the other does: `RoleWrong` where they are at two roles or at P, and then `NotAType`
 /// where the ends of one of them are not of one kind of values.
-#[tactic(auto, using(fc_lint_calls::proofs::Givens::given_rules))]
+#[tactic(auto, using(fc_type_scope::proofs::Proven::table_rules))]
 pub fn function<'a>(
     alloc: Global,
     from: Ends,

@@ -33,7 +33,7 @@ fn kind_of_foralls<'a>(ends: &Ends, types: &TypeTable<'a>, scope: &TypeScope<'_>
 }
 
 /// The first of two `forall`s at the left end of a coercion, and the second at its right end.
-#[tactic(auto, using(fc_lint_calls::proofs::Givens::given_rules))]
+#[tactic(auto, using(fc_type_scope::proofs::Proven::table_rules))]
 fn instantiated<'a>(
     alloc: Global,
     foralls: Ends,
@@ -62,7 +62,7 @@ fn instantiated<'a>(
 
 /// What two `forall`s that a coercion relates are at what another relates: `EndsDiffer` where they are not `forall`s over variables of one
 /// kind, then `RoleWrong` where the other is not at N, and `KindMismatch` where an end of it is not of that kind.
-#[tactic(auto, using(fc_lint_calls::proofs::Givens::given_rules))]
+#[tactic(auto, using(fc_type_scope::proofs::Proven::table_rules))]
 pub fn instance<'a>(
     alloc: Global,
     foralls: Ends,

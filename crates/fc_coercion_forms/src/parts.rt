@@ -13,11 +13,11 @@ ghost use Rattle.fc_type_table.specs.TypeTables.{IsType, modules_in, nodes_of, s
 
 use crate::kinds::have_one_kind;
 use crate::roles::{is_nominal, is_phantom};
-use fc_lint_calls::{Spine, spine_of};
 use fc_model::{Flawed, flaw_here};
 use fc_roles::{later_params, next_role, role_within, roled_params};
 use fc_syntax::{FaultKind, Memory, NDecl, Param, Role, Seq};
 use fc_type_scope::{Ends, TypeScope};
+use fc_type_spines::{Spine, spine_of};
 use fc_type_table::{TypeId, TypeTable};
 use fc_types::same_role;
 use std::alloc::Global;

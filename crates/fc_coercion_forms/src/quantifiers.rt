@@ -21,7 +21,7 @@ use std::alloc::Global;
 
 /// The `forall`s over what a coercion relates behind a variable of a kind: `UnliftedVariable`, and then `NotAType` where one of them is not
 /// of kind `*`.
-#[tactic(auto, using(fc_lint_calls::proofs::Givens::given_rules))]
+#[tactic(auto, using(fc_type_scope::proofs::Proven::table_rules))]
 pub fn quantified<'a>(
     alloc: Global,
     kind: &Kind,
@@ -103,7 +103,7 @@ fn coforall<'a>(
 }
 
 /// The types that take coercions at a role between what two coercions relate, and are then what the third relates.
-#[tactic(auto, using(fc_lint_calls::proofs::Givens::given_rules))]
+#[tactic(auto, using(fc_type_scope::proofs::Proven::table_rules))]
 fn coforalls<'a>(
     outer: Role,
     role: Role,

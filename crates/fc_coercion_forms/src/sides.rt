@@ -12,10 +12,10 @@ ghost use Rattle.fc_type_table.specs.TypeTables.{IsType, modules_in, shown};
 
 use crate::kinds::have_one_kind;
 use crate::roles::is_nominal;
-use fc_lint_calls::spine_of;
 use fc_model::{Flawed, flaw_here};
 use fc_syntax::{FaultKind, Memory, Role};
 use fc_type_scope::{Ends, TypeScope};
+use fc_type_spines::spine_of;
 use fc_type_table::{TypeId, TypeTable};
 use fc_types::params_of_family;
 use std::alloc::Global;

@@ -9,8 +9,6 @@ ghost use Rattle.fc_lex.specs.declared.LexError.TheVariants.{Memory as out_of_me
 
 mod class;
 mod piece;
-#[cfg(test)]
-mod tests;
 mod word;
 
 use crate::piece::piece_at;

@@ -7,9 +7,8 @@ use Rattle.fc_syntax.specs.Tree.{Kind}
 use Rattle.fc_syntax.specs.View.{kind_of}
 use Rattle.fc_model.specs.Calling as words
 use Rattle.fc_model.proofs.Lists.{drop_item}
-use Rattle.fc_type_scope.proofs.Numbers.{number_rules}
-use Rattle.fc_type_scope.proofs.Proven.{IsEndsAt-grows, ends_rules}
-use Rattle.fc_type_table.proofs.Numbers.{Grows-further, IsTypeAt-grows, shown_at-grows}
+use Rattle.fc_type_scope.proofs.Proven.{IsEndsAt-grows, table_rules}
+use Rattle.fc_type_table.proofs.Numbers.{IsTypeAt-grows, shown_at-grows}
 use Rattle.fc_type_table.specs.Nodes.{Extends}
 use Rattle.fc_type_table.specs.Scopes.{shown_at}
 use Rattle.fc_type_table.specs.declared.node.Node.{Node}
@@ -95,4 +94,4 @@ pub givens-grow-rest : (old new : List Node) (ks : List Kind) (gs : List Given) 
 givens-grow-rest old new ks gs i more h = givens-grow old new ks (drop i gs) more (AreGivenAt-drop old ks i gs h)
 
 -- what a caller needs whose table grows
-pub ruleset given_rules = (number_rules, ends_rules, Grows-further, IsGivenAt-grows, given_at-grows, AreGivenAt-none, AreGivenAt-grows, AreGivenAt-push, givens-none, givens-grow, givens-push)
+pub ruleset given_rules = (table_rules, IsGivenAt-grows, given_at-grows, AreGivenAt-none, AreGivenAt-grows, AreGivenAt-push, givens-none, givens-grow, givens-push)

@@ -2,5 +2,4 @@ pub mod Asked
 pub mod CalledJudged
 pub mod ConstructorFits
 pub mod Givens
-pub mod Heads
 pub mod Meets

@@ -12,10 +12,10 @@ ghost use Rattle.fc_lint_calls.specs.AltViews.{before_of};
 ghost use Rattle.fc_type_scope.specs.Scopes.{scope_in};
 ghost use Rattle.fc_type_table.specs.TypeTables.{Grows, IsType, shown};
 
-use crate::spines::{is_at, is_data_of, spine_of};
 use fc_model::{Flawed, flaw_here};
 use fc_syntax::{FaultKind, Name};
 use fc_type_scope::TypeScope;
+use fc_type_spines::{is_at, is_data_of, spine_of};
 use fc_type_table::{TypeId, TypeTable};
 use fc_types::DeclaredCon;
 use std::alloc::Global;

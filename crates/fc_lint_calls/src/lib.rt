@@ -5,11 +5,9 @@
 mod alternatives;
 mod arguments;
 mod premises;
-mod spines;
 
 pub use alternatives::{Before, constructor_goes, default_goes, literal_goes};
 pub use arguments::{Given, applied, called, is_atom, operated};
 pub use premises::{
     bind_takes, body_fits, case_type, cast_type, fail_type, join_type, leaves_as, pays,
 };
-pub use spines::{Spine, spine_of};

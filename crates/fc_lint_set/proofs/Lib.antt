@@ -1,4 +1,3 @@
-pub mod Params
 pub mod RightSides
 pub mod SetForms
 pub mod Told

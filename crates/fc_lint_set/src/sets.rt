@@ -13,10 +13,9 @@ ghost use Rattle.fc_lint_context.specs.DeclaredViews.{AreRead, modules_read};
 ghost use Rattle.fc_lint_set.specs.Sets.{AreForms, AreNames, ResolveBehind, SaysBefore, SetSays, StandsInModule, names_among, names_judged};
 ghost use Rattle.fc_plan.specs.Modules.{behind};
 
-use crate::definitions::{lint_definition_types, lint_rights};
-use crate::exports::lint_exports;
-use crate::type_declarations::lint_types;
+use crate::right_sides::lint_rights;
 use fc_lint_context::DeclaredTypes;
+use fc_lint_declarations::{lint_definition_types, lint_exports, lint_types};
 use fc_model::{Flaw, Flawed, Offers};
 use fc_plan::in_order;
 use fc_resolve::{resolve, resolve_among};

@@ -6,13 +6,14 @@ use Rattle.fc_model.specs.Faulting.{at_distance}
 use Rattle.fc_model.specs.Says.{Says, fault_of}
 use Rattle.fc_model.specs.declared.flaw.Flawed.{Flawed}
 use Rattle.fc_model.specs.declared.flaw.Flawed.TheVariants.{Memory, Flaw as OfFlaw}
-use Rattle.fc_type_table.proofs.Numbers.{IsTypeAt-grows, shown_at-grows}
+use Rattle.fc_type_table.proofs.Numbers.{Grows-further, IsTypeAt-grows, shown_at-grows}
 use Rattle.fc_type_table.specs.Nodes.{Extends}
 use Rattle.fc_type_table.specs.declared.node.Node.{Node}
 use Rattle.fc_type_scope.specs.Behind.{raised_ends}
 use Rattle.fc_type_scope.specs.EndViews.{AreEndsAt, IsEndsAt, shown_all_ends_at, shown_ends_at}
 use Rattle.fc_type_scope.specs.declared.ends.Ends as code
 use Rattle.fc_type_scope.proofs.Items.{Stands, all_behind, all_grow, all_none, all_past, all_push, found_right, shows_behind, shows_found, shows_moved, shows_none, shows_push, shows_same}
+use Rattle.fc_type_scope.proofs.Numbers.{number_rules}
 use Rattle.fc_type_scope.proofs.Past.{IsTypeAt-past, shown_at-past}
 
 pub IsEndsAt-grows : (old new : List Node) (ks : List Kind) (e : code.Ends) → Extends old new → IsEndsAt old ks e → IsEndsAt new ks e
@@ -84,3 +85,6 @@ coercion_says (Err (OfFlaw f)) ns ks es d h = shows_none IsEndsAt shown_ends_at 
 
 -- what a caller needs whose table grows
 pub ruleset ends_rules = (IsEndsAt-grows, shown_ends-grows, AreEndsAt-none, AreEndsAt-behind, AreEndsAt-grows, shown_all_ends-none, shown_all_ends-grows)
+
+-- the same with types
+pub ruleset table_rules = (number_rules, ends_rules, Grows-further)

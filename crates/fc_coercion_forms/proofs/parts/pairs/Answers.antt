@@ -8,7 +8,7 @@ use Rattle.fc_type_scope.specs.declared.ends.Ends as code
 use Rattle.fc_type_scope.specs.Scopes.{scope_in, shown_all}
 use Rattle.fc_type_scope.proofs.Numbers.{AreTypesAt-at}
 use Rattle.fc_type_table.specs.TypeTables.{nodes_of}
-use Rattle.fc_lint_calls.proofs.Heads.{no_id}
+use Rattle.fc_type_spines.proofs.Heads.{no_id}
 use Rattle.fc_coercion_forms.proofs.Groups.{AreEndsAt-snoc}
 use Rattle.fc_coercion_forms.proofs.Pairing.{pairs-end, pairs-start, pairs-turn}
 use Rattle.fc_coercion_forms.proofs.parts.pairs.Goals as goal

@@ -1,7 +1,0 @@
-//! Tests of `fc_naming`, which is proved once without them.
-#![tactic(auto)]
-
-#[cfg(test)]
-mod by_hand;
-#[cfg(test)]
-mod tests;

@@ -1,0 +1,112 @@
+//! Interfaces: readers, printers, and what they tell of modules.
+use crate::answers::{NoAnswer, line, line_of};
+use crate::reading::{form_of, interface_in, interface_in_room, module_in, number_in};
+use fc_files::Files;
+use fc_iface::{interface, print_interface};
+use fc_lattice::{Demand, Imports, Sig};
+use fc_reaching::recursive;
+use fc_syntax::{Decl, Memory, Module, Seq};
+use std::alloc::Global;
+
+/// Reads the interface of a file.
+pub(crate) fn reads<F: Files>(
+    alloc: Global,
+    files: &mut F,
+    file: &str,
+) -> Result<Vec<u8>, NoAnswer> {
+    let _interface = interface_in(alloc, files, file)?;
+    Ok(line(alloc, "read")?)
+}
+
+/// Reads the interface of a file, where there is as much room as a word says.
+pub(crate) fn reads_in_room<F: Files>(
+    alloc: Global,
+    files: &mut F,
+    room: &str,
+    file: &str,
+) -> Result<Vec<u8>, NoAnswer> {
+    let _interface = interface_in_room(alloc, files, number_in(room)?, file)?;
+    Ok(line(alloc, "read")?)
+}
+
+/// The canonical text of the interface of a file.
+pub(crate) fn printed<F: Files>(
+    alloc: Global,
+    files: &mut F,
+    file: &str,
+) -> Result<Vec<u8>, NoAnswer> {
+    let i = interface_in(alloc, files, file)?;
+    Ok(print_interface(alloc, &i)?)
+}
+
+// SIGNATURES
+
+/// A signature with so many lazy arguments.
+fn lazy(alloc: Global, count: usize) -> Result<Sig, Memory> {
+    let mut args = Seq::new(alloc);
+    for _ in 0..count {
+        args.push(Demand::L)?;
+    }
+    Ok(Sig {
+        args,
+        diverges: false,
+    })
+}
+
+/// For each definition of a module a signature with as many lazy arguments as there are definitions before it.
+fn numbered(alloc: Global, m: &Module) -> Result<Vec<Sig>, Memory> {
+    let mut all = Vec::new(alloc);
+    for decl in m.decls.as_slice() {
+        if matches!(decl, Decl::Def(_, _, _) | Decl::Wrap(_, _, _)) {
+            let sig = lazy(alloc, all.len())?;
+            all.push(sig)?;
+        }
+    }
+    Ok(all)
+}
+
+/// The text of the interface of the module of a file, in which right sides of as many nodes are told as a word says.
+pub(crate) fn told<F: Files>(
+    alloc: Global,
+    files: &mut F,
+    grow: &str,
+    file: &str,
+) -> Result<Vec<u8>, NoAnswer> {
+    let grow = u64::from(number_in(grow)?);
+    let m = module_in(alloc, files, file)?;
+    let form = form_of(alloc, &m)?;
+    let marks = recursive(alloc, &form)?;
+    let sigs = numbered(alloc, &m)?;
+    let i = interface(alloc, &m, marks.as_slice(), sigs.as_slice(), grow)?;
+    Ok(print_interface(alloc, &i)?)
+}
+
+// IMPORTS
+
+/// The interfaces of files, in their order.
+fn imports_in<F: Files>(alloc: Global, files: &mut F, names: &[&str]) -> Result<Imports, NoAnswer> {
+    let mut imports = Imports::new(alloc);
+    for name in names {
+        imports.add(interface_in(alloc, files, *name)?)?;
+    }
+    Ok(imports)
+}
+
+/// The names of the modules of interfaces.
+fn modules_line(alloc: Global, imports: &Imports) -> Result<Vec<u8>, Memory> {
+    let mut parts = Vec::new(alloc);
+    for i in imports.interfaces.as_slice() {
+        parts.push(Vec::from_slice(alloc, i.module.name.as_str().as_bytes())?)?;
+    }
+    line_of(alloc, parts.as_slice(), b" ")
+}
+
+/// The names of the modules of the interfaces of files, in their order.
+pub(crate) fn imported<F: Files>(
+    alloc: Global,
+    files: &mut F,
+    names: &[&str],
+) -> Result<Vec<u8>, NoAnswer> {
+    let imports = imports_in(alloc, files, names)?;
+    Ok(modules_line(alloc, &imports)?)
+}

@@ -1,0 +1,88 @@
+//! From names to distances, and back.
+use crate::answers::{NoAnswer, line, line_of, put_joined};
+use crate::binders::{leave_lambda_in, set_words_in};
+use crate::reading::form_in;
+use crate::references::References;
+use crate::referring::in_declaration;
+use fc_files::Files;
+use fc_naming::{NotNamed, name_back};
+use fc_printer::print_module;
+use fc_syntax::{Memory, NDecl, NModule, Text};
+use std::alloc::Global;
+
+// NAMELESS FORMS
+
+/// What a declaration refers to, on one line.
+fn referred(alloc: Global, decl: &NDecl) -> Result<Vec<u8>, Memory> {
+    let mut references = References::new(alloc);
+    in_declaration(decl, &mut references)?;
+    let mut text = Vec::new(alloc);
+    put_joined(references.all.as_slice(), b" ", &mut text)?;
+    Ok(text)
+}
+
+/// What declarations refer to, on one line.
+fn referred_by_all(alloc: Global, decls: &[NDecl]) -> Result<Vec<u8>, Memory> {
+    let mut parts = Vec::new(alloc);
+    for decl in decls {
+        parts.push(referred(alloc, decl)?)?;
+    }
+    line_of(alloc, parts.as_slice(), b" ; ")
+}
+
+/// What the declarations of the module of a file refer to.
+pub(crate) fn resolved<F: Files>(
+    alloc: Global,
+    files: &mut F,
+    file: &str,
+) -> Result<Vec<u8>, NoAnswer> {
+    let form = form_in(alloc, files, file)?;
+    Ok(referred_by_all(alloc, form.decls.as_slice())?)
+}
+
+// NAMED FORMS
+
+/// The words between the commas of a text, and none where it is a hyphen.
+fn words_of(alloc: Global, text: &str) -> Result<Vec<Text>, Memory> {
+    let mut words = Vec::new(alloc);
+    if text == "-" {
+        return Ok(words);
+    }
+    for word in text.split(',') {
+        words.push(Text::from_str(alloc, word)?)?;
+    }
+    Ok(words)
+}
+
+/// The canonical text of what a nameless module is named back to, or that a distance or a name in it is not in scope.
+fn named(alloc: Global, n: &NModule) -> Result<Vec<u8>, Memory> {
+    match name_back(alloc, n) {
+        Ok(m) => print_module(alloc, &m),
+        Err(NotNamed::Unscoped) => line(alloc, "unscoped"),
+        Err(NotNamed::Memory) => Err(Memory),
+    }
+}
+
+/// What the module of a file is named back to, after the binders of its last definition were given other words.
+pub(crate) fn named_with<F: Files>(
+    alloc: Global,
+    files: &mut F,
+    words: &str,
+    file: &str,
+) -> Result<Vec<u8>, NoAnswer> {
+    let mut form = form_in(alloc, files, file)?;
+    let words = words_of(alloc, words)?;
+    set_words_in(alloc, &mut form, words.as_slice())?;
+    Ok(named(alloc, &form)?)
+}
+
+/// What the module of a file is named back to, after the outermost lambda of its last definition was taken off.
+pub(crate) fn named_body<F: Files>(
+    alloc: Global,
+    files: &mut F,
+    file: &str,
+) -> Result<Vec<u8>, NoAnswer> {
+    let mut form = form_in(alloc, files, file)?;
+    leave_lambda_in(&mut form);
+    Ok(named(alloc, &form)?)
+}
