@@ -18,7 +18,7 @@ use fc_syntax::{Fault, FaultKind, Limits, Memory, Module, NModule, Place, Refusa
 use std::alloc::Global;
 
 /// The modules of a set that lints.
-#[derive(Debug, Drop)]
+#[derive(Drop)]
 pub struct Set {
     /// In the order of their files.
     pub modules: Vec<Module>,
@@ -29,7 +29,7 @@ pub struct Set {
 }
 
 /// What the files of a set are.
-#[derive(Debug, Drop)]
+#[derive(Drop)]
 pub enum Judged<'a> {
     /// A set that lints.
     Accepted(Set),

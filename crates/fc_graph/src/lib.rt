@@ -9,4 +9,4 @@ mod finding;
 mod reaching;
 
 pub use cycles::on_cycles;
-pub use reaching::reached;
+pub use reaching::{reached, reached_from};

@@ -1,6 +1,6 @@
-//! Which numbers one leads to in a graph.
+//! Which numbers one, or several, lead to in a graph.
 ghost use Rattle.std.specs.Prelude.{◌≡◌, ◌<◌, ◌++◌, [], ◌∷◌, ℕ, List, true, false, length, replicate, slice_set, IfOk, OnOk};
-ghost use Rattle.fc_graph.specs.Graphs.{AreMarked, GoesOn, next_of};
+ghost use Rattle.fc_graph.specs.Graphs.{AreMarked, AreReachedFrom, GoesOn, next_of};
 
 use fc_syntax::{Memory, Seq};
 use std::alloc::Global;
@@ -69,15 +69,29 @@ impl Search {
     }
 }
 
-/// The numbers that one leads to by one edge or more, marked among the numbers of the graph.
-pub fn reached(alloc: Global, graph: &[Seq<usize>], from: usize) -> Result<Vec<bool>, Memory>
-    ensures { IfOk result (λ marks. AreMarked graph.now from marks.items) }
+/// The roots and the numbers that they lead to, marked among the numbers of the graph. A root that is no number of the graph counts for nothing.
+pub fn reached_from(
+    alloc: Global,
+    graph: &[Seq<usize>],
+    roots: &[usize],
+) -> Result<Vec<bool>, Memory>
+    ensures { IfOk result (λ marks. AreReachedFrom graph.now roots.now marks.items) }
 {
     let mut search = Search::new(alloc, graph.len())?;
-    search.find_next(graph, from)?;
+    search.find_all(roots)?;
     while let Some(number) = search.waiting.pop() {
         search.find_next(graph, number)?;
     }
     let Search { marks, waiting: _ } = search;
     Ok(marks)
+}
+
+/// The numbers that one leads to by one edge or more, marked among the numbers of the graph.
+pub fn reached(alloc: Global, graph: &[Seq<usize>], from: usize) -> Result<Vec<bool>, Memory>
+    ensures { IfOk result (λ marks. AreMarked graph.now from marks.items) }
+{
+    match graph.get(from) {
+        Some(next) => reached_from(alloc, graph, next.as_slice()),
+        None => reached_from(alloc, graph, &[]),
+    }
 }

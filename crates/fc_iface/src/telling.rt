@@ -7,6 +7,7 @@ ghost use Rattle.fc_graph.specs.Graphs.{is_marked};
 ghost use Rattle.fc_iface.specs.Interfaces as spec;
 ghost use Rattle.fc_iface.specs.Interfaces.{are_told, decl_told, decls_told, if_definition, interface_of};
 
+use fc_copies::named::copy_decl;
 use fc_lattice::{Interface, Sig};
 use fc_measures::nodes;
 use fc_syntax::{Decl, Expr, Memory, Module, Seq, Text, Ty, copy_words};
@@ -51,7 +52,7 @@ fn told(alloc: Global, decl: &Decl, is_told: bool) -> Result<Decl, Memory>
     match decl {
         Decl::Def(name, t, _) if !is_told => failing(alloc, name, t),
         Decl::Wrap(name, t, _) if !is_told => failing(alloc, name, t),
-        _ => decl.copy(alloc),
+        _ => copy_decl(alloc, decl),
     }
 }
 

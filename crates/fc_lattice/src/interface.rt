@@ -7,7 +7,7 @@ use std::alloc::Global;
 
 /// What a later module knows of a module: its header, its types and axioms, and of each definition the type, the signature and maybe the
 /// right side (the interface files of GHC).
-#[derive(Debug, Drop)]
+#[derive(Drop)]
 pub struct Interface {
     /// The module, in which each definition whose right side is not told is a `def` of its type that fails.
     pub module: Module,
@@ -18,7 +18,7 @@ pub struct Interface {
 }
 
 /// The interfaces of modules that are imported.
-#[derive(Debug, Drop)]
+#[derive(Drop)]
 pub struct Imports {
     /// In the order in which they were added.
     pub interfaces: Seq<Interface>,

@@ -10,7 +10,7 @@ use fc_syntax::{Fault, Module};
 use std::alloc::Global;
 
 /// What the files of a set hold.
-#[derive(Debug, Drop)]
+#[derive(Drop)]
 pub enum Loaded<'a> {
     /// Modules within the limits, in the order of the files.
     Modules(Vec<Module>),

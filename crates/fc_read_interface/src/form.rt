@@ -21,7 +21,7 @@ use fc_syntax::{Keyword, Module, Seq, Text};
 use std::alloc::Global;
 
 /// What stands behind the header of an interface.
-#[derive(Debug, Drop)]
+#[derive(Drop)]
 struct Body {
     /// The hidden names, none where the part is left out.
     hidden: Seq<Text>,

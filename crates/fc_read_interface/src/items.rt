@@ -22,7 +22,7 @@ use fc_syntax::{Decl, Expr, Limits, Memory, Seq, Text, Ty};
 use std::alloc::Global;
 
 /// What items make of an interface.
-#[derive(Debug, Drop)]
+#[derive(Drop)]
 pub(crate) struct Items {
     /// Their declarations in their order.
     pub(crate) decls: Seq<Decl>,
@@ -33,7 +33,7 @@ pub(crate) struct Items {
 }
 
 /// What is known of a definition beside its declaration.
-#[derive(Debug, Drop)]
+#[derive(Drop)]
 struct Known {
     /// Its signature.
     sig: Sig,

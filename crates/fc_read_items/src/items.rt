@@ -16,7 +16,7 @@ use fc_syntax::{Decl, Expr, Keyword, Text, Ty};
 use std::alloc::Global;
 
 /// What an interface tells of the right side of a definition.
-#[derive(Debug, Drop)]
+#[derive(Drop)]
 pub enum Unfolding {
     /// `none`: nothing.
     Untold,
@@ -27,7 +27,7 @@ pub enum Unfolding {
 }
 
 /// An item of an interface.
-#[derive(Debug, Drop)]
+#[derive(Drop)]
 pub enum Item {
     /// A declaration of a type or an axiom.
     Decl(Decl),

@@ -84,7 +84,7 @@ pub fn read_plain_parameters(alloc: Global, tokens: &mut Tokens<'_>) -> Result<S
 }
 
 /// What stands next among the binders of a constructor.
-#[derive(Debug, Drop)]
+#[derive(Drop)]
 enum Field {
     /// The closing bracket.
     End,

@@ -30,7 +30,7 @@ pub struct Header {
 }
 
 /// What stands behind the header of a module.
-#[derive(Debug, Drop)]
+#[derive(Drop)]
 pub(crate) struct Body {
     /// The hidden names, none where the part is left out.
     hidden: Seq<Text>,

@@ -4,7 +4,6 @@ use crate::text::Text;
 use crate::ty::{Kind, Name, Role, Ty};
 
 /// A coercion (the coercions of core-spec), whose variables are `L`, as those of a type.
-#[derive(Debug)]
 pub enum Co<L> {
     /// A coercion variable.
     Var(L),

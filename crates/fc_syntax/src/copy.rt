@@ -1,12 +1,12 @@
-//! Copies that equal what they copy.
+//! Copies, which equal what they copy: of words, names, kinds, types, coercions, binders and parameters.
 ghost use Rattle.std.specs.Prelude.{◌≡◌, IfOk};
-ghost use Rattle.fc_syntax.specs.View.{kind_of, ty_of, co_of, cos_of, binder_of, binders_of};
-ghost use Rattle.fc_syntax.specs.View.{expr_of, exprs_of, arg_of, args_of, bind_of, binds_of, join_of, joins_of, alt_of, alts_of};
+ghost use Rattle.fc_syntax.specs.View.{kind_of, ty_of, co_of, cos_of, binder_of, binders_of, param_of, params_of, plain_of, plains_of};
 
 use crate::boxes::boxed_copy;
 use crate::co::Co;
-use crate::expr::{Alt, Arg, Bind, Binder, Expr, Head, JoinBind};
+use crate::expr::{Binder, Head};
 use crate::fault::Memory;
+use crate::module::{Param, Plain};
 use crate::seq::Seq;
 use crate::text::Text;
 use crate::ty::{Kind, Name, Ref, Ty};
@@ -231,8 +231,9 @@ impl Head {
     }
 }
 
+/// The same binders again. Fails only where memory runs out.
 #[tactic(auto, using(std::proofs::lemmas::List::map_push, std::proofs::lemmas::Grind::common_steps))]
-pub(crate) fn copy_binders<L: Variable>(
+pub fn copy_binders<L: Variable>(
     alloc: Global,
     items: &[Binder<L>],
 ) -> Result<Seq<Binder<L>>, Memory>
@@ -245,131 +246,35 @@ pub(crate) fn copy_binders<L: Variable>(
     Ok(all)
 }
 
-impl Expr<Text, Name> {
-    /// The same expression again. Fails only where memory runs out.
-    #[cycle(copy_expr)]
-    #[tactic(auto, using(crate::proofs::View::view_rules))]
-    pub fn copy(&self, alloc: Global) -> Result<Expr<Text, Name>, Memory>
-        ensures { IfOk result (λ e. expr_of e ≡ expr_of self.now) }
-    {
-        match self {
-            Expr::Var(v) => Ok(Expr::Var(v.copy(alloc)?)),
-            Expr::Lit(n) => Ok(Expr::Lit(*n)),
-            Expr::App(f, a) => {
-                let f = boxed_copy(alloc, f.copy(alloc))?;
-                let a = boxed_copy(alloc, a.copy(alloc))?;
-                Ok(Expr::App(f, a))
-            }
-            Expr::Lam(b, e) => {
-                let b = boxed_copy(alloc, b.copy(alloc))?;
-                let e = boxed_copy(alloc, e.copy(alloc))?;
-                Ok(Expr::Lam(b, e))
-            }
-            Expr::Let(recursive, binds, e) => {
-                let binds = copy_binds(alloc, binds.as_slice())?;
-                let e = boxed_copy(alloc, e.copy(alloc))?;
-                Ok(Expr::Let(*recursive, binds, e))
-            }
-            Expr::Case(s, x, t, u, alts) => {
-                let s = boxed_copy(alloc, s.copy(alloc))?;
-                let x = x.copy(alloc)?;
-                let t = t.copy(alloc)?;
-                let u = u.copy(alloc)?;
-                let alts = copy_alts(alloc, alts.as_slice())?;
-                Ok(Expr::Case(s, x, t, u, alts))
-            }
-            Expr::Cast(e, g) => {
-                let e = boxed_copy(alloc, e.copy(alloc))?;
-                let g = g.copy(alloc)?;
-                Ok(Expr::Cast(e, g))
-            }
-            Expr::Con(name, args) => {
-                let name = name.copy(alloc)?;
-                let args = copy_args(alloc, args.as_slice())?;
-                Ok(Expr::Con(name, args))
-            }
-            Expr::Prim(op, args) => {
-                let args = copy_exprs(alloc, args.as_slice())?;
-                Ok(Expr::Prim(*op, args))
-            }
-            Expr::Fail(t) => Ok(Expr::Fail(t.copy(alloc)?)),
-            Expr::Join(recursive, t, binds, e) => {
-                let t = t.copy(alloc)?;
-                let binds = copy_joins(alloc, binds.as_slice())?;
-                let e = boxed_copy(alloc, e.copy(alloc))?;
-                Ok(Expr::Join(*recursive, t, binds, e))
-            }
-            Expr::Jump(j, args) => {
-                let j = j.copy(alloc)?;
-                let args = copy_args(alloc, args.as_slice())?;
-                Ok(Expr::Jump(j, args))
-            }
-        }
-    }
-}
-
-impl Arg<Text, Name> {
-    /// The same argument again. Fails only where memory runs out.
-    #[cycle(copy_expr)]
-    #[tactic(auto, using(crate::proofs::View::view_rules))]
-    pub fn copy(&self, alloc: Global) -> Result<Arg<Text, Name>, Memory>
-        ensures { IfOk result (λ a. arg_of a ≡ arg_of self.now) }
-    {
-        match self {
-            Arg::Term(e) => Ok(Arg::Term(e.copy(alloc)?)),
-            Arg::OfType(t) => Ok(Arg::OfType(t.copy(alloc)?)),
-            Arg::OfCo(g) => Ok(Arg::OfCo(g.copy(alloc)?)),
-        }
-    }
-}
-
-impl Bind<Text, Name> {
-    /// The same binding again. Fails only where memory runs out.
-    #[cycle(copy_expr)]
-    pub fn copy(&self, alloc: Global) -> Result<Bind<Text, Name>, Memory>
-        ensures { IfOk result (λ b. bind_of b ≡ bind_of self.now) }
+impl Param {
+    /// The same parameter again. Fails only where memory runs out.
+    pub fn copy(&self, alloc: Global) -> Result<Param, Memory>
+        ensures { IfOk result (λ p. param_of p ≡ param_of self.now) }
     {
         let name = self.name.copy(alloc)?;
-        let ty = self.ty.copy(alloc)?;
-        let rhs = self.rhs.copy(alloc)?;
-        Ok(Bind { name, ty, rhs })
-    }
-}
-
-impl JoinBind<Text, Name> {
-    /// The same join point again. Fails only where memory runs out.
-    #[cycle(copy_expr)]
-    pub fn copy(&self, alloc: Global) -> Result<JoinBind<Text, Name>, Memory>
-        ensures { IfOk result (λ b. join_of b ≡ join_of self.now) }
-    {
-        let name = self.name.copy(alloc)?;
-        let params = copy_binders(alloc, self.params.as_slice())?;
-        let rhs = self.rhs.copy(alloc)?;
-        Ok(JoinBind { name, params, rhs })
-    }
-}
-
-impl Alt<Text, Name> {
-    /// The same alternative again. Fails only where memory runs out.
-    #[cycle(copy_expr)]
-    pub fn copy(&self, alloc: Global) -> Result<Alt<Text, Name>, Memory>
-        ensures { IfOk result (λ a. alt_of a ≡ alt_of self.now) }
-    {
-        let head = self.head.copy(alloc)?;
-        let binders = copy_binders(alloc, self.binders.as_slice())?;
-        let body = self.body.copy(alloc)?;
-        Ok(Alt {
-            head,
-            binders,
-            body,
+        let kind = self.kind.copy(alloc)?;
+        Ok(Param {
+            name,
+            kind,
+            role: self.role,
         })
     }
 }
 
-#[cycle(copy_expr)]
-#[tactic(auto, using(crate::proofs::Snoc::exprs_step))]
-fn copy_exprs(alloc: Global, items: &[Expr<Text, Name>]) -> Result<Seq<Expr<Text, Name>>, Memory>
-    ensures { IfOk result (λ s. exprs_of s ≡ exprs_of items.now) }
+impl Plain {
+    /// The same parameter without a role again. Fails only where memory runs out.
+    pub fn copy(&self, alloc: Global) -> Result<Plain, Memory>
+        ensures { IfOk result (λ p. plain_of p ≡ plain_of self.now) }
+    {
+        let name = self.name.copy(alloc)?;
+        let kind = self.kind.copy(alloc)?;
+        Ok(Plain { name, kind })
+    }
+}
+
+/// The same words again. Fails only where memory runs out.
+pub fn copy_words(alloc: Global, items: &[Text]) -> Result<Seq<Text>, Memory>
+    ensures { IfOk result (λ s. s ≡ items.now) }
 {
     let mut all = Seq::new(alloc);
     for x in items {
@@ -378,10 +283,10 @@ fn copy_exprs(alloc: Global, items: &[Expr<Text, Name>]) -> Result<Seq<Expr<Text
     Ok(all)
 }
 
-#[cycle(copy_expr)]
-#[tactic(auto, using(crate::proofs::Snoc::args_step))]
-fn copy_args(alloc: Global, items: &[Arg<Text, Name>]) -> Result<Seq<Arg<Text, Name>>, Memory>
-    ensures { IfOk result (λ s. args_of s ≡ args_of items.now) }
+/// The same parameters again. Fails only where memory runs out.
+#[tactic(auto, using(std::proofs::lemmas::List::map_push, std::proofs::lemmas::Grind::common_steps))]
+pub fn copy_params(alloc: Global, items: &[Param]) -> Result<Seq<Param>, Memory>
+    ensures { IfOk result (λ s. params_of s ≡ params_of items.now) }
 {
     let mut all = Seq::new(alloc);
     for x in items {
@@ -390,37 +295,10 @@ fn copy_args(alloc: Global, items: &[Arg<Text, Name>]) -> Result<Seq<Arg<Text, N
     Ok(all)
 }
 
-#[cycle(copy_expr)]
-#[tactic(auto, using(crate::proofs::Snoc::binds_step))]
-fn copy_binds(alloc: Global, items: &[Bind<Text, Name>]) -> Result<Seq<Bind<Text, Name>>, Memory>
-    ensures { IfOk result (λ s. binds_of s ≡ binds_of items.now) }
-{
-    let mut all = Seq::new(alloc);
-    for x in items {
-        all.push(x.copy(alloc)?)?;
-    }
-    Ok(all)
-}
-
-#[cycle(copy_expr)]
-#[tactic(auto, using(crate::proofs::Snoc::joins_step))]
-fn copy_joins(
-    alloc: Global,
-    items: &[JoinBind<Text, Name>],
-) -> Result<Seq<JoinBind<Text, Name>>, Memory>
-    ensures { IfOk result (λ s. joins_of s ≡ joins_of items.now) }
-{
-    let mut all = Seq::new(alloc);
-    for x in items {
-        all.push(x.copy(alloc)?)?;
-    }
-    Ok(all)
-}
-
-#[cycle(copy_expr)]
-#[tactic(auto, using(crate::proofs::Snoc::alts_step))]
-fn copy_alts(alloc: Global, items: &[Alt<Text, Name>]) -> Result<Seq<Alt<Text, Name>>, Memory>
-    ensures { IfOk result (λ s. alts_of s ≡ alts_of items.now) }
+/// The same parameters without roles again. Fails only where memory runs out.
+#[tactic(auto, using(std::proofs::lemmas::List::map_push, std::proofs::lemmas::Grind::common_steps))]
+pub fn copy_plains(alloc: Global, items: &[Plain]) -> Result<Seq<Plain>, Memory>
+    ensures { IfOk result (λ s. plains_of s ≡ plains_of items.now) }
 {
     let mut all = Seq::new(alloc);
     for x in items {

@@ -56,7 +56,7 @@ impl PrimOp {
 }
 
 /// A binder with what it binds.
-#[derive(Debug, Drop)]
+#[derive(Drop)]
 pub enum Binder<L> {
     /// `(x t)`: a value of a type.
     Value(Text, Ty<L>),
@@ -79,7 +79,7 @@ pub enum Head {
 
 /// An argument of an application, a constructor or a jump.
 #[cycle(ast)]
-#[derive(Debug, Drop)]
+#[derive(Drop)]
 pub enum Arg<L, V> {
     /// A term.
     Term(Expr<L, V>),
@@ -91,7 +91,7 @@ pub enum Arg<L, V> {
 
 /// A binding of a let.
 #[cycle(ast)]
-#[derive(Debug, Drop)]
+#[derive(Drop)]
 pub struct Bind<L, V> {
     /// The word that it binds.
     pub name: Text,
@@ -103,7 +103,7 @@ pub struct Bind<L, V> {
 
 /// A join point ("Compiling without continuations").
 #[cycle(ast)]
-#[derive(Debug, Drop)]
+#[derive(Drop)]
 pub struct JoinBind<L, V> {
     /// The word that jumps name.
     pub name: Text,
@@ -115,7 +115,7 @@ pub struct JoinBind<L, V> {
 
 /// An alternative of a case.
 #[cycle(ast)]
-#[derive(Debug, Drop)]
+#[derive(Drop)]
 pub struct Alt<L, V> {
     /// What it is for.
     pub head: Head,
@@ -127,7 +127,6 @@ pub struct Alt<L, V> {
 
 /// An expression.
 #[cycle(ast)]
-#[derive(Debug)]
 pub enum Expr<L, V> {
     /// A variable.
     Var(V),

@@ -5,7 +5,6 @@
 mod boxes;
 mod co;
 mod copy;
-mod copy_module;
 mod expr;
 mod fault;
 pub mod generic;
@@ -22,8 +21,7 @@ mod ty;
 mod words;
 
 pub use boxes::{boxed, boxed_copy};
-pub use copy::Variable;
-pub use copy_module::{copy_params, copy_plains, copy_words};
+pub use copy::{Variable, copy_binders, copy_params, copy_plains, copy_words};
 pub use expr::{Head, PrimOp};
 pub use fault::{Fault, FaultKind, Memory, Place, Refusal};
 pub use instances::{

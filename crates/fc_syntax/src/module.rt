@@ -25,7 +25,7 @@ pub struct Plain {
 }
 
 /// A constructor of a data type.
-#[derive(Debug, Drop)]
+#[derive(Drop)]
 pub struct ConDecl<L> {
     /// Its word.
     pub name: Text,
@@ -36,7 +36,7 @@ pub struct ConDecl<L> {
 }
 
 /// A declaration of a module.
-#[derive(Debug, Drop)]
+#[derive(Drop)]
 pub enum Decl<L, V> {
     /// `(data T (param..) constructor..)`
     DataType(Text, Seq<Param>, Seq<ConDecl<L>>),
@@ -53,7 +53,7 @@ pub enum Decl<L, V> {
 }
 
 /// A module: its header and its declarations in their order.
-#[derive(Debug, Drop)]
+#[derive(Drop)]
 pub struct Module<L, V> {
     /// Its name.
     pub name: Text,

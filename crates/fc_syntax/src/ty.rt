@@ -61,7 +61,6 @@ impl Role {
 
 /// A type, whose variables are `L`: their words in a named tree, distances to their binders in a nameless one. A binder keeps its
 /// word in both.
-#[derive(Debug)]
 pub enum Ty<L> {
     /// A type variable.
     Var(L),

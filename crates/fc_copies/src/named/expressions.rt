@@ -1,0 +1,177 @@
+//! Copies of expressions and of what stands in them, of the named tree.
+ghost use Rattle.std.specs.Prelude.{◌≡◌, IfOk};
+ghost use Rattle.fc_syntax.specs.View.{expr_of, exprs_of, arg_of, args_of, bind_of, binds_of, join_of, joins_of, alt_of, alts_of};
+
+use fc_syntax::{Alt, Arg, Bind, Expr, JoinBind, Memory, Seq, boxed_copy, copy_binders};
+use std::alloc::Global;
+
+/// The same expression again. Fails only where memory runs out.
+#[cycle(copies)]
+#[tactic(auto, using(fc_syntax::proofs::View::view_rules))]
+pub fn copy_expr(alloc: Global, e: &Expr) -> Result<Expr, Memory>
+    ensures { IfOk result (λ r. expr_of r ≡ expr_of e.now) }
+{
+    match e {
+        Expr::Var(v) => Ok(Expr::Var(v.copy(alloc)?)),
+        Expr::Lit(n) => Ok(Expr::Lit(*n)),
+        Expr::App(f, a) => {
+            let f = boxed_copy(alloc, copy_expr(alloc, f))?;
+            let a = boxed_copy(alloc, copy_arg(alloc, a))?;
+            Ok(Expr::App(f, a))
+        }
+        Expr::Lam(b, e) => {
+            let b = boxed_copy(alloc, b.copy(alloc))?;
+            let e = boxed_copy(alloc, copy_expr(alloc, e))?;
+            Ok(Expr::Lam(b, e))
+        }
+        Expr::Let(recursive, binds, e) => {
+            let binds = copy_binds(alloc, binds.as_slice())?;
+            let e = boxed_copy(alloc, copy_expr(alloc, e))?;
+            Ok(Expr::Let(*recursive, binds, e))
+        }
+        Expr::Case(s, x, t, u, alts) => {
+            let s = boxed_copy(alloc, copy_expr(alloc, s))?;
+            let x = x.copy(alloc)?;
+            let t = t.copy(alloc)?;
+            let u = u.copy(alloc)?;
+            let alts = copy_alts(alloc, alts.as_slice())?;
+            Ok(Expr::Case(s, x, t, u, alts))
+        }
+        Expr::Cast(e, g) => {
+            let e = boxed_copy(alloc, copy_expr(alloc, e))?;
+            let g = g.copy(alloc)?;
+            Ok(Expr::Cast(e, g))
+        }
+        Expr::Con(name, args) => {
+            let name = name.copy(alloc)?;
+            let args = copy_args(alloc, args.as_slice())?;
+            Ok(Expr::Con(name, args))
+        }
+        Expr::Prim(op, args) => {
+            let args = copy_exprs(alloc, args.as_slice())?;
+            Ok(Expr::Prim(*op, args))
+        }
+        Expr::Fail(t) => Ok(Expr::Fail(t.copy(alloc)?)),
+        Expr::Join(recursive, t, binds, e) => {
+            let t = t.copy(alloc)?;
+            let binds = copy_joins(alloc, binds.as_slice())?;
+            let e = boxed_copy(alloc, copy_expr(alloc, e))?;
+            Ok(Expr::Join(*recursive, t, binds, e))
+        }
+        Expr::Jump(j, args) => {
+            let j = j.copy(alloc)?;
+            let args = copy_args(alloc, args.as_slice())?;
+            Ok(Expr::Jump(j, args))
+        }
+    }
+}
+
+/// The same argument again. Fails only where memory runs out.
+#[cycle(copies)]
+#[tactic(auto, using(fc_syntax::proofs::View::view_rules))]
+pub fn copy_arg(alloc: Global, a: &Arg) -> Result<Arg, Memory>
+    ensures { IfOk result (λ r. arg_of r ≡ arg_of a.now) }
+{
+    match a {
+        Arg::Term(e) => Ok(Arg::Term(copy_expr(alloc, e)?)),
+        Arg::OfType(t) => Ok(Arg::OfType(t.copy(alloc)?)),
+        Arg::OfCo(g) => Ok(Arg::OfCo(g.copy(alloc)?)),
+    }
+}
+
+/// The same binding again. Fails only where memory runs out.
+#[cycle(copies)]
+pub fn copy_bind(alloc: Global, b: &Bind) -> Result<Bind, Memory>
+    ensures { IfOk result (λ r. bind_of r ≡ bind_of b.now) }
+{
+    let name = b.name.copy(alloc)?;
+    let ty = b.ty.copy(alloc)?;
+    let rhs = copy_expr(alloc, &b.rhs)?;
+    Ok(Bind { name, ty, rhs })
+}
+
+/// The same join point again. Fails only where memory runs out.
+#[cycle(copies)]
+pub fn copy_join(alloc: Global, b: &JoinBind) -> Result<JoinBind, Memory>
+    ensures { IfOk result (λ r. join_of r ≡ join_of b.now) }
+{
+    let name = b.name.copy(alloc)?;
+    let params = copy_binders(alloc, b.params.as_slice())?;
+    let rhs = copy_expr(alloc, &b.rhs)?;
+    Ok(JoinBind { name, params, rhs })
+}
+
+/// The same alternative again. Fails only where memory runs out.
+#[cycle(copies)]
+pub fn copy_alt(alloc: Global, a: &Alt) -> Result<Alt, Memory>
+    ensures { IfOk result (λ r. alt_of r ≡ alt_of a.now) }
+{
+    let head = a.head.copy(alloc)?;
+    let binders = copy_binders(alloc, a.binders.as_slice())?;
+    let body = copy_expr(alloc, &a.body)?;
+    Ok(Alt {
+        head,
+        binders,
+        body,
+    })
+}
+
+#[cycle(copies)]
+#[tactic(auto, using(fc_syntax::proofs::Snoc::exprs_step))]
+fn copy_exprs(alloc: Global, items: &[Expr]) -> Result<Seq<Expr>, Memory>
+    ensures { IfOk result (λ s. exprs_of s ≡ exprs_of items.now) }
+{
+    let mut all = Seq::new(alloc);
+    for x in items {
+        all.push(copy_expr(alloc, x)?)?;
+    }
+    Ok(all)
+}
+
+#[cycle(copies)]
+#[tactic(auto, using(fc_syntax::proofs::Snoc::args_step))]
+fn copy_args(alloc: Global, items: &[Arg]) -> Result<Seq<Arg>, Memory>
+    ensures { IfOk result (λ s. args_of s ≡ args_of items.now) }
+{
+    let mut all = Seq::new(alloc);
+    for x in items {
+        all.push(copy_arg(alloc, x)?)?;
+    }
+    Ok(all)
+}
+
+#[cycle(copies)]
+#[tactic(auto, using(fc_syntax::proofs::Snoc::binds_step))]
+fn copy_binds(alloc: Global, items: &[Bind]) -> Result<Seq<Bind>, Memory>
+    ensures { IfOk result (λ s. binds_of s ≡ binds_of items.now) }
+{
+    let mut all = Seq::new(alloc);
+    for x in items {
+        all.push(copy_bind(alloc, x)?)?;
+    }
+    Ok(all)
+}
+
+#[cycle(copies)]
+#[tactic(auto, using(fc_syntax::proofs::Snoc::joins_step))]
+fn copy_joins(alloc: Global, items: &[JoinBind]) -> Result<Seq<JoinBind>, Memory>
+    ensures { IfOk result (λ s. joins_of s ≡ joins_of items.now) }
+{
+    let mut all = Seq::new(alloc);
+    for x in items {
+        all.push(copy_join(alloc, x)?)?;
+    }
+    Ok(all)
+}
+
+#[cycle(copies)]
+#[tactic(auto, using(fc_syntax::proofs::Snoc::alts_step))]
+fn copy_alts(alloc: Global, items: &[Alt]) -> Result<Seq<Alt>, Memory>
+    ensures { IfOk result (λ s. alts_of s ≡ alts_of items.now) }
+{
+    let mut all = Seq::new(alloc);
+    for x in items {
+        all.push(copy_alt(alloc, x)?)?;
+    }
+    Ok(all)
+}

@@ -1,0 +1,5 @@
+pub mod Composed
+pub mod Delayed
+mod Lifting
+mod Lists
+mod Pieces
