@@ -12,7 +12,7 @@ use Rattle.fc_build.specs.declared.prepare.Stop.TheVariants as stop
 use Rattle.fc_build.specs.declared.product.Step as rust
 use Rattle.fc_load.specs.Answers.{IsReached}
 use Rattle.fc_build.specs.Judging.{IsReady}
-use Rattle.fc_build.specs.Lines.{refusal_line}
+use Rattle.fc_refusals.specs.Lines.{refusal_line}
 use Rattle.fc_build.specs.Product.{AreSteps, Step}
 use Rattle.fc_build.specs.Delivering.{steps_in}
 

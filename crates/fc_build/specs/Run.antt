@@ -11,7 +11,8 @@ use Rattle.fc_model.specs.Linting.{SetLints}
 use Rattle.fc_model.specs.Planning.{build_order}
 use Rattle.fc_model.specs.Texts.{Spells, SpellsInterface}
 use Rattle.fc_words.specs.Asking.{Order, Building, Linting}
-use Rattle.fc_build.specs.Lines.{Gets, memory_line, read_fault_line, refusal_line, write_fault_line}
+use Rattle.fc_build.specs.Lines.{Gets, memory_line, read_fault_line, write_fault_line}
+use Rattle.fc_refusals.specs.Lines.{refusal_line}
 use Rattle.fc_build.specs.Meaning.{KeepsMeaning}
 use Rattle.fc_build.specs.Preparing.{FailsToRead, HasFault, IsProduct}
 use Rattle.fc_build.specs.Product.{IsNameAmong, Step, Stopped, StopsAt, TakesSome, WritesSome, all_files, all_lines, core_name, interface_written, put_all}

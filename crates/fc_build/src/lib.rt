@@ -6,7 +6,6 @@ mod judge;
 mod lines;
 mod prepare;
 mod product;
-mod refusal;
 mod top;
 
 pub use top::run;

@@ -5,8 +5,8 @@ ghost use Rattle.fc_build.specs.Preparing.{Prepares, StopsAtFault};
 
 use crate::judge::{Judged, judge};
 use crate::product::{Step, steps_for};
-use crate::refusal::refusal_line;
 use fc_files::Files;
+use fc_refusals::refusal_line;
 use fc_syntax::Fault;
 use fc_words::{Unasked, request_of};
 use std::alloc::{AllocError, Global};

@@ -7,6 +7,7 @@ ghost use Rattle.fc_nameless_measures.specs.Depths.{decls_depth};
 use crate::expressions::measures_of_expr;
 use crate::measures::{Measures, NOTHING, around, beside};
 use crate::types::{of_binders, of_type, of_types};
+use fc_numbers::number;
 use fc_syntax::{Memory, NConDecl, NDecl, NExpr, NModule, NTy};
 
 /// How large so many parameters are together.
@@ -15,14 +16,12 @@ fn of_parameters(count: usize) -> Result<Measures, Memory>
     ensures size { IfOk result (λ m. m.size ≡ count) }
     ensures depth { IfOk result (λ m. m.depth ≡ min count 1) }
 {
-    match u32::try_from(count) {
-        Ok(size) => Ok(Measures {
-            nodes: 0,
-            size,
-            depth: size.min(1),
-        }),
-        Err(_) => Err(Memory),
-    }
+    let size = number(count)?;
+    Ok(Measures {
+        nodes: 0,
+        size,
+        depth: size.min(1),
+    })
 }
 
 /// How large a constructor is; it has no nodes.

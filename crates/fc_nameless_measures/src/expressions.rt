@@ -5,8 +5,9 @@ ghost use Rattle.fc_syntax.specs.Measures.{alt_depth, alt_nodes, alt_size, alter
 ghost use Rattle.fc_syntax.specs.Measures.{bind_depth, bind_nodes, bind_size, binds_depth, binds_nodes, binds_size, expr_depth, expr_size, exprs_depth, exprs_nodes, exprs_size, field_nodes, fields_nodes};
 ghost use Rattle.fc_syntax.specs.Measures.{is_trivial as is_trivial_term, join_depth, join_nodes, join_size, joins_depth, joins_nodes, joins_size, nodes_of, value_count};
 
-use crate::measures::{Measures, NOTHING, around, beside, sum, with_nodes};
+use crate::measures::{Measures, NOTHING, around, beside, with_nodes};
 use crate::types::{of_binder, of_binders, of_coercion, of_type};
+use fc_numbers::sum;
 use fc_syntax::{Head, Memory, NAlt, NArg, NBind, NBinder, NExpr, NJoinBind};
 
 /// Whether an expression is a variable, a literal, or one of these under casts and applications to types.

@@ -1,12 +1,14 @@
 //! Numbers that tell how large a piece is.
 ghost use Rattle.std.specs.Prelude.{◌≡◌, ◌+◌, max, IfOk};
 
+use fc_numbers::sum;
 use fc_syntax::Memory;
 
 /// How large a piece is. Each number has 32 bits; a piece that would have more is answered as out of memory.
 #[derive(Clone, Copy, Debug)]
 pub struct Measures {
-    /// How many terms it is made of; types, coercions and casts count nothing.
+    /// How many terms it is made of, by the count that decides which right sides interfaces tell: types and casts count nothing, a coercion counts where it is
+    /// an argument.
     pub nodes: u32,
     /// How many pieces it is made of, with itself.
     pub size: u32,
@@ -20,16 +22,6 @@ pub(crate) const NOTHING: Measures = Measures {
     size: 0,
     depth: 0,
 };
-
-/// A sum. Fails where it has no 32 bits.
-pub(crate) fn sum(a: u32, b: u32) -> Result<u32, Memory>
-    ensures { IfOk result (λ n. n ≡ a + b) }
-{
-    match a.checked_add(b) {
-        Some(n) => Ok(n),
-        None => Err(Memory),
-    }
-}
 
 /// Those of two pieces that stand beside each other.
 pub(crate) fn beside(a: Measures, b: Measures) -> Result<Measures, Memory>

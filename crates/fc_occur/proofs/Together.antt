@@ -1,10 +1,6 @@
--- Pieces that are counted together, and what a call answers where what it is said of is the same.
-use Rattle.std.proofs.Common.{◌≡◌, ◌<◌, ◌+◌, ℕ, suc, refl, sym, ap, ◌∙◌, drop, get_or, List, [], ◌∷◌, length, Result, Ok, Err, IfOk, Bool, false, if◌then◌else◌}
+-- Pieces that are counted together.
+use Rattle.std.proofs.Common.{◌≡◌, ◌<◌, ◌+◌, ℕ, refl, sym, ap, ◌∙◌, drop, get_or, List, ◌∷◌, length, Bool, false, if◌then◌else◌}
 use Rattle.std.proofs.lemmas.List.{drop_more}
-use Rattle.fc_syntax.specs.declared.expr.Bind as RustBind
-use Rattle.fc_syntax.specs.declared.expr.JoinBind as RustJoin
-use Rattle.fc_syntax.specs.declared.ty.Ref.{Ref}
-use Rattle.fc_model.specs.NamelessView.{nbinds_of, njoins_of}
 use Rattle.fc_model.specs.Nameless.{NTy, NExpr, NLet, NCase, NJoin, NBinds, NJoins, NAlts}
 use Rattle.fc_model.specs.Replacing.{bind_count, join_count}
 use Rattle.fc_rows.specs.Occurrences.{Sought, and_further, behind_joins, behind_values, in_alts, in_binds, in_joins, inside, is_dead, occurrences}
@@ -42,18 +38,6 @@ together_none OnceInside = refl
 together_none Many = refl
 
 pub ruleset together_rules = (together_again, together_none)
-
-pub if_ok : {X Z : Type 0} (r : Result X Z) (a b : X) → a ≡ b → IfOk r (λ x. x ≡ a) → IfOk r (λ x. x ≡ b)
-if_ok (Ok x) a b is h = h ∙ is
-if_ok (Err y) a b is h = tt
-
-pub binds_counted : (bs : List (RustBind.Bind ℕ Ref)) → bind_count (nbinds_of bs) ≡ length bs
-binds_counted [] = refl
-binds_counted (b ∷ bs) = ap (λ n. suc n) (binds_counted bs)
-
-pub joins_counted : (js : List (RustJoin.JoinBind ℕ Ref)) → join_count (njoins_of js) ≡ length js
-joins_counted [] = refl
-joins_counted (j ∷ js) = ap (λ n. suc n) (joins_counted js)
 
 -- one item more of a list is counted
 pub counted_step : {X : Type 0} (f : List X → Occurrence) (g : X → Occurrence) → ((x : X) (xs : List X) → f (x ∷ xs) ≡ and_further (g x) (f xs)) → (items : List X) (i : ℕ) (x : X)

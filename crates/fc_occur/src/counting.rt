@@ -1,30 +1,14 @@
 //! How often what is sought occurs in an expression.
-ghost use Rattle.std.specs.Prelude.{◌≡◌, ◌+◌, if◌then◌else◌, IfOk};
+ghost use Rattle.std.specs.Prelude.{◌≡◌, if◌then◌else◌, IfOk};
 ghost use Rattle.fc_model.specs.Nameless.{NApp, NCase, NJoin, NLet};
 ghost use Rattle.fc_model.specs.NamelessView.{nalts_of, narg_of, nargs_of, nbinder_of, nbinders_of, nbinds_of, nexpr_of, nexprs_of, njoins_of, nty_of};
 ghost use Rattle.fc_rows.specs.Occurrences.{behind, behind_all, below_lambda, in_alts, in_arg, in_args, in_binds, in_exprs, in_field, in_fields, in_joins, innermost_joins, innermost_values, inside, is_local as is_variable, occurrences};
 ghost use Rattle.fc_occur.specs.Spans.{bound_values, sought_of};
 
 use crate::sought::{NO_SPAN, Sought, Span};
+use fc_numbers::{deeper, number, sum};
 use fc_rows::Occurrence;
 use fc_syntax::{Memory, NAlt, NArg, NBind, NBinder, NExpr, NJoinBind, NTy, Ref};
-
-/// A number of parts. Fails where it has no 32 bits.
-fn number(count: usize) -> Result<u32, Memory>
-    ensures { IfOk result (λ n. n ≡ count) }
-{
-    match u32::try_from(count) {
-        Ok(count) => Ok(count),
-        Err(_) => Err(Memory),
-    }
-}
-
-/// How deep the calls may still go, one level further in. Fails where they may not.
-fn less(fuel: u32) -> Result<u32, Memory>
-    ensures { IfOk result (λ n. n + 1 ≡ fuel) }
-{
-    if fuel == 0 { Err(Memory) } else { Ok(fuel - 1) }
-}
 
 /// Whether an expression is a variable of a value.
 #[tactic(auto, using(fc_syntax::proofs::View::view_rules))]
@@ -43,7 +27,7 @@ fn is_local(e: &NExpr) -> bool
 fn in_expression(e: &NExpr, sought: Sought, fuel: u32) -> Result<Occurrence, Memory>
     ensures { IfOk result (λ n. n ≡ occurrences (sought_of sought) (nexpr_of e.now)) }
 {
-    let fuel = less(fuel)?;
+    let fuel = deeper(fuel)?;
     match e {
         NExpr::Var(Ref::Local(distance)) => Ok(sought.value(*distance)),
         NExpr::Var(Ref::Top(_)) => Ok(Occurrence::Dead),
@@ -79,7 +63,7 @@ fn in_expression(e: &NExpr, sought: Sought, fuel: u32) -> Result<Occurrence, Mem
 fn in_application(f: &NExpr, a: &NArg, sought: Sought, fuel: u32) -> Result<Occurrence, Memory>
     ensures { IfOk result (λ n. n ≡ occurrences (sought_of sought) (NApp (nexpr_of f.now) (narg_of a.now))) }
 {
-    let fuel = less(fuel)?;
+    let fuel = deeper(fuel)?;
     let first = in_expression(f, sought, fuel)?;
     if first.is_many() {
         return Ok(Occurrence::Many);
@@ -98,7 +82,7 @@ fn in_let(
 ) -> Result<Occurrence, Memory>
     ensures { IfOk result (λ n. n ≡ occurrences (sought_of sought) (NLet recursive (nbinds_of binds.now) (nexpr_of body.now))) }
 {
-    let fuel = less(fuel)?;
+    let fuel = deeper(fuel)?;
     let inner = sought.behind_values(number(binds.len())?)?;
     let first = in_right_sides(recursive, binds, inner, sought, fuel)?;
     if first.is_many() {
@@ -118,7 +102,7 @@ fn in_right_sides(
 ) -> Result<Occurrence, Memory>
     ensures { IfOk result (λ n. n ≡ in_binds (if recursive then sought_of inner else sought_of sought) (nbinds_of binds.now)) }
 {
-    let fuel = less(fuel)?;
+    let fuel = deeper(fuel)?;
     if recursive {
         in_group(binds, inner, fuel)
     } else {
@@ -138,7 +122,7 @@ fn in_case(
 ) -> Result<Occurrence, Memory>
     ensures { IfOk result (λ n. n ≡ occurrences (sought_of sought) (NCase (nexpr_of scrutinee.now) (nty_of t.now) (nty_of u.now) (nalts_of alts.now))) }
 {
-    let fuel = less(fuel)?;
+    let fuel = deeper(fuel)?;
     let first = in_expression(scrutinee, sought, fuel)?;
     if first.is_many() {
         return Ok(Occurrence::Many);
@@ -159,7 +143,7 @@ fn in_join(
 ) -> Result<Occurrence, Memory>
     ensures { IfOk result (λ n. n ≡ occurrences (sought_of sought) (NJoin recursive (nty_of t.now) (njoins_of joins.now) (nexpr_of body.now))) }
 {
-    let fuel = less(fuel)?;
+    let fuel = deeper(fuel)?;
     let inner = sought.behind_joins(number(joins.len())?)?;
     let first = in_join_sides(recursive, joins, inner, sought, fuel)?;
     if first.is_many() {
@@ -178,7 +162,7 @@ fn in_lambda(
 ) -> Result<Occurrence, Memory>
     ensures { IfOk result (λ n. n ≡ below_lambda (nbinder_of binder.now) (occurrences (behind (nbinder_of binder.now) (sought_of sought)) (nexpr_of body.now))) }
 {
-    let fuel = less(fuel)?;
+    let fuel = deeper(fuel)?;
     match binder {
         NBinder::Value(_, _) => {
             let inner = sought.behind_values(1)?;
@@ -195,7 +179,7 @@ fn in_lambda(
 fn in_argument(a: &NArg, sought: Sought, fuel: u32) -> Result<Occurrence, Memory>
     ensures { IfOk result (λ n. n ≡ in_arg (sought_of sought) (narg_of a.now)) }
 {
-    let fuel = less(fuel)?;
+    let fuel = deeper(fuel)?;
     match a {
         NArg::Term(e) => in_expression(e, sought, fuel),
         NArg::OfType(_) => Ok(Occurrence::Dead),
@@ -209,7 +193,7 @@ fn in_argument(a: &NArg, sought: Sought, fuel: u32) -> Result<Occurrence, Memory
 fn in_constructor_argument(a: &NArg, sought: Sought, fuel: u32) -> Result<Occurrence, Memory>
     ensures { IfOk result (λ n. n ≡ in_field (sought_of sought) (narg_of a.now)) }
 {
-    let fuel = less(fuel)?;
+    let fuel = deeper(fuel)?;
     match a {
         NArg::Term(e) => {
             let found = in_expression(e, sought, fuel)?;
@@ -226,7 +210,7 @@ fn in_constructor_argument(a: &NArg, sought: Sought, fuel: u32) -> Result<Occurr
 fn in_arguments(items: &[NArg], sought: Sought, fuel: u32) -> Result<Occurrence, Memory>
     ensures { IfOk result (λ n. n ≡ in_args (sought_of sought) (nargs_of items.now)) }
 {
-    let fuel = less(fuel)?;
+    let fuel = deeper(fuel)?;
     let mut all = Occurrence::Dead;
     for x in items {
         if all.is_many() {
@@ -243,7 +227,7 @@ fn in_arguments(items: &[NArg], sought: Sought, fuel: u32) -> Result<Occurrence,
 fn in_constructor(items: &[NArg], sought: Sought, fuel: u32) -> Result<Occurrence, Memory>
     ensures { IfOk result (λ n. n ≡ in_fields (sought_of sought) (nargs_of items.now)) }
 {
-    let fuel = less(fuel)?;
+    let fuel = deeper(fuel)?;
     let mut all = Occurrence::Dead;
     for x in items {
         if all.is_many() {
@@ -260,7 +244,7 @@ fn in_constructor(items: &[NArg], sought: Sought, fuel: u32) -> Result<Occurrenc
 fn in_expressions(items: &[NExpr], sought: Sought, fuel: u32) -> Result<Occurrence, Memory>
     ensures { IfOk result (λ n. n ≡ in_exprs (sought_of sought) (nexprs_of items.now)) }
 {
-    let fuel = less(fuel)?;
+    let fuel = deeper(fuel)?;
     let mut all = Occurrence::Dead;
     for x in items {
         if all.is_many() {
@@ -277,7 +261,7 @@ fn in_expressions(items: &[NExpr], sought: Sought, fuel: u32) -> Result<Occurren
 fn in_group(items: &[NBind], sought: Sought, fuel: u32) -> Result<Occurrence, Memory>
     ensures { IfOk result (λ n. n ≡ in_binds (sought_of sought) (nbinds_of items.now)) }
 {
-    let fuel = less(fuel)?;
+    let fuel = deeper(fuel)?;
     let mut all = Occurrence::Dead;
     for x in items {
         if all.is_many() {
@@ -295,10 +279,7 @@ fn value_binders(binders: &[NBinder]) -> Result<u32, Memory>
     let mut count = 0u32;
     for binder in binders {
         if matches!(binder, NBinder::Value(_, _)) {
-            count = match count.checked_add(1) {
-                Some(more) => more,
-                None => return Err(Memory),
-            };
+            count = sum(count, 1)?;
         }
     }
     Ok(count)
@@ -314,7 +295,7 @@ fn in_scoped(
 ) -> Result<Occurrence, Memory>
     ensures { IfOk result (λ n. n ≡ occurrences (behind_all (nbinders_of binders.now) (sought_of sought)) (nexpr_of body.now)) }
 {
-    let fuel = less(fuel)?;
+    let fuel = deeper(fuel)?;
     let inner = sought.behind_values(value_binders(binders)?)?;
     in_expression(body, inner, fuel)
 }
@@ -325,7 +306,7 @@ fn in_scoped(
 fn in_join_points(items: &[NJoinBind], sought: Sought, fuel: u32) -> Result<Occurrence, Memory>
     ensures { IfOk result (λ n. n ≡ in_joins (sought_of sought) (njoins_of items.now)) }
 {
-    let fuel = less(fuel)?;
+    let fuel = deeper(fuel)?;
     let mut all = Occurrence::Dead;
     for x in items {
         if all.is_many() {
@@ -347,7 +328,7 @@ fn in_join_sides(
 ) -> Result<Occurrence, Memory>
     ensures { IfOk result (λ n. n ≡ (if recursive then inside (in_joins (sought_of inner) (njoins_of joins.now)) else in_joins (sought_of sought) (njoins_of joins.now))) }
 {
-    let fuel = less(fuel)?;
+    let fuel = deeper(fuel)?;
     if recursive {
         Ok(in_join_points(joins, inner, fuel)?.inside())
     } else {
@@ -361,7 +342,7 @@ fn in_join_sides(
 fn in_alternatives(items: &[NAlt], sought: Sought, fuel: u32) -> Result<Occurrence, Memory>
     ensures { IfOk result (λ n. n ≡ in_alts (sought_of sought) (nalts_of items.now)) }
 {
-    let fuel = less(fuel)?;
+    let fuel = deeper(fuel)?;
     let mut all = Occurrence::Dead;
     for x in items {
         if all.is_many() {
@@ -372,8 +353,8 @@ fn in_alternatives(items: &[NAlt], sought: Sought, fuel: u32) -> Result<Occurren
     Ok(all)
 }
 
-/// How often so many of the innermost variables of values occur in an expression together; it ends at the second occurrence. Takes no memory.
-/// Fails only where a distance has no 32 bits, or the expression is as deep as that.
+/// How often so many of the innermost variables of values occur in an expression together; it ends at the second occurrence. Takes no memory. Fails only
+/// where a distance or a number of parts has no 32 bits, or calls would go 2^32 deep; each is answered as out of memory.
 pub fn occurrences_of_innermost(e: &NExpr, count: u32) -> Result<Occurrence, Memory>
     ensures { IfOk result (λ n. n ≡ occurrences (innermost_values count) (nexpr_of e.now)) }
 {
@@ -384,8 +365,8 @@ pub fn occurrences_of_innermost(e: &NExpr, count: u32) -> Result<Occurrence, Mem
     in_expression(e, sought, u32::MAX)
 }
 
-/// How often so many of the innermost join points are jumped to in an expression together; it ends at the second jump. Fails only where a distance has no 32 bits;
-/// takes no memory.
+/// How often so many of the innermost join points are jumped to in an expression together; it ends at the second jump. Takes no memory. Fails only where
+/// a distance or a number of parts has no 32 bits, or calls would go 2^32 deep; each is answered as out of memory.
 pub fn jumps_to_innermost(e: &NExpr, count: u32) -> Result<Occurrence, Memory>
     ensures { IfOk result (λ n. n ≡ occurrences (innermost_joins count) (nexpr_of e.now)) }
 {

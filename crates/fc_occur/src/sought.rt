@@ -3,6 +3,7 @@ ghost use Rattle.std.specs.Prelude.{◌≡◌, ◌+◌, IfOk};
 ghost use Rattle.fc_rows.specs.Occurrences.{behind_joins as spec_behind_joins, behind_values as spec_behind_values};
 ghost use Rattle.fc_occur.specs.Spans.{sought_of, within};
 
+use fc_numbers::sum;
 use fc_rows::Occurrence;
 use fc_syntax::Memory;
 
@@ -35,10 +36,8 @@ impl Span {
     fn behind(self, binders: u32) -> Result<Span, Memory>
         ensures { IfOk result (λ s. s ≡ record self { from = self.from + binders }) }
     {
-        match self.from.checked_add(binders) {
-            Some(from) => Ok(Span { from, ..self }),
-            None => Err(Memory),
-        }
+        let from = sum(self.from, binders)?;
+        Ok(Span { from, ..self })
     }
 }
 

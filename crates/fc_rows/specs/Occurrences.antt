@@ -68,18 +68,7 @@ below_lambda (NBCo r t u) d = inside d
 
 abbrev pub is_local : NExpr → Bool
 is_local (NLocal i) = true
-is_local (NVar n) = false
-is_local (NLit n) = false
-is_local (NApp f a) = false
-is_local (NLam b e) = false
-is_local (NLet r bs e) = false
-is_local (NCase e t v alts) = false
-is_local (NCast e g) = false
-is_local (NCon n args) = false
-is_local (NPrim op es) = false
-is_local (NFail t) = false
-is_local (NJoin r t js e) = false
-is_local (NJump i args) = false
+is_local _ = false
 
 abbrev mutual
   pub occurrences : Sought → NExpr → Occurrence

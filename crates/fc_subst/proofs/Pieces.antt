@@ -1,28 +1,8 @@
--- What a call answers, and the pieces of an expression, where their parts are the same.
-use Rattle.std.proofs.Common.{◌≡◌, ℕ, suc, refl, ap, ◌∙◌, Bool, if◌then◌else◌, List, [], ◌∷◌, length, Result, Ok, Err, IfOk}
+-- The pieces of an expression, where their parts are the same.
+use Rattle.std.proofs.Common.{◌≡◌, ℕ, refl, ap, ◌∙◌, Bool, if◌then◌else◌}
 use Rattle.fc_syntax.specs.Tree.{Kind}
-use Rattle.fc_syntax.specs.View.{co_of, expr_of}
-use Rattle.fc_syntax.specs.declared.ty.Ref.{Ref}
-use Rattle.fc_syntax.specs.declared.co.Co as G
-use Rattle.fc_syntax.specs.declared.expr.Bind as RustBind
-use Rattle.fc_syntax.specs.declared.expr.Expr as E
-use Rattle.fc_syntax.specs.declared.expr.JoinBind as RustJoin
 use Rattle.fc_model.specs.Nameless.{NTy, NCo, NExpr, NAlts, NBinds, NJoins, NCase, NLet, NJoin, NGAll}
-use Rattle.fc_model.specs.NamelessView.{nbinds_of, nco_of, nexpr_of, njoins_of}
 use Rattle.fc_model.specs.Replacing.{Substitution, below_joins, below_values, bind_count, expressions, join_count, put_in_binds, put_in_joins, replaced, whole_coercions}
-use Rattle.fc_model.specs.Worded.{WExpr, WCo, bare_expr, bare_co}
-
-pub if_ok : {X Y Z : Type 0} (r : Result X Z) (f : X → Y) (a b : Y) → a ≡ b → IfOk r (λ x. f x ≡ a) → IfOk r (λ x. f x ≡ b)
-if_ok (Ok x) f a b is h = h ∙ is
-if_ok (Err y) f a b is h = tt
-
-pub if_ok_bare : {Z : Type 0} (r : Result (E.Expr ℕ Ref) Z) (w : WExpr) (b : NExpr) → bare_expr w ≡ b → IfOk r (λ e. expr_of e ≡ w) → IfOk r (λ e. nexpr_of e ≡ b)
-if_ok_bare (Ok e) w b is h = ap bare_expr h ∙ is
-if_ok_bare (Err y) w b is h = tt
-
-pub if_ok_bare_co : {Z : Type 0} (r : Result (G.Co ℕ) Z) (w : WCo) (b : NCo) → bare_co w ≡ b → IfOk r (λ e. co_of e ≡ w) → IfOk r (λ e. nco_of e ≡ b)
-if_ok_bare_co (Ok e) w b is h = ap bare_co h ∙ is
-if_ok_bare_co (Err y) w b is h = tt
 
 pub case_same : {a b : NExpr} {t u v w : NTy} {x y : NAlts} → a ≡ b → t ≡ u → v ≡ w → x ≡ y → NCase a t v x ≡ NCase b u w y
 case_same h i j k = rw (h, i, j, k) refl
@@ -49,15 +29,3 @@ join_members_same o n js r x is h = h ∙ ap (λ m. put_in_joins expressions who
 
 pub join_body_same : (n m : ℕ) (r : Substitution) (e x : NExpr) → n ≡ m → x ≡ replaced (below_joins expressions whole_coercions n r) e → x ≡ replaced (below_joins expressions whole_coercions m r) e
 join_body_same n m r e x is h = h ∙ ap (λ k. replaced (below_joins expressions whole_coercions k r) e) is
-
-pub binds_counted : (bs : List (RustBind.Bind ℕ Ref)) → bind_count (nbinds_of bs) ≡ length bs
-binds_counted [] = refl
-binds_counted (b ∷ bs) = ap (λ n. suc n) (binds_counted bs)
-
-pub joins_counted : (js : List (RustJoin.JoinBind ℕ Ref)) → join_count (njoins_of js) ≡ length js
-joins_counted [] = refl
-joins_counted (j ∷ js) = ap (λ n. suc n) (joins_counted js)
-
-pub if_ok_number : {Z : Type 0} (r : Result ℕ Z) (a b : ℕ) → a ≡ b → IfOk r (λ x. x ≡ a) → IfOk r (λ x. x ≡ b)
-if_ok_number (Ok x) a b is h = h ∙ is
-if_ok_number (Err y) a b is h = tt

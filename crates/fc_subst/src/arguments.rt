@@ -10,7 +10,7 @@ use fc_syntax::{Memory, NArg, NExpr};
 use std::alloc::Global;
 
 /// An expression with arguments in place of the innermost binders, which stand together, the last one innermost; `replacement` says what stands in place of the
-/// variables outside of these. Fails only where memory runs out, or a distance has no 32 bits.
+/// variables outside of these. Fails only where memory runs out, a distance or a number of parts has no 32 bits, or calls would go 2^32 deep.
 pub fn substitute_arguments<'x>(
     alloc: Global,
     args: &'x [NArg],

@@ -8,8 +8,9 @@ ghost use Rattle.fc_model.specs.Substituting.{types_below};
 ghost use Rattle.fc_subst.specs.Replacements.{lifted_of, past_coercions, past_types, replacement_of};
 
 use crate::replacement::{Lifted, Replacement};
-use crate::shift::{NONE, Shift, less, sum};
+use crate::shift::{NO_BINDERS, Shift};
 use crate::types::type_with;
+use fc_numbers::{deeper, sum};
 use fc_syntax::{Kind, Memory, NCo, Seq, Text, boxed_copy};
 use std::alloc::Global;
 
@@ -33,7 +34,7 @@ fn coercion_at<'x>(
 ) -> Result<NCo, Memory>
     ensures { IfOk result (λ g. nco_of g ≡ renamed_coercion (past_types past) (past_coercions past) ((replacement_of replacement.now).coercions number)) }
 {
-    let fuel = less(fuel)?;
+    let fuel = deeper(fuel)?;
     match replacement {
         Replacement::Same => Ok(NCo::Var(sum(number, past.coercions)?)),
         Replacement::Past(by) => {
@@ -66,7 +67,7 @@ fn coercion_for<'x>(
 ) -> Result<NCo, Memory>
     ensures { IfOk result (λ g. nco_of g ≡ (lifted_of by.now).coercions number) }
 {
-    let fuel = less(fuel)?;
+    let fuel = deeper(fuel)?;
     let past = by.past;
     if number < past.coercions {
         Ok(variable(number))
@@ -80,11 +81,11 @@ fn coercion_for<'x>(
 fn shifted_coercion(alloc: Global, g: &NCo, past: Shift, fuel: u32) -> Result<NCo, Memory>
     ensures { IfOk result (λ r. nco_of r ≡ renamed_coercion (past_types past) (past_coercions past) (nco_of g.now)) }
 {
-    let fuel = less(fuel)?;
+    let fuel = deeper(fuel)?;
     let replacement = Replacement::Past(past);
     let by = Lifted {
         replacement: &replacement,
-        past: NONE,
+        past: NO_BINDERS,
     };
     coercion_with(alloc, g, &by, fuel)
 }
@@ -101,7 +102,7 @@ fn for_all_with<'x>(
 ) -> Result<NCo, Memory>
     ensures { IfOk result (λ r. nco_of r ≡ replaced_coercion (lifted_of by.now).types (lifted_of by.now).coercions (NGAll (kind_of kind.now) (nco_of g.now))) }
 {
-    let fuel = less(fuel)?;
+    let fuel = deeper(fuel)?;
     let a = a.copy(alloc)?;
     let kind = kind.copy(alloc)?;
     let g = coercion_below(alloc, g, &*by, fuel)?;
@@ -113,7 +114,7 @@ fn for_all_with<'x>(
 fn coercion_below<'x>(alloc: Global, g: &NCo, by: &'x Lifted<'x>, fuel: u32) -> Result<NCo, Memory>
     ensures { IfOk result (λ r. nco_of r ≡ replaced_coercion (types_below (lifted_of by.now).types) (λ i. whole_coercions.past_type ((lifted_of by.now).coercions i)) (nco_of g.now)) }
 {
-    let fuel = less(fuel)?;
+    let fuel = deeper(fuel)?;
     let below = by.below_type()?;
     coercion_with(alloc, g, &below, fuel)
 }
@@ -129,7 +130,7 @@ pub(crate) fn coercion_with<'x>(
 ) -> Result<NCo, Memory>
     ensures { IfOk result (λ r. nco_of r ≡ replaced_coercion (lifted_of by.now).types (lifted_of by.now).coercions (nco_of g.now)) }
 {
-    let fuel = less(fuel)?;
+    let fuel = deeper(fuel)?;
     match g {
         NCo::Var(number) => coercion_for(alloc, &*by, *number, fuel),
         NCo::Refl(role, t) => {
@@ -212,7 +213,7 @@ fn coercions_with<'x>(
 ) -> Result<Seq<NCo>, Memory>
     ensures { IfOk result (λ s. ncos_of s ≡ put_in_coercions whole_coercions (lifted_of by.now).types (lifted_of by.now).coercions (ncos_of items.now)) }
 {
-    let fuel = less(fuel)?;
+    let fuel = deeper(fuel)?;
     let mut all = Seq::new(alloc);
     for x in items {
         all.push(coercion_with(alloc, x, &*by, fuel)?)?;
@@ -220,8 +221,8 @@ fn coercions_with<'x>(
     Ok(all)
 }
 
-/// A coercion with what stands in place of each of its variables, those of its types among them. Fails only where memory runs out, or a distance has no 32
-/// bits.
+/// A coercion with what stands in place of each of its variables, those of its types among them. Fails only where memory runs out, a distance has no 32
+/// bits, or calls would go 2^32 deep.
 pub fn substitute_in_coercion<'x>(
     alloc: Global,
     g: &NCo,
@@ -231,7 +232,7 @@ pub fn substitute_in_coercion<'x>(
 {
     let by = Lifted {
         replacement: &*replacement,
-        past: NONE,
+        past: NO_BINDERS,
     };
     coercion_with(alloc, g, &by, u32::MAX)
 }

@@ -7,8 +7,9 @@ ghost use Rattle.fc_subst.specs.Replacements.{lifted_of, renaming_of, replacemen
 
 use crate::coercions::coercion_with;
 use crate::replacement::{Lifted, Replacement};
-use crate::shift::{NONE, Shift, less, number, sum};
+use crate::shift::{NO_BINDERS, Shift};
 use crate::types::type_with;
+use fc_numbers::{deeper, number, sum};
 use fc_syntax::{
     Memory, NAlt, NArg, NBind, NBinder, NExpr, NJoinBind, NTy, Ref, Seq, Text, boxed_copy,
 };
@@ -33,7 +34,7 @@ fn value_at<'x>(
 ) -> Result<NExpr, Memory>
     ensures { IfOk result (λ e. nexpr_of e ≡ renamed (renaming_of past) ((replacement_of replacement.now).values number)) }
 {
-    let fuel = less(fuel)?;
+    let fuel = deeper(fuel)?;
     match replacement {
         Replacement::Same => Ok(local(sum(number, past.values)?)),
         Replacement::Past(by) => {
@@ -61,7 +62,7 @@ fn value_at<'x>(
 fn value_for<'x>(alloc: Global, by: &'x Lifted<'x>, number: u32, fuel: u32) -> Result<NExpr, Memory>
     ensures { IfOk result (λ e. nexpr_of e ≡ (lifted_of by.now).values number) }
 {
-    let fuel = less(fuel)?;
+    let fuel = deeper(fuel)?;
     let past = by.past;
     if number < past.values {
         Ok(local(number))
@@ -75,11 +76,11 @@ fn value_for<'x>(alloc: Global, by: &'x Lifted<'x>, number: u32, fuel: u32) -> R
 fn shifted_expression(alloc: Global, e: &NExpr, past: Shift, fuel: u32) -> Result<NExpr, Memory>
     ensures { IfOk result (λ r. nexpr_of r ≡ renamed (renaming_of past) (nexpr_of e.now)) }
 {
-    let fuel = less(fuel)?;
+    let fuel = deeper(fuel)?;
     let replacement = Replacement::Past(past);
     let by = Lifted {
         replacement: &replacement,
-        past: NONE,
+        past: NO_BINDERS,
     };
     expression_with(alloc, e, &by, fuel)
 }
@@ -152,7 +153,7 @@ pub(crate) fn expression_with<'x>(
 ) -> Result<NExpr, Memory>
     ensures { IfOk result (λ r. nexpr_of r ≡ replaced (lifted_of by.now) (nexpr_of e.now)) }
 {
-    let fuel = less(fuel)?;
+    let fuel = deeper(fuel)?;
     match e {
         NExpr::Var(Ref::Local(number)) => value_for(alloc, &*by, *number, fuel),
         NExpr::Var(Ref::Top(name)) => Ok(NExpr::Var(Ref::Top(name.copy(alloc)?))),
@@ -214,7 +215,7 @@ fn let_with<'x>(
 ) -> Result<NExpr, Memory>
     ensures { IfOk result (λ r. nexpr_of r ≡ replaced (lifted_of by.now) (NLet recursive (nbinds_of binds.now) (nexpr_of e.now))) }
 {
-    let fuel = less(fuel)?;
+    let fuel = deeper(fuel)?;
     let count = number(binds.len())?;
     let members = group_with(alloc, recursive, binds, count, &*by, fuel)?;
     let body = expression_below_values(alloc, e, count, &*by, fuel)?;
@@ -235,7 +236,7 @@ fn case_with<'x>(
 ) -> Result<NExpr, Memory>
     ensures { IfOk result (λ r. nexpr_of r ≡ replaced (lifted_of by.now) (NCase (nexpr_of s.now) (nty_of t.now) (nty_of u.now) (nalts_of alts.now))) }
 {
-    let fuel = less(fuel)?;
+    let fuel = deeper(fuel)?;
     let scrutinee = expression_with(alloc, s, &*by, fuel)?;
     let word = x.copy(alloc)?;
     let ty = type_with(alloc, t, &*by, fuel)?;
@@ -257,7 +258,7 @@ fn join_with<'x>(
 ) -> Result<NExpr, Memory>
     ensures { IfOk result (λ r. nexpr_of r ≡ replaced (lifted_of by.now) (NJoin recursive (nty_of t.now) (njoins_of joins.now) (nexpr_of e.now))) }
 {
-    let fuel = less(fuel)?;
+    let fuel = deeper(fuel)?;
     let count = number(joins.len())?;
     let ty = type_with(alloc, t, &*by, fuel)?;
     let members = join_group_with(alloc, recursive, joins, count, &*by, fuel)?;
@@ -271,7 +272,7 @@ fn join_with<'x>(
 fn argument_with<'x>(alloc: Global, a: &NArg, by: &'x Lifted<'x>, fuel: u32) -> Result<NArg, Memory>
     ensures { IfOk result (λ r. narg_of r ≡ put_in_arg expressions whole_coercions (lifted_of by.now) (narg_of a.now)) }
 {
-    let fuel = less(fuel)?;
+    let fuel = deeper(fuel)?;
     match a {
         NArg::Term(e) => {
             let e = expression_with(alloc, e, &*by, fuel)?;
@@ -299,7 +300,7 @@ fn expression_behind<'x>(
 ) -> Result<NExpr, Memory>
     ensures { IfOk result (λ r. nexpr_of r ≡ replaced (below_binder expressions whole_coercions (nbinder_of binder.now) (lifted_of by.now)) (nexpr_of e.now)) }
 {
-    let fuel = less(fuel)?;
+    let fuel = deeper(fuel)?;
     match binder {
         NBinder::Value(_, _) => {
             let below = by.below_values(1)?;
@@ -327,7 +328,7 @@ fn expression_below_values<'x>(
 ) -> Result<NExpr, Memory>
     ensures { IfOk result (λ r. nexpr_of r ≡ replaced (below_values expressions whole_coercions count (lifted_of by.now)) (nexpr_of e.now)) }
 {
-    let fuel = less(fuel)?;
+    let fuel = deeper(fuel)?;
     let below = by.below_values(count)?;
     expression_with(alloc, e, &below, fuel)
 }
@@ -343,7 +344,7 @@ fn expression_below_joins<'x>(
 ) -> Result<NExpr, Memory>
     ensures { IfOk result (λ r. nexpr_of r ≡ replaced (below_joins expressions whole_coercions count (lifted_of by.now)) (nexpr_of e.now)) }
 {
-    let fuel = less(fuel)?;
+    let fuel = deeper(fuel)?;
     let below = by.below_joins(count)?;
     expression_with(alloc, e, &below, fuel)
 }
@@ -360,7 +361,7 @@ fn group_with<'x>(
 ) -> Result<Seq<NBind>, Memory>
     ensures { IfOk result (λ r. nbinds_of r ≡ put_in_binds expressions whole_coercions (if recursive then below_values expressions whole_coercions count (lifted_of by.now) else lifted_of by.now) (nbinds_of binds.now)) }
 {
-    let fuel = less(fuel)?;
+    let fuel = deeper(fuel)?;
     if recursive {
         let below = by.below_values(count)?;
         binds_with(alloc, binds, &below, fuel)
@@ -381,7 +382,7 @@ fn join_group_with<'x>(
 ) -> Result<Seq<NJoinBind>, Memory>
     ensures { IfOk result (λ r. njoins_of r ≡ put_in_joins expressions whole_coercions (if recursive then below_joins expressions whole_coercions count (lifted_of by.now) else lifted_of by.now) (njoins_of joins.now)) }
 {
-    let fuel = less(fuel)?;
+    let fuel = deeper(fuel)?;
     if recursive {
         let below = by.below_joins(count)?;
         join_points_with(alloc, joins, &below, fuel)
@@ -400,7 +401,7 @@ fn alternatives_below<'x>(
 ) -> Result<Seq<NAlt>, Memory>
     ensures { IfOk result (λ r. nalts_of r ≡ put_in_alts expressions whole_coercions (below_values expressions whole_coercions 1 (lifted_of by.now)) (nalts_of alts.now)) }
 {
-    let fuel = less(fuel)?;
+    let fuel = deeper(fuel)?;
     let below = by.below_values(1)?;
     alternatives_with(alloc, alts, &below, fuel)
 }
@@ -415,7 +416,7 @@ fn bind_with<'x>(
 ) -> Result<NBind, Memory>
     ensures { IfOk result (λ r. nbind_of r ≡ put_in_bind expressions whole_coercions (lifted_of by.now) (nbind_of bind.now)) }
 {
-    let fuel = less(fuel)?;
+    let fuel = deeper(fuel)?;
     let name = bind.name.copy(alloc)?;
     let ty = type_with(alloc, &bind.ty, &*by, fuel)?;
     let rhs = expression_with(alloc, &bind.rhs, &*by, fuel)?;
@@ -432,7 +433,7 @@ fn join_point_with<'x>(
 ) -> Result<NJoinBind, Memory>
     ensures { IfOk result (λ r. njoin_of r ≡ put_in_join expressions whole_coercions (lifted_of by.now) (njoin_of join.now)) }
 {
-    let fuel = less(fuel)?;
+    let fuel = deeper(fuel)?;
     let name = join.name.copy(alloc)?;
     let mut params = Seq::new(alloc);
     let rhs = scoped_with(
@@ -456,7 +457,7 @@ fn alternative_with<'x>(
 ) -> Result<NAlt, Memory>
     ensures { IfOk result (λ r. nalt_of r ≡ put_in_alt expressions whole_coercions (lifted_of by.now) (nalt_of alt.now)) }
 {
-    let fuel = less(fuel)?;
+    let fuel = deeper(fuel)?;
     let head = alt.head.copy(alloc)?;
     let mut binders = Seq::new(alloc);
     let body = scoped_with(
@@ -487,7 +488,7 @@ fn scoped_with<'x>(
     ensures binders { OnOk result (nbinders_of done.new ≡ nbinders_of done.old ++ replaced_binders (lifted_of by.now).types (nbinders_of binders.now)) }
     ensures body { IfOk result (λ r. nexpr_of r ≡ replaced (below_binders expressions whole_coercions (nbinders_of binders.now) (lifted_of by.now)) (nexpr_of e.now)) }
 {
-    let fuel = less(fuel)?;
+    let fuel = deeper(fuel)?;
     match binders.split_first() {
         None => expression_with(alloc, e, &*by, fuel),
         Some((first, rest)) => {
@@ -511,7 +512,7 @@ fn further_with<'x>(
     ensures binders { OnOk result (nbinders_of done.new ≡ nbinders_of done.old ++ replaced_binders (types_behind (nbinder_of first.now) (lifted_of by.now).types) (nbinders_of rest.now)) }
     ensures body { IfOk result (λ r. nexpr_of r ≡ replaced (below_binders expressions whole_coercions (nbinders_of rest.now) (below_binder expressions whole_coercions (nbinder_of first.now) (lifted_of by.now))) (nexpr_of e.now)) }
 {
-    let fuel = less(fuel)?;
+    let fuel = deeper(fuel)?;
     match first {
         NBinder::Value(_, _) => {
             let below = by.below_values(1)?;
@@ -539,7 +540,7 @@ fn expressions_with<'x>(
 ) -> Result<Seq<NExpr>, Memory>
     ensures { IfOk result (λ s. nexprs_of s ≡ put_in_exprs expressions whole_coercions (lifted_of by.now) (nexprs_of items.now)) }
 {
-    let fuel = less(fuel)?;
+    let fuel = deeper(fuel)?;
     let mut all = Seq::new(alloc);
     for x in items {
         all.push(expression_with(alloc, x, &*by, fuel)?)?;
@@ -558,7 +559,7 @@ fn arguments_with<'x>(
 ) -> Result<Seq<NArg>, Memory>
     ensures { IfOk result (λ s. nargs_of s ≡ put_in_args expressions whole_coercions (lifted_of by.now) (nargs_of items.now)) }
 {
-    let fuel = less(fuel)?;
+    let fuel = deeper(fuel)?;
     let mut all = Seq::new(alloc);
     for x in items {
         all.push(argument_with(alloc, x, &*by, fuel)?)?;
@@ -577,7 +578,7 @@ fn binds_with<'x>(
 ) -> Result<Seq<NBind>, Memory>
     ensures { IfOk result (λ s. nbinds_of s ≡ put_in_binds expressions whole_coercions (lifted_of by.now) (nbinds_of items.now)) }
 {
-    let fuel = less(fuel)?;
+    let fuel = deeper(fuel)?;
     let mut all = Seq::new(alloc);
     for x in items {
         all.push(bind_with(alloc, x, &*by, fuel)?)?;
@@ -596,7 +597,7 @@ fn join_points_with<'x>(
 ) -> Result<Seq<NJoinBind>, Memory>
     ensures { IfOk result (λ s. njoins_of s ≡ put_in_joins expressions whole_coercions (lifted_of by.now) (njoins_of items.now)) }
 {
-    let fuel = less(fuel)?;
+    let fuel = deeper(fuel)?;
     let mut all = Seq::new(alloc);
     for x in items {
         all.push(join_point_with(alloc, x, &*by, fuel)?)?;
@@ -615,7 +616,7 @@ fn alternatives_with<'x>(
 ) -> Result<Seq<NAlt>, Memory>
     ensures { IfOk result (λ s. nalts_of s ≡ put_in_alts expressions whole_coercions (lifted_of by.now) (nalts_of items.now)) }
 {
-    let fuel = less(fuel)?;
+    let fuel = deeper(fuel)?;
     let mut all = Seq::new(alloc);
     for x in items {
         all.push(alternative_with(alloc, x, &*by, fuel)?)?;
@@ -624,7 +625,7 @@ fn alternatives_with<'x>(
 }
 
 /// An expression with what stands in place of each of its variables: of values and join points, and in its types and coercions. Fails only where memory
-/// runs out, or a distance has no 32 bits.
+/// runs out, a distance or a number of parts has no 32 bits, or calls would go 2^32 deep.
 pub fn substitute<'x>(
     alloc: Global,
     e: &NExpr,
@@ -634,7 +635,7 @@ pub fn substitute<'x>(
 {
     let by = Lifted {
         replacement: &*replacement,
-        past: NONE,
+        past: NO_BINDERS,
     };
     expression_with(alloc, e, &by, u32::MAX)
 }

@@ -13,5 +13,5 @@ pub use arguments::substitute_arguments;
 pub use coercions::substitute_in_coercion;
 pub use expressions::substitute;
 pub use replacement::Replacement;
-pub use shift::Shift;
+pub use shift::{NO_BINDERS, Shift};
 pub use types::substitute_in_type;

@@ -1,6 +1,7 @@
 //! How far a piece stands from where it was taken.
 ghost use Rattle.std.specs.Prelude.{◌≡◌, ◌+◌, IfOk};
 
+use fc_numbers::sum;
 use fc_syntax::Memory;
 
 /// How many binders of each space (the shift of nameless terms).
@@ -16,40 +17,13 @@ pub struct Shift {
     pub joins: u32,
 }
 
-/// None.
-pub(crate) const NONE: Shift = Shift {
+/// No binders.
+pub const NO_BINDERS: Shift = Shift {
     types: 0,
     coercions: 0,
     values: 0,
     joins: 0,
 };
-
-/// A sum. Fails where it has no 32 bits.
-pub(crate) fn sum(number: u32, by: u32) -> Result<u32, Memory>
-    ensures { IfOk result (λ n. n ≡ number + by) }
-{
-    match number.checked_add(by) {
-        Some(number) => Ok(number),
-        None => Err(Memory),
-    }
-}
-
-/// A number of parts. Fails where it has no 32 bits.
-pub(crate) fn number(count: usize) -> Result<u32, Memory>
-    ensures { IfOk result (λ n. n ≡ count) }
-{
-    match u32::try_from(count) {
-        Ok(count) => Ok(count),
-        Err(_) => Err(Memory),
-    }
-}
-
-/// How deep calls may still go, one level further in. Fails where that is none.
-pub(crate) fn less(fuel: u32) -> Result<u32, Memory>
-    ensures { IfOk result (λ n. n + 1 ≡ fuel) }
-{
-    if fuel == 0 { Err(Memory) } else { Ok(fuel - 1) }
-}
 
 impl Shift {
     /// One type more.

@@ -6,7 +6,8 @@ ghost use Rattle.fc_model.specs.Substituting.{renamed_type, substituted_type, ty
 ghost use Rattle.fc_subst.specs.Replacements.{lifted_of, replacement_of};
 
 use crate::replacement::{Lifted, Replacement};
-use crate::shift::{NONE, Shift, less, sum};
+use crate::shift::{NO_BINDERS, Shift};
+use fc_numbers::{deeper, sum};
 use fc_syntax::{Memory, NTy, boxed_copy};
 use std::alloc::Global;
 
@@ -30,7 +31,7 @@ fn type_at<'x>(
 ) -> Result<NTy, Memory>
     ensures { IfOk result (λ t. nty_of t ≡ renamed_type (λ i. i + past.types) ((replacement_of replacement.now).types number)) }
 {
-    let fuel = less(fuel)?;
+    let fuel = deeper(fuel)?;
     match replacement {
         Replacement::Same => Ok(NTy::Var(sum(number, past.types)?)),
         Replacement::Past(by) => {
@@ -58,7 +59,7 @@ fn type_at<'x>(
 fn type_for<'x>(alloc: Global, by: &'x Lifted<'x>, number: u32, fuel: u32) -> Result<NTy, Memory>
     ensures { IfOk result (λ t. nty_of t ≡ (lifted_of by.now).types number) }
 {
-    let fuel = less(fuel)?;
+    let fuel = deeper(fuel)?;
     let past = by.past;
     if number < past.types {
         Ok(variable(number))
@@ -72,11 +73,11 @@ fn type_for<'x>(alloc: Global, by: &'x Lifted<'x>, number: u32, fuel: u32) -> Re
 fn shifted_type(alloc: Global, t: &NTy, past: Shift, fuel: u32) -> Result<NTy, Memory>
     ensures { IfOk result (λ r. nty_of r ≡ renamed_type (λ i. i + past.types) (nty_of t.now)) }
 {
-    let fuel = less(fuel)?;
+    let fuel = deeper(fuel)?;
     let replacement = Replacement::Past(past);
     let by = Lifted {
         replacement: &replacement,
-        past: NONE,
+        past: NO_BINDERS,
     };
     type_with(alloc, t, &by, fuel)
 }
@@ -86,7 +87,7 @@ fn shifted_type(alloc: Global, t: &NTy, past: Shift, fuel: u32) -> Result<NTy, M
 fn type_below<'x>(alloc: Global, t: &NTy, by: &'x Lifted<'x>, fuel: u32) -> Result<NTy, Memory>
     ensures { IfOk result (λ r. nty_of r ≡ substituted_type (types_below (lifted_of by.now).types) (nty_of t.now)) }
 {
-    let fuel = less(fuel)?;
+    let fuel = deeper(fuel)?;
     let below = by.below_type()?;
     type_with(alloc, t, &below, fuel)
 }
@@ -102,7 +103,7 @@ pub(crate) fn type_with<'x>(
 ) -> Result<NTy, Memory>
     ensures { IfOk result (λ r. nty_of r ≡ substituted_type (lifted_of by.now).types (nty_of t.now)) }
 {
-    let fuel = less(fuel)?;
+    let fuel = deeper(fuel)?;
     match t {
         NTy::Var(number) => type_for(alloc, &*by, *number, fuel),
         NTy::Con(name) => Ok(NTy::Con(name.copy(alloc)?)),
@@ -132,7 +133,8 @@ pub(crate) fn type_with<'x>(
     }
 }
 
-/// A type with what stands in place of each of its variables. Fails only where memory runs out, or a distance has no 32 bits.
+/// A type with what stands in place of each of its variables. Fails only where memory runs out, a distance has no 32 bits,
+/// or calls would go 2^32 deep.
 pub fn substitute_in_type<'x>(
     alloc: Global,
     t: &NTy,
@@ -142,7 +144,7 @@ pub fn substitute_in_type<'x>(
 {
     let by = Lifted {
         replacement: &*replacement,
-        past: NONE,
+        past: NO_BINDERS,
     };
     type_with(alloc, t, &by, u32::MAX)
 }

@@ -4,8 +4,6 @@
 mod kinds;
 mod names;
 mod room;
-#[cfg(test)]
-mod tests;
 mod walk;
 mod words;
 

@@ -1,9 +1,11 @@
 use Rattle.std.proofs.Common.{refl, sym, ap, ◌∙◌}
+use Rattle.std.proofs.lemmas.Result.{IfOk-weaker}
 use Rattle.fc_model.specs.NamelessView.{nalts_of, narg_of, nargs_of, nbinders_of, nbinds_of, nexpr_of, nexprs_of, njoins_of, nty_of}
+use Rattle.fc_numbers.proofs.Counted.{binds_counted, joins_counted}
 use Rattle.fc_rows.specs.Occurrences.{behind_all, behind_values, in_alts, in_arg, in_args, in_binds, in_exprs, in_field, in_fields, in_joins, occurrences}
 use Rattle.fc_occur.specs.Spans.{sought_of}
 use Rattle.fc_occur.proofs.Spans.{behind_bound}
-use Rattle.fc_occur.proofs.Together.{binds_counted, case_counted, counted_step, if_ok, join_counted, join_many, joins_counted, let_counted, let_many}
+use Rattle.fc_occur.proofs.Together.{case_counted, counted_step, join_counted, join_many, let_counted, let_many}
 use Rattle.fc_occur.proofs.counting.+counting.Goals as goal
 
 pub in_arguments-loop-x-preserved : goal.in_arguments-loop-x-preserved
@@ -66,6 +68,6 @@ in_case-returns t c =
 
 pub in_scoped-returns : goal.in_scoped-returns
 in_scoped-returns t c =
-    if_ok c.in_expression.result _ _
-    (ap (λ u. occurrences u (nexpr_of c.args.body.now)) (c.in_ok-inner.ensures ∙ ap (λ n. behind_values n (sought_of c.args.sought)) c.in_ok-value_binders.ensures ∙ behind_bound (nbinders_of c.args.binders.now) (sought_of c.args.sought)))
+    IfOk-weaker c.in_expression.result _ _
+    (λ _ h. h ∙ ap (λ u. occurrences u (nexpr_of c.args.body.now)) (c.in_ok-inner.ensures ∙ ap (λ n. behind_values n (sought_of c.args.sought)) c.in_ok-value_binders.ensures ∙ behind_bound (nbinders_of c.args.binders.now) (sought_of c.args.sought)))
     c.in_expression.ensures

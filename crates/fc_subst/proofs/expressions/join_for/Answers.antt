@@ -1,6 +1,6 @@
 use Rattle.std.proofs.Common.{◌+◌, ap, sym, ◌∙◌}
+use Rattle.std.proofs.lemmas.Result.{IfOk-weaker}
 use Rattle.fc_subst.proofs.Lifting.{far_join, near_join}
-use Rattle.fc_subst.proofs.Pieces.{if_ok_number}
 use Rattle.fc_subst.proofs.expressions.join_for.Goals as goal
 
 pub returns-then-number-past : goal.returns-then-number-past
@@ -8,4 +8,4 @@ returns-then-number-past c = sym (near_join _ _ _ c.if-number-past.true)
 
 pub returns-in_ok-number : goal.returns-in_ok-number
 returns-in_ok-number c =
-    if_ok_number c.sum.result _ _ (ap (λ n. n + c.args.by.now.past.joins) c.in_ok-number.ensures ∙ sym (far_join _ _ _ c.if-number-past.false)) c.sum.ensures
+    IfOk-weaker c.sum.result _ _ (λ _ h. h ∙ ap (λ n. n + c.args.by.now.past.joins) c.in_ok-number.ensures ∙ sym (far_join _ _ _ c.if-number-past.false)) c.sum.ensures

@@ -1,6 +1,0 @@
-use Rattle.std.proofs.Common.{◌≡◌, ◌++◌, drop}
-use Rattle.fc_build.specs.Lines.{dotted_text}
-use Rattle.fc_build.proofs.refusal.put_dotted.Given as goal
-
-abbrev pub invariant-loop-n : goal.invariant-loop-n
-invariant-loop-n l = l.to.items ++ dotted_text (drop l.n-index l.numbers) ≡ l.fn.to.items ++ dotted_text l.numbers

@@ -1,0 +1,5 @@
+mod Among
+mod BoundWords
+mod Gathered
+mod Kept
+mod Sought

@@ -1,0 +1,3 @@
+pub mod Free
+pub mod Bound
+pub mod Keys

@@ -1,4 +1,0 @@
-use Rattle.fc_type_names.proofs.tests.+nested.Given as goal
-
-abbrev pub decreases-nested : goal.decreases-nested
-decreases-nested l = l.times
