@@ -1,12 +1,12 @@
 //! How calls end, and the lines and statuses that tell it.
 use fc_files::{PutAnswer, Sink};
 use fc_model::{Flaw, Flawed};
+use fc_refusals::refusal_line;
 use fc_syntax::{Fault, Memory, Place, Refusal, Seq, Text};
-use itoa::Buffer;
-use std::alloc::{AllocError, Global};
+use std::alloc::{AllocError, AllocFailed, Global};
 
 /// Why a call answers nothing.
-#[derive(Debug, Drop)]
+#[derive(Drop)]
 pub(crate) enum NoAnswer {
     /// What is read has a fault.
     Refused(Fault),
@@ -30,6 +30,12 @@ impl From<AllocError> for NoAnswer {
     }
 }
 
+impl<T: Drop> From<AllocFailed<T>> for NoAnswer {
+    fn from(_error: AllocFailed<T>) -> NoAnswer {
+        NoAnswer::Memory
+    }
+}
+
 impl From<Refusal> for NoAnswer {
     fn from(refusal: Refusal) -> NoAnswer {
         match refusal {
@@ -40,13 +46,6 @@ impl From<Refusal> for NoAnswer {
 }
 
 // LINES
-
-/// Appends a number in decimal digits.
-pub(crate) fn put_number(n: u32, to: &mut Vec<u8>) -> Result<(), Memory> {
-    let mut digits = Buffer::new();
-    to.extend_from_slice(digits.format(n).as_bytes())?;
-    Ok(())
-}
 
 /// Appends parts, with a text between each and the next.
 pub(crate) fn put_joined(
@@ -76,54 +75,6 @@ pub(crate) fn line_of(alloc: Global, parts: &[Vec<u8>], between: &[u8]) -> Resul
 /// The line of a word.
 pub(crate) fn line(alloc: Global, word: &str) -> Result<Vec<u8>, Memory> {
     let mut line = Vec::from_slice(alloc, word.as_bytes())?;
-    line.push(b'\n')?;
-    Ok(line)
-}
-
-/// Appends part numbers, joined by dots.
-fn put_dotted(numbers: &[u32], to: &mut Vec<u8>) -> Result<(), Memory> {
-    let mut behind = false;
-    for n in numbers {
-        if behind {
-            to.push(b'.')?;
-        }
-        put_number(*n, to)?;
-        behind = true;
-    }
-    Ok(())
-}
-
-/// Appends a place, which is a hyphen where it is none.
-fn put_place(place: &Place, to: &mut Vec<u8>) -> Result<(), Memory> {
-    match place {
-        Place::Byte(at) => {
-            to.push(b'@')?;
-            put_number(*at, to)
-        }
-        Place::Parts(path) if !path.is_empty() => put_dotted(path.as_slice(), to),
-        _ => {
-            to.push(b'-')?;
-            Ok(())
-        }
-    }
-}
-
-/// The line of a refusal: number and word of the fault, module or file, declaration, place.
-fn refusal_line(alloc: Global, fault: &Fault) -> Result<Vec<u8>, Memory> {
-    let def = match &fault.def {
-        Some(word) => word.as_str(),
-        None => "-",
-    };
-    let mut line = Vec::from_slice(alloc, b"refused ")?;
-    put_number(u32::from(fault.kind.number()), &mut line)?;
-    line.push(b' ')?;
-    line.extend_from_slice(fault.kind.word().as_bytes())?;
-    line.push(b' ')?;
-    line.extend_from_slice(fault.module.as_str().as_bytes())?;
-    line.push(b' ')?;
-    line.extend_from_slice(def.as_bytes())?;
-    line.push(b' ')?;
-    put_place(&fault.path, &mut line)?;
     line.push(b'\n')?;
     Ok(line)
 }

@@ -1,5 +1,5 @@
-//! Other words for the binders of nameless definitions.
-use fc_syntax::{Memory, NAlt, NBind, NBinder, NDecl, NExpr, NJoinBind, NModule, Seq, Text};
+//! Other words for the binders of nameless expressions.
+use fc_syntax::{Memory, NAlt, NBind, NBinder, NExpr, NJoinBind, Seq, Text};
 use std::alloc::Global;
 use std::mem;
 
@@ -66,7 +66,7 @@ fn set_alternative(alloc: Global, alts: &mut Seq<NAlt>, words: &[Text]) -> Resul
 
 /// Gives the binders of an expression other words, from the outermost in: of lambdas, of groups of binds or join points, and of a case and its
 /// first alternative, behind which all keep their words.
-fn set_words(alloc: Global, e: &mut NExpr, words: &[Text]) -> Result<(), Memory> {
+pub(crate) fn set_words(alloc: Global, e: &mut NExpr, words: &[Text]) -> Result<(), Memory> {
     let [word, others @ ..] = words else {
         return Ok(());
     };
@@ -91,35 +91,12 @@ fn set_words(alloc: Global, e: &mut NExpr, words: &[Text]) -> Result<(), Memory>
     }
 }
 
-/// Puts the body of a lambda in its place. Nothing else has one.
-fn leave_lambda(e: &mut NExpr) {
+/// Puts the body of a lambda in its place. What is no lambda stays.
+pub(crate) fn leave_lambda(e: &mut NExpr) {
     let mut inner = NExpr::Lit(0);
     match e {
         NExpr::Lam(_, body) => mem::swap(&mut inner, &mut **body),
         _ => return,
     }
     *e = inner;
-}
-
-/// Gives the binders of the last definition other words.
-pub(crate) fn set_words_in(alloc: Global, n: &mut NModule, words: &[Text]) -> Result<(), Memory> {
-    for number in (0..n.decls.len()).rev() {
-        match n.decls.at_mut(number) {
-            NDecl::Def(_, _, e) => return set_words(alloc, e, words),
-            NDecl::Wrap(_, _, e) => return set_words(alloc, e, words),
-            _ => {}
-        }
-    }
-    Ok(())
-}
-
-/// Puts the body of the outermost lambda of the last definition in its place, where the right side is one.
-pub(crate) fn leave_lambda_in(n: &mut NModule) {
-    for number in (0..n.decls.len()).rev() {
-        match n.decls.at_mut(number) {
-            NDecl::Def(_, _, e) => return leave_lambda(e),
-            NDecl::Wrap(_, _, e) => return leave_lambda(e),
-            _ => {}
-        }
-    }
 }

@@ -1,41 +1,21 @@
 //! Interfaces: readers, printers, and what they tell of modules.
 use crate::answers::{NoAnswer, line, line_of};
-use crate::reading::{form_of, interface_in, interface_in_room, module_in, number_in};
-use fc_files::Files;
+use crate::reading::{File, form_of, interface_in, interface_in_room, module_in, number_in};
 use fc_iface::{interface, print_interface};
 use fc_lattice::{Demand, Imports, Sig};
 use fc_reaching::recursive;
 use fc_syntax::{Decl, Memory, Module, Seq};
 use std::alloc::Global;
 
-/// Reads the interface of a file.
-pub(crate) fn reads<F: Files>(
-    alloc: Global,
-    files: &mut F,
-    file: &str,
-) -> Result<Vec<u8>, NoAnswer> {
-    let _interface = interface_in(alloc, files, file)?;
-    Ok(line(alloc, "read")?)
-}
-
-/// Reads the interface of a file, where there is as much room as a word says.
-pub(crate) fn reads_in_room<F: Files>(
-    alloc: Global,
-    files: &mut F,
-    room: &str,
-    file: &str,
-) -> Result<Vec<u8>, NoAnswer> {
-    let _interface = interface_in_room(alloc, files, number_in(room)?, file)?;
+/// Reads the interface of a file, where there is this much room for its declarations.
+pub(crate) fn reads(alloc: Global, room: u32, file: &File) -> Result<Vec<u8>, NoAnswer> {
+    let _interface = interface_in_room(alloc, file, room)?;
     Ok(line(alloc, "read")?)
 }
 
 /// The canonical text of the interface of a file.
-pub(crate) fn printed<F: Files>(
-    alloc: Global,
-    files: &mut F,
-    file: &str,
-) -> Result<Vec<u8>, NoAnswer> {
-    let i = interface_in(alloc, files, file)?;
+pub(crate) fn printed(alloc: Global, file: &File) -> Result<Vec<u8>, NoAnswer> {
+    let i = interface_in(alloc, file)?;
     Ok(print_interface(alloc, &i)?)
 }
 
@@ -66,14 +46,9 @@ fn numbered(alloc: Global, m: &Module) -> Result<Vec<Sig>, Memory> {
 }
 
 /// The text of the interface of the module of a file, in which right sides of as many nodes are told as a word says.
-pub(crate) fn told<F: Files>(
-    alloc: Global,
-    files: &mut F,
-    grow: &str,
-    file: &str,
-) -> Result<Vec<u8>, NoAnswer> {
+pub(crate) fn told(alloc: Global, grow: &str, file: &File) -> Result<Vec<u8>, NoAnswer> {
     let grow = u64::from(number_in(grow)?);
-    let m = module_in(alloc, files, file)?;
+    let m = module_in(alloc, file)?;
     let form = form_of(alloc, &m)?;
     let marks = recursive(alloc, &form)?;
     let sigs = numbered(alloc, &m)?;
@@ -84,29 +59,20 @@ pub(crate) fn told<F: Files>(
 // IMPORTS
 
 /// The interfaces of files, in their order.
-fn imports_in<F: Files>(alloc: Global, files: &mut F, names: &[&str]) -> Result<Imports, NoAnswer> {
+fn imports_in(alloc: Global, files: &[File]) -> Result<Imports, NoAnswer> {
     let mut imports = Imports::new(alloc);
-    for name in names {
-        imports.add(interface_in(alloc, files, *name)?)?;
+    for file in files {
+        imports.add(interface_in(alloc, file)?)?;
     }
     Ok(imports)
 }
 
-/// The names of the modules of interfaces.
-fn modules_line(alloc: Global, imports: &Imports) -> Result<Vec<u8>, Memory> {
+/// The names of the modules of the interfaces of files, in their order.
+pub(crate) fn imported(alloc: Global, files: &[File]) -> Result<Vec<u8>, NoAnswer> {
+    let imports = imports_in(alloc, files)?;
     let mut parts = Vec::new(alloc);
     for i in imports.interfaces.as_slice() {
         parts.push(Vec::from_slice(alloc, i.module.name.as_str().as_bytes())?)?;
     }
-    line_of(alloc, parts.as_slice(), b" ")
-}
-
-/// The names of the modules of the interfaces of files, in their order.
-pub(crate) fn imported<F: Files>(
-    alloc: Global,
-    files: &mut F,
-    names: &[&str],
-) -> Result<Vec<u8>, NoAnswer> {
-    let imports = imports_in(alloc, files, names)?;
-    Ok(modules_line(alloc, &imports)?)
+    Ok(line_of(alloc, parts.as_slice(), b" ")?)
 }

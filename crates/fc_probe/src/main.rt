@@ -7,47 +7,88 @@
 
 mod answers;
 mod binders;
+mod changing;
 mod interfaces;
 mod names;
+mod occurring;
 mod pieces;
 mod reaching;
 mod reading;
 mod references;
 mod referring;
+mod right_sides;
 mod texts;
 
 use crate::answers::{NoAnswer, tell};
-use fc_files::{Files, HostFiles, HostSink, Sink};
+use crate::changing::Change;
+use crate::reading::{File, number_in, read_all};
+use crate::texts::Form;
+use fc_files::{Files, HostFiles, HostSink};
+use fc_syntax::Limits;
 use std::alloc::Global;
 use std::env::Env;
 use std::io::{Error, ErrorKind};
 use std::process::ExitCode;
 use std::{env, io};
 
-/// What the call of these words answers.
-fn answer_of<F: Files>(alloc: Global, files: &mut F, words: &[&str]) -> Result<Vec<u8>, NoAnswer> {
-    match words {
-        ["tokens", file] => texts::tokens_in(alloc, files, file),
-        ["read_module", file] => texts::reads(alloc, files, file),
-        ["read_module", room, file] => texts::reads_in_room(alloc, files, room, file),
-        ["print_module", file] => texts::printed(alloc, files, file),
-        ["read_expr", file] => texts::expression_in(alloc, files, file),
-        ["read_type", file] => texts::type_in(alloc, files, file),
-        ["read_decl", file] => texts::declaration_in(alloc, files, file),
-        ["up_to_deep_bracket", file] => texts::cut(alloc, files, file),
-        ["read_interface", file] => interfaces::reads(alloc, files, file),
-        ["read_interface", room, file] => interfaces::reads_in_room(alloc, files, room, file),
-        ["print_interface", file] => interfaces::printed(alloc, files, file),
-        ["interface", grow, file] => interfaces::told(alloc, files, grow, file),
-        ["imports", names @ ..] => interfaces::imported(alloc, files, names),
-        ["resolve", file] => names::resolved(alloc, files, file),
-        ["name_back", words, file] => names::named_with(alloc, files, words, file),
-        ["name_back_body", file] => names::named_body(alloc, files, file),
-        ["reaches", word, rename, file] => reaching::reached(alloc, files, word, rename, file),
-        ["recursive", rename, file] => reaching::marked(alloc, files, rename, file),
-        ["piece", number, names @ .., piece] => pieces::told(alloc, files, number, names, piece),
-        ["same_types", file] => pieces::compared(alloc, files, file),
+/// How many words stand before the files in those of a call.
+fn words_before_files(call: &str) -> usize {
+    match call {
+        "read_module_in_room" | "read_interface_in_room" | "interface" | "name_back" => 2,
+        "recursive" | "piece" | "mentions" | "count" => 2,
+        "written" | "exchange" | "substitute" | "leave_binders" | "occurs" => 2,
+        "reaches" => 3,
+        _ => 1,
+    }
+}
+
+/// What a call with these words answers on the nameless form of the module of a file.
+fn answer_on_form(alloc: Global, words: &[&str], files: &[File]) -> Result<Vec<u8>, NoAnswer> {
+    match (words, files) {
+        (["written", order], [file]) => names::written(alloc, order, file),
+        (["copy"], [file]) => changing::copied(alloc, file),
+        (["measures"], [file]) => changing::measured(alloc, file),
+        (["exchange", place], [file]) => changing::exchanged(alloc, place, file),
+        (["substitute", place], [file]) => {
+            changing::changed(alloc, Change::Arguments, place, file)
+        }
+        (["leave_binders", place], [file]) => {
+            changing::changed(alloc, Change::Binders, place, file)
+        }
+        (["occurs", place], [file]) => changing::occurring(alloc, place, file),
         _ => Err(NoAnswer::Usage),
+    }
+}
+
+/// What a call with these words answers on files.
+fn answer_of(alloc: Global, words: &[&str], files: &[File]) -> Result<Vec<u8>, NoAnswer> {
+    match (words, files) {
+        (["tokens"], [file]) => texts::tokens_in(alloc, file),
+        (["read_module"], [file]) => texts::reads(alloc, Limits::standard().size, file),
+        (["read_module_in_room", room], [file]) => texts::reads(alloc, number_in(room)?, file),
+        (["print_module"], [file]) => texts::printed(alloc, file),
+        (["read_expr"], [file]) => texts::form_read(alloc, Form::Expression, file),
+        (["read_type"], [file]) => texts::form_read(alloc, Form::Type, file),
+        (["read_decl"], [file]) => texts::form_read(alloc, Form::Declaration, file),
+        (["up_to_deep_bracket"], [file]) => texts::cut(alloc, file),
+        (["read_interface"], [file]) => interfaces::reads(alloc, Limits::standard().size, file),
+        (["read_interface_in_room", room], [file]) => {
+            interfaces::reads(alloc, number_in(room)?, file)
+        }
+        (["print_interface"], [file]) => interfaces::printed(alloc, file),
+        (["interface", grow], [file]) => interfaces::told(alloc, grow, file),
+        (["imports"], files) => interfaces::imported(alloc, files),
+        (["resolve"], [file]) => names::resolved(alloc, file),
+        (["name_back", words], [file]) => names::named_with(alloc, words, file),
+        (["name_back_body"], [file]) => names::named_body(alloc, file),
+        (["reaches", word, rename], [file]) => reaching::reached(alloc, word, rename, file),
+        (["recursive", rename], [file]) => reaching::marked(alloc, rename, file),
+        (["piece", number], [files @ .., piece]) => pieces::told(alloc, number, files, piece),
+        (["same_types"], [file]) => pieces::compared(alloc, file),
+        (["free"], [file]) => occurring::free_names(alloc, file),
+        (["mentions", name], [file]) => occurring::mentioned(alloc, name, file),
+        (["count", word], [file]) => occurring::counted(alloc, word, file),
+        _ => answer_on_form(alloc, words, files),
     }
 }
 
@@ -58,7 +99,16 @@ fn answer_to<F: Files>(
     words: &[String],
 ) -> Result<Vec<u8>, NoAnswer> {
     let words: Vec<&str> = words.iter().map(|word| word.as_str()).collect(alloc)?;
-    answer_of(alloc, files, words.as_slice())
+    let words = words.as_slice();
+    let Some(call) = words.first() else {
+        return Err(NoAnswer::Usage);
+    };
+    let before = words_before_files(*call);
+    if words.len() < before {
+        return Err(NoAnswer::Usage);
+    }
+    let files = read_all(alloc, files, &words[before..])?;
+    answer_of(alloc, &words[..before], files.as_slice())
 }
 
 /// Why a command line has no words: one of them is not UTF-8, or no memory is left.

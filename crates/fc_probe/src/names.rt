@@ -1,13 +1,14 @@
 //! From names to distances, and back.
 use crate::answers::{NoAnswer, line, line_of, put_joined};
-use crate::binders::{leave_lambda_in, set_words_in};
-use crate::reading::form_in;
+use crate::binders::{leave_lambda, set_words};
+use crate::reading::{File, form_in};
 use crate::references::References;
 use crate::referring::in_declaration;
-use fc_files::Files;
+use crate::right_sides::exchange_right_side;
+use fc_headers::form_written;
 use fc_naming::{NotNamed, name_back};
 use fc_printer::print_module;
-use fc_syntax::{Memory, NDecl, NModule, Text};
+use fc_syntax::{Memory, NDecl, NExpr, NModule, Seq, Text};
 use std::alloc::Global;
 
 // NAMELESS FORMS
@@ -31,12 +32,8 @@ fn referred_by_all(alloc: Global, decls: &[NDecl]) -> Result<Vec<u8>, Memory> {
 }
 
 /// What the declarations of the module of a file refer to.
-pub(crate) fn resolved<F: Files>(
-    alloc: Global,
-    files: &mut F,
-    file: &str,
-) -> Result<Vec<u8>, NoAnswer> {
-    let form = form_in(alloc, files, file)?;
+pub(crate) fn resolved(alloc: Global, file: &File) -> Result<Vec<u8>, NoAnswer> {
+    let form = form_in(alloc, file)?;
     Ok(referred_by_all(alloc, form.decls.as_slice())?)
 }
 
@@ -55,7 +52,7 @@ fn words_of(alloc: Global, text: &str) -> Result<Vec<Text>, Memory> {
 }
 
 /// The canonical text of what a nameless module is named back to, or that a distance or a name in it is not in scope.
-fn named(alloc: Global, n: &NModule) -> Result<Vec<u8>, Memory> {
+pub(crate) fn named(alloc: Global, n: &NModule) -> Result<Vec<u8>, Memory> {
     match name_back(alloc, n) {
         Ok(m) => print_module(alloc, &m),
         Err(NotNamed::Unscoped) => line(alloc, "unscoped"),
@@ -64,25 +61,31 @@ fn named(alloc: Global, n: &NModule) -> Result<Vec<u8>, Memory> {
 }
 
 /// What the module of a file is named back to, after the binders of its last definition were given other words.
-pub(crate) fn named_with<F: Files>(
-    alloc: Global,
-    files: &mut F,
-    words: &str,
-    file: &str,
-) -> Result<Vec<u8>, NoAnswer> {
-    let mut form = form_in(alloc, files, file)?;
+pub(crate) fn named_with(alloc: Global, words: &str, file: &File) -> Result<Vec<u8>, NoAnswer> {
+    let mut form = form_in(alloc, file)?;
     let words = words_of(alloc, words)?;
-    set_words_in(alloc, &mut form, words.as_slice())?;
+    let mut e = NExpr::Lit(0);
+    exchange_right_side(&mut form, 0, &mut e);
+    set_words(alloc, &mut e, words.as_slice())?;
+    exchange_right_side(&mut form, 0, &mut e);
+    Ok(named(alloc, &form)?)
+}
+
+/// What the module of a file is named back to, after its imports were taken away and it was put under the header that is written, among modules of these names.
+pub(crate) fn written(alloc: Global, order: &str, file: &File) -> Result<Vec<u8>, NoAnswer> {
+    let mut form = form_in(alloc, file)?;
+    form.imports = Seq::new(alloc);
+    let order = words_of(alloc, order)?;
+    let form = form_written(alloc, order.as_slice(), form)?;
     Ok(named(alloc, &form)?)
 }
 
 /// What the module of a file is named back to, after the outermost lambda of its last definition was taken off.
-pub(crate) fn named_body<F: Files>(
-    alloc: Global,
-    files: &mut F,
-    file: &str,
-) -> Result<Vec<u8>, NoAnswer> {
-    let mut form = form_in(alloc, files, file)?;
-    leave_lambda_in(&mut form);
+pub(crate) fn named_body(alloc: Global, file: &File) -> Result<Vec<u8>, NoAnswer> {
+    let mut form = form_in(alloc, file)?;
+    let mut e = NExpr::Lit(0);
+    exchange_right_side(&mut form, 0, &mut e);
+    leave_lambda(&mut e);
+    exchange_right_side(&mut form, 0, &mut e);
     Ok(named(alloc, &form)?)
 }

@@ -1,7 +1,6 @@
 //! Pieces of the named tree in environments. A piece stands below lambdas, whose binders are entered.
 use crate::answers::{NoAnswer, flawed_in, line};
-use crate::reading::{form_in, module_in, number_in};
-use fc_files::Files;
+use crate::reading::{File, form_in, module_in, number_in};
 use fc_model::Flawed;
 use fc_printer::put_type;
 use fc_syntax::{Arg, Decl, Expr, Kind, Memory, Module, NModule, Role, Seq, Ty};
@@ -9,7 +8,7 @@ use fc_typing::{Ends, TypeEnv, ends, equal, instantiate, kind_of, lint};
 use std::alloc::Global;
 
 /// The right side of the first definition of a module, where there is one.
-fn piece_of(m: &Module) -> Option<&Expr> {
+pub(crate) fn piece_of(m: &Module) -> Option<&Expr> {
     for decl in m.decls.as_slice() {
         match decl {
             Decl::Def(_, _, e) => return Some(e),
@@ -122,14 +121,10 @@ fn told_below(alloc: Global, e: &Expr, env: &mut TypeEnv) -> Result<Vec<u8>, Fla
 // FILES
 
 /// The nameless forms of the modules of files, in their order.
-fn forms_in<F: Files>(
-    alloc: Global,
-    files: &mut F,
-    names: &[&str],
-) -> Result<Seq<NModule>, NoAnswer> {
+fn forms_in(alloc: Global, files: &[File]) -> Result<Seq<NModule>, NoAnswer> {
     let mut forms = Seq::new(alloc);
-    for name in names {
-        forms.push(form_in(alloc, files, *name)?)?;
+    for file in files {
+        forms.push(form_in(alloc, file)?)?;
     }
     Ok(forms)
 }
@@ -147,16 +142,15 @@ fn told_at(alloc: Global, forms: &[NModule], at: usize, e: &Expr) -> Result<Vec<
 }
 
 /// What the piece in a file is in the module of a number among those of other files.
-pub(crate) fn told<F: Files>(
+pub(crate) fn told(
     alloc: Global,
-    files: &mut F,
     number: &str,
-    names: &[&str],
-    piece: &str,
+    files: &[File],
+    piece: &File,
 ) -> Result<Vec<u8>, NoAnswer> {
     let at = number_in(number)? as usize;
-    let forms = forms_in(alloc, files, names)?;
-    let m = module_in(alloc, files, piece)?;
+    let forms = forms_in(alloc, files)?;
+    let m = module_in(alloc, piece)?;
     match piece_of(&m) {
         Some(e) => told_at(alloc, forms.as_slice(), at, e),
         None => Err(NoAnswer::Usage),
@@ -164,12 +158,8 @@ pub(crate) fn told<F: Files>(
 }
 
 /// Whether the two ends of the function type of the piece `(fail (fun t u))` in a file are the same.
-pub(crate) fn compared<F: Files>(
-    alloc: Global,
-    files: &mut F,
-    file: &str,
-) -> Result<Vec<u8>, NoAnswer> {
-    let m = module_in(alloc, files, file)?;
+pub(crate) fn compared(alloc: Global, file: &File) -> Result<Vec<u8>, NoAnswer> {
+    let m = module_in(alloc, file)?;
     match piece_of(&m) {
         Some(Expr::Fail(Ty::Fun(t, u))) => {
             let said = if equal(t, u) { "same" } else { "other" };

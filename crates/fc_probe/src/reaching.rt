@@ -1,7 +1,6 @@
 //! Which definitions one reaches, and which reach themselves.
 use crate::answers::{NoAnswer, line_of};
-use crate::reading::form_in;
-use fc_files::Files;
+use crate::reading::{File, form_in};
 use fc_reaching::{reaches, recursive};
 use fc_syntax::{Memory, NDecl, NModule, Text};
 use std::alloc::Global;
@@ -45,14 +44,9 @@ fn rename_in(alloc: Global, n: &mut NModule, rename: Rename<'_>) -> Result<(), M
 }
 
 /// The nameless form of the module of a file, in which definitions were renamed.
-fn renamed<F: Files>(
-    alloc: Global,
-    files: &mut F,
-    rename: &str,
-    file: &str,
-) -> Result<NModule, NoAnswer> {
+fn renamed(alloc: Global, rename: &str, file: &File) -> Result<NModule, NoAnswer> {
     let rename = rename_of(rename)?;
-    let mut form = form_in(alloc, files, file)?;
+    let mut form = form_in(alloc, file)?;
     if let Some(rename) = rename {
         rename_in(alloc, &mut form, rename)?;
     }
@@ -69,14 +63,13 @@ fn words_line(alloc: Global, words: &[Text]) -> Result<Vec<u8>, Memory> {
 }
 
 /// The words of the definitions that the one of a word reaches, in the module of a file.
-pub(crate) fn reached<F: Files>(
+pub(crate) fn reached(
     alloc: Global,
-    files: &mut F,
     word: &str,
     rename: &str,
-    file: &str,
+    file: &File,
 ) -> Result<Vec<u8>, NoAnswer> {
-    let form = renamed(alloc, files, rename, file)?;
+    let form = renamed(alloc, rename, file)?;
     let words = reaches(alloc, &form, word)?;
     Ok(words_line(alloc, words.as_slice())?)
 }
@@ -92,13 +85,8 @@ fn marks_line(alloc: Global, marks: &[bool]) -> Result<Vec<u8>, Memory> {
 }
 
 /// For each declaration of the module of a file whether it is a definition that reaches itself.
-pub(crate) fn marked<F: Files>(
-    alloc: Global,
-    files: &mut F,
-    rename: &str,
-    file: &str,
-) -> Result<Vec<u8>, NoAnswer> {
-    let form = renamed(alloc, files, rename, file)?;
+pub(crate) fn marked(alloc: Global, rename: &str, file: &File) -> Result<Vec<u8>, NoAnswer> {
+    let form = renamed(alloc, rename, file)?;
     let marks = recursive(alloc, &form)?;
     Ok(marks_line(alloc, marks.as_slice())?)
 }

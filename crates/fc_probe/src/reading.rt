@@ -1,5 +1,5 @@
 //! Files, and what they hold.
-ghost use Rattle.std.specs.Prelude.{◌≤◌, IfOk, length};
+ghost use Rattle.std.specs.Prelude.{◌≤◌, length};
 ghost use Rattle.fc_syntax.specs.Limits.{standard_limits};
 
 use crate::answers::{NoAnswer, flawed_in};
@@ -10,6 +10,53 @@ use fc_reader::read_module;
 use fc_resolve::resolve;
 use fc_syntax::{Limits, Module, NModule, Text};
 use std::alloc::Global;
+
+/// A file that was read.
+#[derive(Drop)]
+pub(crate) struct File<'a> {
+    /// Its name.
+    pub(crate) name: &'a str,
+    /// What it holds.
+    bytes: Vec<u8>,
+}
+
+impl<'a> File<'a> {
+    /// What the file holds, which is no more than a file may have.
+    pub(crate) fn bytes(&self) -> &[u8]
+        ensures { length result.now ≤ standard_limits.file_bytes }
+    {
+        let bytes = self.bytes.as_slice();
+        if bytes.len() <= Limits::standard().file_bytes as usize {
+            bytes
+        } else {
+            &[]
+        }
+    }
+}
+
+/// Reads a file.
+fn read<'a, F: Files>(alloc: Global, files: &mut F, name: &'a str) -> Result<File<'a>, NoAnswer> {
+    match files.read(alloc, name, Limits::standard().file_bytes as u64) {
+        ReadAnswer::Ok(bytes) => Ok(File { name, bytes }),
+        ReadAnswer::Memory => Err(NoAnswer::Memory),
+        ReadAnswer::Absent | ReadAnswer::TooLong | ReadAnswer::Failed => {
+            Err(NoAnswer::ReadFault(Text::from_str(alloc, name)?))
+        }
+    }
+}
+
+/// Reads files, in their order.
+pub(crate) fn read_all<'a, F: Files>(
+    alloc: Global,
+    files: &mut F,
+    names: &[&'a str],
+) -> Result<Vec<File<'a>>, NoAnswer> {
+    let mut all = Vec::new(alloc);
+    for name in names {
+        all.push(read(alloc, files, *name)?)?;
+    }
+    Ok(all)
+}
 
 /// The number that a word writes in decimal digits, without a sign.
 pub(crate) fn number_in(word: &str) -> Result<u32, NoAnswer> {
@@ -22,61 +69,28 @@ pub(crate) fn number_in(word: &str) -> Result<u32, NoAnswer> {
     }
 }
 
-/// The bytes of a file, which are no more than a file may have.
-pub(crate) fn bytes_in<F: Files>(
-    alloc: Global,
-    files: &mut F,
-    file: &str,
-) -> Result<Vec<u8>, NoAnswer>
-    ensures { IfOk result (λ bytes. length bytes.items ≤ standard_limits.file_bytes) }
-{
-    match files.read(alloc, file, Limits::standard().file_bytes as u64) {
-        ReadAnswer::Ok(bytes) => Ok(bytes),
-        ReadAnswer::Memory => Err(NoAnswer::Memory),
-        ReadAnswer::Absent | ReadAnswer::TooLong | ReadAnswer::Failed => {
-            Err(NoAnswer::ReadFault(Text::from_str(alloc, file)?))
-        }
-    }
-}
-
 /// The module in a file, where there is this much room for its declarations.
-pub(crate) fn module_in_room<F: Files>(
-    alloc: Global,
-    files: &mut F,
-    room: u32,
-    file: &str,
-) -> Result<Module, NoAnswer> {
-    let bytes = bytes_in(alloc, files, file)?;
-    Ok(read_module(alloc, file, &bytes, room)?)
+pub(crate) fn module_in_room(alloc: Global, file: &File, room: u32) -> Result<Module, NoAnswer> {
+    Ok(read_module(alloc, file.name, file.bytes(), room)?)
 }
 
 /// The module in a file.
-pub(crate) fn module_in<F: Files>(
-    alloc: Global,
-    files: &mut F,
-    file: &str,
-) -> Result<Module, NoAnswer> {
-    module_in_room(alloc, files, Limits::standard().size, file)
+pub(crate) fn module_in(alloc: Global, file: &File) -> Result<Module, NoAnswer> {
+    module_in_room(alloc, file, Limits::standard().size)
 }
 
 /// The interface in a file, where there is this much room for its declarations.
-pub(crate) fn interface_in_room<F: Files>(
+pub(crate) fn interface_in_room(
     alloc: Global,
-    files: &mut F,
+    file: &File,
     room: u32,
-    file: &str,
 ) -> Result<Interface, NoAnswer> {
-    let bytes = bytes_in(alloc, files, file)?;
-    Ok(read_interface(alloc, file, &bytes, room)?)
+    Ok(read_interface(alloc, file.name, file.bytes(), room)?)
 }
 
 /// The interface in a file.
-pub(crate) fn interface_in<F: Files>(
-    alloc: Global,
-    files: &mut F,
-    file: &str,
-) -> Result<Interface, NoAnswer> {
-    interface_in_room(alloc, files, Limits::standard().size, file)
+pub(crate) fn interface_in(alloc: Global, file: &File) -> Result<Interface, NoAnswer> {
+    interface_in_room(alloc, file, Limits::standard().size)
 }
 
 /// The nameless form of a module.
@@ -88,11 +102,7 @@ pub(crate) fn form_of(alloc: Global, m: &Module) -> Result<NModule, NoAnswer> {
 }
 
 /// The nameless form of the module in a file.
-pub(crate) fn form_in<F: Files>(
-    alloc: Global,
-    files: &mut F,
-    file: &str,
-) -> Result<NModule, NoAnswer> {
-    let m = module_in(alloc, files, file)?;
+pub(crate) fn form_in(alloc: Global, file: &File) -> Result<NModule, NoAnswer> {
+    let m = module_in(alloc, file)?;
     form_of(alloc, &m)
 }

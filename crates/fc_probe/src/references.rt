@@ -1,7 +1,7 @@
 //! What types, coercions and binders of the nameless tree refer to, in the order of their text: each variable by the letter of its space and its
 //! distance, and each declared name with its module. `Int#`, kinds, roles and the words of binders refer to nothing.
-use crate::answers::put_number;
 use fc_printer::put_name;
+use fc_refusals::put_number;
 use fc_syntax::{Memory, NBinder, NCo, NTy, Name};
 use std::alloc::Global;
 

@@ -1,16 +1,13 @@
 //! Tokens, and readers and printers of the forms of a module.
-ghost use Rattle.std.specs.Prelude.{◌≤◌, length};
-ghost use Rattle.fc_syntax.specs.Limits.{standard_limits};
-
-use crate::answers::{NoAnswer, line, line_of, put_number};
-use crate::reading::{bytes_in, module_in, module_in_room, number_in};
-use fc_files::Files;
+use crate::answers::{NoAnswer, line, line_of};
+use crate::reading::{File, module_in, module_in_room};
 use fc_lex::tokens;
 use fc_printer::{print_module, put_decl, put_expr, put_type};
 use fc_reader::{
     Stop, Terminal, Tokens, read_decl, read_expr, read_type, refusal_of, terminals,
     up_to_deep_bracket,
 };
+use fc_refusals::put_number;
 use fc_syntax::{Memory, Seq, Token, TokenKind};
 use itoa::Buffer;
 use std::alloc::Global;
@@ -47,41 +44,32 @@ fn token_text(alloc: Global, token: Token) -> Result<Vec<u8>, Memory> {
     Ok(text)
 }
 
-/// The line of tokens.
-fn tokens_line(alloc: Global, tokens: &[Token]) -> Result<Vec<u8>, Memory> {
+/// The tokens of a file.
+pub(crate) fn tokens_in(alloc: Global, file: &File) -> Result<Vec<u8>, NoAnswer> {
+    let tokens = match tokens(alloc, file.bytes()) {
+        Ok(tokens) => tokens,
+        Err(error) => return Err(refusal_of(alloc, file.name, error).into()),
+    };
     let mut parts = Vec::new(alloc);
-    for token in tokens {
+    for token in tokens.as_slice() {
         parts.push(token_text(alloc, *token)?)?;
     }
-    line_of(alloc, parts.as_slice(), b", ")
-}
-
-/// The tokens of a file.
-pub(crate) fn tokens_in<F: Files>(
-    alloc: Global,
-    files: &mut F,
-    file: &str,
-) -> Result<Vec<u8>, NoAnswer> {
-    let bytes = bytes_in(alloc, files, file)?;
-    match tokens(alloc, &bytes) {
-        Ok(tokens) => Ok(tokens_line(alloc, tokens.as_slice())?),
-        Err(error) => Err(refusal_of(alloc, file, error).into()),
-    }
+    Ok(line_of(alloc, parts.as_slice(), b", ")?)
 }
 
 /// What the tokens of a file are to the readers.
-fn seen<'a>(alloc: Global, file: &str, bytes: &'a [u8]) -> Result<Seq<Terminal<'a>>, NoAnswer>
-    requires { length bytes.now ≤ standard_limits.file_bytes }
-{
+fn seen<'a>(alloc: Global, file: &'a File<'_>) -> Result<Seq<Terminal<'a>>, NoAnswer> {
+    let bytes = file.bytes();
     match tokens(alloc, bytes) {
         Ok(tokens) => Ok(terminals(alloc, bytes, tokens.as_slice())?),
-        Err(error) => Err(refusal_of(alloc, file, error).into()),
+        Err(error) => Err(refusal_of(alloc, file.name, error).into()),
     }
 }
 
-/// The line of a cut: how many tokens stand before it, and whether it is at a bracket that nests too deep.
-fn cut_line(alloc: Global, tokens: &[Terminal<'_>]) -> Result<Vec<u8>, Memory> {
-    let (part, deep) = up_to_deep_bracket(alloc, tokens);
+/// The cut of the tokens of a file: how many stand before it, and whether it is at a bracket that nests too deep.
+pub(crate) fn cut(alloc: Global, file: &File) -> Result<Vec<u8>, NoAnswer> {
+    let seen = seen(alloc, file)?;
+    let (part, deep) = up_to_deep_bracket(alloc, seen.as_slice());
     let mut digits = Buffer::new();
     let mut text = Vec::from_slice(alloc, digits.format(part.len()).as_bytes())?;
     if deep {
@@ -91,17 +79,44 @@ fn cut_line(alloc: Global, tokens: &[Terminal<'_>]) -> Result<Vec<u8>, Memory> {
     Ok(text)
 }
 
-/// The cut of the tokens of a file.
-pub(crate) fn cut<F: Files>(alloc: Global, files: &mut F, file: &str) -> Result<Vec<u8>, NoAnswer> {
-    let bytes = bytes_in(alloc, files, file)?;
-    let seen = seen(alloc, file, &bytes)?;
-    Ok(cut_line(alloc, seen.as_slice())?)
+// FORMS
+
+/// Which form is read.
+#[derive(Clone, Copy)]
+pub(crate) enum Form {
+    Expression,
+    Type,
+    Declaration,
 }
 
-// PIECES
+/// Appends the text of the form that tokens begin with.
+fn put_form(
+    alloc: Global,
+    form: Form,
+    ahead: &mut Tokens<'_>,
+    to: &mut Vec<u8>,
+) -> Result<(), Stop> {
+    match form {
+        Form::Expression => put_expr(&read_expr(alloc, ahead)?, to)?,
+        Form::Type => put_type(&read_type(alloc, ahead)?, to)?,
+        Form::Declaration => put_decl(&read_decl(alloc, ahead)?, to)?,
+    }
+    Ok(())
+}
 
-/// The line of a text that was read, or of where a reader stopped, with how many tokens are left.
-fn left_line(mut text: Vec<u8>, left: usize) -> Result<Vec<u8>, Memory> {
+/// The form that a file begins with, or that its reader stopped, with how many tokens are left.
+pub(crate) fn form_read(alloc: Global, form: Form, file: &File) -> Result<Vec<u8>, NoAnswer> {
+    let seen = seen(alloc, file)?;
+    let mut ahead = Tokens::new(alloc, seen.as_slice());
+    let mut text = Vec::new(alloc);
+    let left = match put_form(alloc, form, &mut ahead, &mut text) {
+        Ok(()) => ahead.left(),
+        Err(Stop::Form(left)) => {
+            text.extend_from_slice(b"stops")?;
+            left
+        }
+        Err(Stop::Memory) => return Err(NoAnswer::Memory),
+    };
     let mut digits = Buffer::new();
     text.extend_from_slice(b", ")?;
     text.extend_from_slice(digits.format(left).as_bytes())?;
@@ -109,112 +124,16 @@ fn left_line(mut text: Vec<u8>, left: usize) -> Result<Vec<u8>, Memory> {
     Ok(text)
 }
 
-/// The line of where a reader stopped.
-fn stopped(alloc: Global, stop: Stop) -> Result<Vec<u8>, Memory> {
-    match stop {
-        Stop::Form(left) => left_line(Vec::from_slice(alloc, b"stops")?, left),
-        Stop::Memory => Err(Memory),
-    }
-}
-
-/// The expression that tokens begin with.
-fn expression_of(alloc: Global, tokens: &[Terminal<'_>]) -> Result<Vec<u8>, Memory> {
-    let mut ahead = Tokens::new(alloc, tokens);
-    let e = match read_expr(alloc, &mut ahead) {
-        Ok(e) => e,
-        Err(stop) => return stopped(alloc, stop),
-    };
-    let mut text = Vec::new(alloc);
-    put_expr(&e, &mut text)?;
-    left_line(text, ahead.left())
-}
-
-/// The type that tokens begin with.
-fn type_of(alloc: Global, tokens: &[Terminal<'_>]) -> Result<Vec<u8>, Memory> {
-    let mut ahead = Tokens::new(alloc, tokens);
-    let t = match read_type(alloc, &mut ahead) {
-        Ok(t) => t,
-        Err(stop) => return stopped(alloc, stop),
-    };
-    let mut text = Vec::new(alloc);
-    put_type(&t, &mut text)?;
-    left_line(text, ahead.left())
-}
-
-/// The declaration that tokens begin with.
-fn declaration_of(alloc: Global, tokens: &[Terminal<'_>]) -> Result<Vec<u8>, Memory> {
-    let mut ahead = Tokens::new(alloc, tokens);
-    let decl = match read_decl(alloc, &mut ahead) {
-        Ok(decl) => decl,
-        Err(stop) => return stopped(alloc, stop),
-    };
-    let mut text = Vec::new(alloc);
-    put_decl(&decl, &mut text)?;
-    left_line(text, ahead.left())
-}
-
-/// The expression that a file begins with.
-pub(crate) fn expression_in<F: Files>(
-    alloc: Global,
-    files: &mut F,
-    file: &str,
-) -> Result<Vec<u8>, NoAnswer> {
-    let bytes = bytes_in(alloc, files, file)?;
-    let seen = seen(alloc, file, &bytes)?;
-    Ok(expression_of(alloc, seen.as_slice())?)
-}
-
-/// The type that a file begins with.
-pub(crate) fn type_in<F: Files>(
-    alloc: Global,
-    files: &mut F,
-    file: &str,
-) -> Result<Vec<u8>, NoAnswer> {
-    let bytes = bytes_in(alloc, files, file)?;
-    let seen = seen(alloc, file, &bytes)?;
-    Ok(type_of(alloc, seen.as_slice())?)
-}
-
-/// The declaration that a file begins with.
-pub(crate) fn declaration_in<F: Files>(
-    alloc: Global,
-    files: &mut F,
-    file: &str,
-) -> Result<Vec<u8>, NoAnswer> {
-    let bytes = bytes_in(alloc, files, file)?;
-    let seen = seen(alloc, file, &bytes)?;
-    Ok(declaration_of(alloc, seen.as_slice())?)
-}
-
 // MODULES
 
-/// Reads the module of a file.
-pub(crate) fn reads<F: Files>(
-    alloc: Global,
-    files: &mut F,
-    file: &str,
-) -> Result<Vec<u8>, NoAnswer> {
-    let _module = module_in(alloc, files, file)?;
-    Ok(line(alloc, "read")?)
-}
-
-/// Reads the module of a file, where there is as much room as a word says.
-pub(crate) fn reads_in_room<F: Files>(
-    alloc: Global,
-    files: &mut F,
-    room: &str,
-    file: &str,
-) -> Result<Vec<u8>, NoAnswer> {
-    let _module = module_in_room(alloc, files, number_in(room)?, file)?;
+/// Reads the module of a file, where there is this much room for its declarations.
+pub(crate) fn reads(alloc: Global, room: u32, file: &File) -> Result<Vec<u8>, NoAnswer> {
+    let _module = module_in_room(alloc, file, room)?;
     Ok(line(alloc, "read")?)
 }
 
 /// The canonical text of the module of a file.
-pub(crate) fn printed<F: Files>(
-    alloc: Global,
-    files: &mut F,
-    file: &str,
-) -> Result<Vec<u8>, NoAnswer> {
-    let m = module_in(alloc, files, file)?;
+pub(crate) fn printed(alloc: Global, file: &File) -> Result<Vec<u8>, NoAnswer> {
+    let m = module_in(alloc, file)?;
     Ok(print_module(alloc, &m)?)
 }

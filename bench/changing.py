@@ -1,0 +1,92 @@
+#!/usr/bin/env python3
+"""Runs calls of the probe on nameless modules of growing size, up to the limits of a module: copies, measures, naming back, arguments in place of variables, what binds without
+its binders, and how often something occurs. Prints for each the pieces of the module, the processor seconds (the least of five runs), the nanoseconds a piece, and how many
+times that of the smallest size this is. Each call reads the module and makes it nameless first, and all but the measures and the counts name it back and print it, so the same
+module under `resolve`, which does no more than the first, and under `name_back` stands for comparison. There are four kinds of modules: lets nested as deep as the limits let
+them; one group of recursive binds; one binder that is used in one long constructor; and applications of lambdas. Run it from anywhere, on a machine where the
+probe is built, or with another program as its only word."""
+import os
+import subprocess
+import sys
+import tempfile
+
+import measured
+from measured import best, write
+
+RUNS = 5
+LETS = 480
+
+if len(sys.argv) == 1:
+    measured.PROGRAM = os.path.join(measured.TOP, "crates", "fc_probe", "out", "fc_probe")
+
+
+def lets(used):
+    """Lets nested deep, of which each but the first uses the one before; the first uses `used`."""
+    inner = "".join(f"(let (y{k} T (con S {used if k == 0 else f'y{k - 1}'})) " for k in range(LETS))
+    return f"{inner}y{LETS - 1}{')' * LETS}"
+
+
+def deep(count):
+    """Definitions that are lets nested deep behind a lambda, and a last one that applies such a lambda."""
+    for k in range(count):
+        yield f"(def d{k} (fun T T) (lam ((x T)) {lets('x')}))"
+    yield f"(def e T (app (lam ((x T)) {lets('x')}) (con K)))"
+
+
+def group(count):
+    """A lambda around one group of recursive binds, each of which uses the next and the variable of the lambda, applied."""
+    binds = " ".join(f"(b{k} T (con P b{(k + 1) % count} x))" for k in range(count))
+    yield f"(def e T (app (lam ((x T)) (letrec ({binds}) b0)) (con K)))"
+
+
+def uses(count):
+    """A lambda that uses its variable so often, in binds of one group, applied."""
+    binds = " ".join(f"(b{k} T (con P x x))" for k in range(count // 2))
+    yield f"(def e T (app (lam ((x T)) (letrec ({binds}) x)) (con K)))"
+
+
+def applied(count):
+    """Constants, and a last one that applies a lambda which does not use its variable."""
+    binds = " ".join(f"(b{k} T (con S (con K)))" for k in range(count))
+    yield f"(def e T (app (lam ((x T)) (letrec ({binds}) (con K))) (con K)))"
+
+
+def module(kind, count):
+    lines = ["(module M (imports) (exports e)", " (data T () (K ()) (S () T) (P () T T))", *kind(count)]
+    return "\n".join(lines) + ")\n"
+
+
+# the name of a kind, what makes it, and its numbers
+KINDS = [
+    ("lets", deep, [45, 90, 180]),
+    ("group", group, [12_500, 25_000, 50_000]),
+    ("uses", uses, [25_000, 50_000, 100_000]),
+    ("unused", applied, [16_000, 32_000, 64_000]),
+]
+# the calls; the last definition is an application to which the place `-` and the place 0 lead, of its lambda
+CALLS = [["resolve"], ["name_back", "-"], ["copy"], ["measures"], ["substitute", "-"], ["leave_binders", "0"], ["occurs", "0"]]
+
+
+def pieces(folder):
+    """How many pieces the module has, as the call that measures says at its end."""
+    said = subprocess.run([measured.PROGRAM, "measures", "M.fc"], cwd=folder, capture_output=True, text=True, check=True).stdout
+    return int(said.split(", ")[-1].split(" ")[1])
+
+
+def main():
+    print("| Kind | Pieces | Call | Seconds | Nanoseconds a piece | Of the smallest |\n|---|---|---|---|---|---|")
+    for name, kind, counts in KINDS:
+        first = {}
+        for count in counts:
+            with tempfile.TemporaryDirectory() as folder:
+                write(folder, "M.fc", module(kind, count))
+                size = pieces(folder)
+                for call in CALLS:
+                    seconds, _ = best([*call, "M.fc"], folder, RUNS)
+                    each = seconds / size * 1e9
+                    first.setdefault(call[0], each)
+                    print(f"| {name} | {size:,} | {call[0]} | {seconds:.3f} | {each:,.0f} | {each / first[call[0]]:.2f} |")
+
+
+if __name__ == "__main__":
+    main()
