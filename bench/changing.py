@@ -58,7 +58,7 @@ def module(kind, count):
 
 # the name of a kind, what makes it, and its numbers
 KINDS = [
-    ("lets", deep, [45, 90, 180]),
+    ("lets", deep, [40, 80, 160]),
     ("group", group, [12_500, 25_000, 50_000]),
     ("uses", uses, [25_000, 50_000, 100_000]),
     ("unused", applied, [16_000, 32_000, 64_000]),
