@@ -2,9 +2,10 @@
 """Runs calls of the probe on nameless modules of growing size, up to the limits of a module: copies, measures, naming back, arguments in place of variables, what binds without
 its binders, and how often something occurs. Prints for each the pieces of the module, the processor seconds (the least of five runs), the nanoseconds a piece, and how many
 times that of the smallest size this is. Each call reads the module and makes it nameless first, and all but the measures and the counts name it back and print it, so the same
-module under `resolve`, which does no more than the first, and under `name_back` stands for comparison. There are four kinds of modules: lets nested as deep as the limits let
-them; one group of recursive binds; one binder that is used in one long constructor; and applications of lambdas. Run it from anywhere, on a machine where the
-probe is built, or with another program as its only word."""
+module under `resolve`, which prints what its declarations refer to, and under `name_back` stands for comparison. There are four kinds of modules: lets nested as deep as the limits let
+them, in many definitions; one group of recursive binds, each of which uses the next; one group of binds that use one variable around it twice each; and one group that does not use
+it. The last definition applies a lambda around these, so that its variable is what is replaced and counted. Run it from anywhere, on a machine where the probe is built, or with
+another program as its only word."""
 import os
 import subprocess
 import sys
@@ -40,13 +41,13 @@ def group(count):
 
 
 def uses(count):
-    """A lambda that uses its variable so often, in binds of one group, applied."""
+    """A lambda around one group of binds that use its variable, so often in all, applied."""
     binds = " ".join(f"(b{k} T (con P x x))" for k in range(count // 2))
     yield f"(def e T (app (lam ((x T)) (letrec ({binds}) x)) (con K)))"
 
 
-def applied(count):
-    """Constants, and a last one that applies a lambda which does not use its variable."""
+def unused(count):
+    """A lambda around one group of binds that do not use its variable, applied."""
     binds = " ".join(f"(b{k} T (con S (con K)))" for k in range(count))
     yield f"(def e T (app (lam ((x T)) (letrec ({binds}) (con K))) (con K)))"
 
@@ -61,7 +62,7 @@ KINDS = [
     ("lets", deep, [40, 80, 160]),
     ("group", group, [12_500, 25_000, 50_000]),
     ("uses", uses, [25_000, 50_000, 100_000]),
-    ("unused", applied, [16_000, 32_000, 64_000]),
+    ("unused", unused, [16_000, 32_000, 64_000]),
 ]
 # the calls; the last definition is an application to which the place `-` and the place 0 lead, of its lambda
 CALLS = [["resolve"], ["name_back", "-"], ["copy"], ["measures"], ["substitute", "-"], ["leave_binders", "0"], ["occurs", "0"]]
