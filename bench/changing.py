@@ -2,8 +2,8 @@
 """Runs calls of the probe on nameless modules of growing size, up to the limits of a module: copies, measures, naming back, arguments in place of variables, what binds without
 its binders, and how often something occurs. Prints for each the pieces of the module, the processor seconds (the least of five runs), the nanoseconds a piece, and how many
 times that of the smallest size this is. Each call reads the module and makes it nameless first, and all but the measures and the counts name it back and print it, so the same
-module under `resolve`, which prints what its declarations refer to, and under `name_back` stands for comparison. There are four kinds of modules: lets nested as deep as the limits let
-them, in many definitions; one group of recursive binds, each of which uses the next; one group of binds that use one variable around it twice each; and one group that does not use
+module under `resolve`, which prints what its declarations refer to, and under `name_back` stands for comparison. There are five kinds of modules: lets nested as deep as the limits let
+them, in many definitions; the same where all of them bind one word; one group of recursive binds, each of which uses the next; one group of binds that use one variable around it twice each; and one group that does not use
 it. The last definition applies a lambda around these, so that its variable is what is replaced and counted. Run it from anywhere, on a machine where the probe is built, or with
 another program as its only word."""
 import os
@@ -27,11 +27,21 @@ def lets(used):
     return f"{inner}y{LETS - 1}{')' * LETS}"
 
 
-def deep(count):
+def lets_of_one_word(used):
+    """The same, where each binds the word of the one before."""
+    inner = "".join(f"(let (y T (con S {used if k == 0 else 'y'})) " for k in range(LETS))
+    return f"{inner}y{')' * LETS}"
+
+
+def deep(count, nested=lets):
     """Definitions that are lets nested deep behind a lambda, and a last one that applies such a lambda."""
     for k in range(count):
-        yield f"(def d{k} (fun T T) (lam ((x T)) {lets('x')}))"
-    yield f"(def e T (app (lam ((x T)) {lets('x')}) (con K)))"
+        yield f"(def d{k} (fun T T) (lam ((x T)) {nested('x')}))"
+    yield f"(def e T (app (lam ((x T)) {nested('x')}) (con K)))"
+
+
+def deep_of_one_word(count):
+    return deep(count, lets_of_one_word)
 
 
 def group(count):
@@ -60,6 +70,7 @@ def module(kind, count):
 # the name of a kind, what makes it, and its numbers
 KINDS = [
     ("lets", deep, [40, 80, 160]),
+    ("one word", deep_of_one_word, [40, 80, 160]),
     ("group", group, [12_500, 25_000, 50_000]),
     ("uses", uses, [25_000, 50_000, 100_000]),
     ("unused", unused, [16_000, 32_000, 64_000]),

@@ -14,34 +14,36 @@ use Rattle.fc_model.specs.ResolutionRules.{AreDistinct, no_words_left, one_word_
 use Rattle.fc_model.specs.Worded.{WTy, WBinder, WExpr, bare_binder, bare_binders, bare_expr}
 use Rattle.fc_model.proofs.Sameness.{false_true}
 use Rattle.fc_used_words.specs.Scoped.{Counts, HoldsTys, HoldsBinder, HoldsBinders, HoldsExpr, in_binder, in_binders, in_type, in_value, in_coercion, nothing_around}
-use Rattle.fc_used_words.specs.Standing.{AreWithin, is_found, is_found_by, is_kept}
+use Rattle.fc_used_words.specs.Standing.{AreWithin, is_found, is_found_by, more_coercions, more_terms, more_types}
 use Rattle.fc_used_words.proofs.Both.{below_binders, both_binder, both_binders, both_expr, both_tys}
 use Rattle.fc_used_words.proofs.Collecting.{take_item}
 use Rattle.fc_used_words.proofs.Keeping.{by_test}
 use Rattle.fc_naming.specs.Groups.{IsGroup}
-use Rattle.fc_naming.specs.Named.{AreLower, BelowUses, IsChosen, IsNamedBelow, IsNamedExpr, IsNamedTy, TakeWords, none_take, more_take, TakesWord, value_takes, type_takes, coercion_takes}
+use Rattle.fc_naming.specs.Named.{AreLower, BelowUses, LamUses, IsChosen, IsNamedBelow, IsNamedExpr, IsNamedTy, TakeWords, none_take, more_take, TakesWord, value_takes, type_takes, coercion_takes}
+use Rattle.fc_naming.specs.Taken.{taken_words}
+use Rattle.fc_naming.specs.declared.taken.Taken.{Taken}
 use Rattle.fc_naming.proofs.Lower.{and_keeps, both, chosen_lower, coercion_lower, end_keeps, term_lower, type_lower}
-use Rattle.fc_naming.proofs.Naming.{found_by, found_kept, takes_coercion, takes_type, takes_value}
+use Rattle.fc_naming.proofs.Naming.{found_by, takes_coercion, takes_type, takes_value}
 
 -- ONE BINDER
 
-pub named_value_binder : {top : Top} {s : Locals} {taken : Words} {set : WordSet} {w v : Word} {a : WTy} {t : Ty} → IsChosen taken.terms w v → IsNamedTy top s a t → set ≡ plus v taken.terms
-    → {c : WBinder} → c ≡ BValue w a → TakesWord top s taken c (BValue v t) (with_term (Value v) s) (record taken { terms = set })
-named_value_binder {top = top} {s = s} {taken = taken} {set = set} {w = w} {v = v} {a = a} {t = t} i p is same =
-    subst (λ (c : WBinder). TakesWord top s taken c (BValue v t) (with_term (Value v) s) (record taken { terms = set })) (sym same)
-    (subst (λ (x : WordSet). TakesWord top s taken (BValue w a) (BValue v t) (with_term (Value v) s) (record taken { terms = x })) (sym is) (value_takes i.free (chosen_lower i) p))
+pub named_value_binder : {top : Top} {s : Locals} {taken more : Words} {w v : Word} {a : WTy} {t : Ty} → IsChosen taken.terms w v → IsNamedTy top s a t → more ≡ more_terms v taken
+    → {c : WBinder} → c ≡ BValue w a → TakesWord top s taken c (BValue v t) (with_term (Value v) s) more
+named_value_binder {top = top} {s = s} {taken = taken} {more = more} {w = w} {v = v} {a = a} {t = t} i p is same =
+    subst (λ (c : WBinder). TakesWord top s taken c (BValue v t) (with_term (Value v) s) more) (sym same)
+    (subst (TakesWord top s taken (BValue w a) (BValue v t) (with_term (Value v) s)) (sym is) (value_takes i.free (chosen_lower i) p))
 
-pub named_type_binder : {top : Top} {s : Locals} {taken : Words} {set : WordSet} {w v : Word} {k : Kind} → IsChosen taken.types w v → set ≡ plus v taken.types
-    → {c : WBinder} → c ≡ BType w k → TakesWord top s taken c (BType v k) (with_type v s) (record taken { types = set })
-named_type_binder {top = top} {s = s} {taken = taken} {set = set} {w = w} {v = v} {k = k} i is same =
-    subst (λ (c : WBinder). TakesWord top s taken c (BType v k) (with_type v s) (record taken { types = set })) (sym same)
-    (subst (λ (x : WordSet). TakesWord top s taken (BType w k) (BType v k) (with_type v s) (record taken { types = x })) (sym is) (type_takes i.free (chosen_lower i)))
+pub named_type_binder : {top : Top} {s : Locals} {taken more : Words} {w v : Word} {k : Kind} → IsChosen taken.types w v → more ≡ more_types v taken
+    → {c : WBinder} → c ≡ BType w k → TakesWord top s taken c (BType v k) (with_type v s) more
+named_type_binder {top = top} {s = s} {taken = taken} {more = more} {w = w} {v = v} {k = k} i is same =
+    subst (λ (c : WBinder). TakesWord top s taken c (BType v k) (with_type v s) more) (sym same)
+    (subst (TakesWord top s taken (BType w k) (BType v k) (with_type v s)) (sym is) (type_takes i.free (chosen_lower i)))
 
-pub named_coercion_binder : {top : Top} {s : Locals} {taken : Words} {set : WordSet} {w v : Word} {r : Role} {a b : WTy} {t u : Ty} → IsChosen taken.coercions w v → IsNamedTy top s a t → IsNamedTy top s b u
-    → set ≡ plus v taken.coercions → {c : WBinder} → c ≡ BCo w r a b → TakesWord top s taken c (BCo v r t u) (with_coercion v s) (record taken { coercions = set })
-named_coercion_binder {top = top} {s = s} {taken = taken} {set = set} {w = w} {v = v} {r = r} {a = a} {b = b} {t = t} {u = u} i p q is same =
-    subst (λ (c : WBinder). TakesWord top s taken c (BCo v r t u) (with_coercion v s) (record taken { coercions = set })) (sym same)
-    (subst (λ (x : WordSet). TakesWord top s taken (BCo w r a b) (BCo v r t u) (with_coercion v s) (record taken { coercions = x })) (sym is) (coercion_takes i.free (chosen_lower i) p q))
+pub named_coercion_binder : {top : Top} {s : Locals} {taken more : Words} {w v : Word} {r : Role} {a b : WTy} {t u : Ty} → IsChosen taken.coercions w v → IsNamedTy top s a t → IsNamedTy top s b u
+    → more ≡ more_coercions v taken → {c : WBinder} → c ≡ BCo w r a b → TakesWord top s taken c (BCo v r t u) (with_coercion v s) more
+named_coercion_binder {top = top} {s = s} {taken = taken} {more = more} {w = w} {v = v} {r = r} {a = a} {b = b} {t = t} {u = u} i p q is same =
+    subst (λ (c : WBinder). TakesWord top s taken c (BCo v r t u) (with_coercion v s) more) (sym same)
+    (subst (TakesWord top s taken (BCo w r a b) (BCo v r t u) (with_coercion v s)) (sym is) (coercion_takes i.free (chosen_lower i) p q))
 
 -- what is found below a binder without a word, is found below it with its word
 module _ (top : Top) where
@@ -151,33 +153,31 @@ module _ (top : Top) where
 pub none_within : (ws : Words) → AreWithin no_words ws
 none_within ws = record { types = λ w h. false_true h; terms = λ w h. false_true h; coercions = λ w h. false_true h }
 
-pub named_below : {top : Top} {s t : Locals} {taken more : Words} {cs : List WBinder} {bs : List Binder} {e : WExpr} {f : Expr} → BelowUses top.own s (bare_binders cs) (bare_expr e) taken
+pub named_below : {top : Top} {s t : Locals} {taken more : Words} {cs : List WBinder} {bs : List Binder} {e : WExpr} {f : Expr} → BelowUses top s (bare_binders cs) (bare_expr e) taken
     → TakeWords top s taken cs bs t more → IsNamedExpr top t e f → IsNamedBelow top s cs e bs f
 named_below {top = top} {s = s} {t = t} {taken = taken} {more = more} {cs = cs} {bs = bs} {e = e} {f = f} u d n = record {
-  binders = λ h g. words_resolve top s t taken more cs bs d no_words (none_within taken) (both_binders _ _ _ _ (found_kept top taken s) nothing_around nothing_around refl (bare_binders cs) h u.binders);
+  binders = λ h g. words_resolve top s t taken more cs bs d no_words (none_within taken) (u.binders h);
   body = λ h g. subst (λ (z : Locals). ResolvesExpr top z f (bare_expr e)) (sym (words_enter top s t taken more cs bs d))
-      (n.resolves (words_expr top s t taken more cs bs d (bare_expr e) (both_expr _ _ _ _ (found_kept top taken s) _ _ refl (bare_expr e) g u.body)));
+      (n.resolves (words_expr top s t taken more cs bs d (bare_expr e) (u.body g)));
   binders_formed = λ l. record { none = words_none top d; formed = λ h. (words_formed top d l h).0 };
   body_formed = λ l h. n.formed (words_formed top d l h).1;
 }
 
-pub named_lambda : {top : Top} {s t : Locals} {taken more : Words} {c : WBinder} {b : Binder} {e : WExpr} {f : Expr} → HoldsExpr (is_kept top.own taken s) (in_binder (bare_binder c) nothing_around) (bare_expr e)
+pub named_lambda : {top : Top} {s t : Locals} {taken more : Words} {c : WBinder} {b : Binder} {e : WExpr} {f : Expr} → LamUses top s (bare_binder c) (bare_expr e) taken
     → TakesWord top s taken c b t more → IsNamedExpr top t e f → IsNamedExpr top s (ELam c e) (ELam b f)
-named_lambda {top = top} {s = s} {t = t} {taken = taken} {more = more} {c = c} {b = b} {e = e} {f = f} kept d n = record {
-  resolves = λ h.
-      let around = in_binder (bare_binder c) nothing_around in
-      let found = both_expr _ _ _ _ (found_kept top taken s) around around refl (bare_expr e) h.1 kept in
-      resolves_lambda (word_resolves top s t taken more c b d h.0) (subst (λ (z : Locals). ResolvesExpr top z f (bare_expr e)) (sym (word_enters top s t taken more c b d))
-      (n.resolves (words_expr top s t taken more (c ∷ []) (b ∷ []) (more_take d none_take) (bare_expr e) found)));
+named_lambda {top = top} {s = s} {t = t} {taken = taken} {more = more} {c = c} {b = b} {e = e} {f = f} u d n = record {
+  resolves = λ h. resolves_lambda (word_resolves top s t taken more c b d h.0) (subst (λ (z : Locals). ResolvesExpr top z f (bare_expr e)) (sym (word_enters top s t taken more c b d))
+      (n.resolves (words_expr top s t taken more (c ∷ []) (b ∷ []) (more_take d none_take) (bare_expr e) (u.body h.1))));
   formed = λ l h. let k = and_parts _ _ h in both (word_formed top d l k.0) (n.formed (word_lower top d l k.0) k.1);
 }
 
 -- BINDERS THAT ARE NAMED IN A LOOP
 
-pub take_start : {top : Top} (s t : Locals) (taken : Words) (items : List (RustBinder.Binder ℕ)) (out : List (RustBinder.Binder Word)) → out ≡ [] → t ≡ s
-    → TakeWords top s taken (binders_of (take 0 items)) (binders_of out) t taken
-take_start {top = top} s t taken items out e same =
-    subst (λ (bs : List (RustBinder.Binder Word)). TakeWords top s taken [] (binders_of bs) t taken) (sym e) (subst (λ (z : Locals). TakeWords top s taken [] [] z taken) (sym same) none_take)
+pub take_start : (top : Top) (s t : Locals) (taken : Taken) (items : List (RustBinder.Binder ℕ)) (out : List (RustBinder.Binder Word)) → out ≡ [] → t ≡ s
+    → TakeWords top s (taken_words top s taken) (binders_of (take 0 items)) (binders_of out) t (taken_words top t taken)
+take_start top s t taken items out e same =
+    subst (λ (bs : List (RustBinder.Binder Word)). TakeWords top s (taken_words top s taken) [] (binders_of bs) t (taken_words top t taken)) (sym e)
+    (subst (λ (z : Locals). TakeWords top s (taken_words top s taken) [] [] z (taken_words top z taken)) (sym same) none_take)
 
 take_end : {top : Top} {s t u : Locals} {taken more last : Words} {cs : List WBinder} {bs : List Binder} {c : WBinder} {b : Binder} → TakeWords top s taken cs bs t more → TakesWord top t more c b u last
     → TakeWords top s taken (cs ++ c ∷ []) (bs ++ b ∷ []) u last
@@ -217,7 +217,7 @@ length_end : {X : Type 0} (xs : List X) (x : X) → length (xs ++ x ∷ []) ≡ 
 length_end [] x = refl
 length_end (y ∷ xs) x = let r = length_end xs x in omega arith
 
-pub group_start : {X : Type 0} (taken : WordSet) (items : List X) (hint : X → Word) (words names : List Word) → words ≡ [] → names ≡ [] → IsGroup taken (take 0 items) hint words names taken
+group_start : {X : Type 0} (taken : WordSet) (items : List X) (hint : X → Word) (words names : List Word) → words ≡ [] → names ≡ [] → IsGroup taken (take 0 items) hint words names taken
 group_start taken items hint words names e f =
     subst (λ (ws : List Word). IsGroup taken (take 0 items) hint ws names taken) (sym e) (subst (λ (ns : List Word). IsGroup taken (take 0 items) hint [] ns taken) (sym f) (record {
       distinct = no_words_left;
@@ -227,6 +227,11 @@ group_start taken items hint words names e f =
       joins = λ s. refl;
       taken_then = refl;
     }))
+
+-- the same where what is taken is told by the words for look-ups
+pub group_start_at : {X : Type 0} (taken : List Word → WordSet) (items : List X) (hint : X → Word) (words names : List Word) → words ≡ [] → names ≡ [] → IsGroup (taken []) (take 0 items) hint words names (taken names)
+group_start_at taken items hint words names e f =
+    subst (λ (ns : List Word). IsGroup (taken []) (take 0 items) hint words ns (taken ns)) (sym f) (group_start (taken []) items hint words [] e refl)
 
 group_end : {X : Type 0} {hint : X → Word} {taken mid : WordSet} (items : List X) {words names : List Word} (x : X) (v : Word) → IsGroup taken items hint words names mid → IsChosen mid (hint x) v
     → IsGroup taken (items ++ x ∷ []) hint (words ++ v ∷ []) (v ∷ names) (plus v mid)

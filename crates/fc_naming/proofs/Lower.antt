@@ -1,6 +1,6 @@
 -- Words of the text form: the candidates for a binder, the words in scope and the names that are written.
 use Rattle.std.proofs.Common.{◌≡◌, ◌<◌, ◌+◌, ◌++◌, ◌/◌, ◌%◌, ℕ, zero, suc, Bool, true, false, List, [], ◌∷◌, Option, Some, None, if◌then◌else◌, bytes_eq, slice_get, refl, sym, ap, ◌∙◌, subst, arith}
-use Rattle.std.specs.Prelude.{◌&&◌, ◌==◌, is_none, not}
+use Rattle.std.specs.Prelude.{◌&&◌, ◌==◌, codes, is_none, not}
 use Rattle.std.specs.Fmt.{decimal, digit_glyph, digits, digits_onto}
 use Rattle.std.specs.List.{find, list_all, list_any}
 use Rattle.std.proofs.lemmas.Bool.{and_from, and_parts, cond_both, lt-ltb, not-true, or_right, true≢false}
@@ -17,7 +17,7 @@ use Rattle.fc_model.specs.Resolution.{Locals, TermWord, Value, Join, WordSet, en
 use Rattle.fc_model.specs.Words.{keyword_of}
 use Rattle.fc_scope.specs.WordsAt.{join_word, value_word}
 use Rattle.fc_used_words.specs.Standing.{outside, short}
-use Rattle.fc_naming.specs.Named.{AreLower, IsChosen, IsLower, candidate, term_word}
+use Rattle.fc_naming.specs.Named.{AreLower, IsChosen, IsLower, IsWritten, candidate, term_word}
 
 -- TESTS
 
@@ -113,6 +113,22 @@ join_at [] i v h is = absurd (cc)
 join_at (Join w ∷ xs) zero v h is = let e : w ≡ v = cc in subst IsLower e (and_parts _ _ h).0
 join_at (Join w ∷ xs) (suc i) v h is = join_at xs i v (and_parts _ _ h).1 is
 join_at (Value w ∷ xs) i v h is = join_at xs i v (and_parts _ _ h).1 is
+
+-- WORDS THAT ARE WRITTEN
+
+pub written_some : {o : Option Word} {w v : Word} → o ≡ Some w → v ≡ w → IsWritten o v
+written_some {w = w} is same = record { word = λ u at. let e : w ≡ u = cc in same ∙ e; other = λ none. absurd (cc) }
+
+pub written_none : {o : Option Word} {v : Word} → o ≡ None → v ≡ codes "unbound" → IsWritten o v
+unfolding keyword_of
+written_none is same = record { word = λ w at. absurd (cc); other = λ none. subst IsLower (sym same) refl }
+
+-- a word that is written is lower, where that of the binder is
+pub written_lower : (o : Option Word) (v : Word) → IsWritten o v → ((w : Word) → o ≡ Some w → IsLower w) → IsLower v
+written_lower None v is low = is.other refl
+written_lower (Some w) v is low = subst IsLower (sym (is.word w refl)) (low w refl)
+
+pub ruleset word_rules = (written_some, written_none)
 
 -- NAMES THAT ARE WRITTEN
 

@@ -13,35 +13,24 @@ use Rattle.fc_syntax.specs.declared.ty.Name.{Name}
 use Rattle.fc_syntax.specs.Tree.{Word, Kind, Ty, Binder, Expr, Param, ParamOf, Plain, PlainOf, ConDecl, ConOf, Decl, DData, DNew, DFamily, DAxiom, DDef, DWrap}
 use Rattle.fc_model.specs.Declaring.{coercion_words, term_words, type_words, words_by}
 use Rattle.fc_model.specs.Formed.{field_binders_formed, field_coercions_formed, is_lower_word, named_words, nameless_words, param_formed, plain_formed}
-use Rattle.fc_model.specs.Nameless.{NTy, NBinder, NExpr, NParam, NConDecl, NData, NNew, NFamily, NAxiom}
+use Rattle.fc_model.specs.Nameless.{NTy, NExpr, NParam, NConDecl, NData, NNew, NFamily, NAxiom}
 use Rattle.fc_model.specs.Resolution.{Top, Locals, Words, WordSet, no_locals, no_word, no_words, plus, plus_all, with_type, in_params, behind}
 use Rattle.fc_model.specs.ResolutionRules.{AreDistinct, no_words_left, one_word_more, ResolvesTys, ResolvesTy, ResolvesCons, ResolvesDecl}
 use Rattle.fc_model.specs.ResolutionRules.{resolves_no_constructors, resolves_constructors, resolves_data, resolves_newtype, resolves_family, resolves_equation, resolves_def, resolves_wrap, resolves_no_decls, resolves_decls}
 use Rattle.fc_model.specs.Worded.{WTy, WBinder, WConDecl, WDecl, WExpr, bare_binders, bare_con, bare_expr, bare_param, bare_plain, bare_ty, bare_tys}
 use Rattle.fc_model.proofs.Sameness.{false_true}
 use Rattle.fc_scope.specs.ScopeWords.{with_types}
-use Rattle.fc_used_words.specs.Scoped.{Counts, Saying, HoldsTy, HoldsTys, HoldsBinders, HoldsCons, HoldsExpr, in_binders, in_parameters, in_type, nothing_around, is_meant}
-use Rattle.fc_used_words.specs.Standing.{is_found, is_found_by, is_kept, more_types}
-use Rattle.fc_used_words.specs.Used.{AddsTys, AddsBinders}
-use Rattle.fc_used_words.proofs.Both.{Follows, both_binders, both_cons, both_expr, both_ty, both_tys}
+use Rattle.fc_used_words.specs.Scoped.{Counts, Saying, HoldsTy, HoldsCons, HoldsExpr, in_parameters, in_type, nothing_around, is_meant}
+use Rattle.fc_used_words.specs.Standing.{is_found, is_found_by, more_types}
+use Rattle.fc_used_words.proofs.Both.{Follows, both_cons, both_expr, both_ty}
 use Rattle.fc_used_words.proofs.Collecting.{take_item}
-use Rattle.fc_used_words.proofs.Keeping.{Same, below_same, beyond_near, kept_within}
+use Rattle.fc_used_words.proofs.Keeping.{Same, below_same, beyond_near}
 use Rattle.fc_naming.specs.Named.{AreLower, IsChosen, IsNamedTy, IsNamedTys, IsNamedExpr, TakeWords, none_take, more_take, value_takes, type_takes, coercion_takes}
 use Rattle.fc_naming.specs.Declarations.{FieldsUse, IsNamedCon, con_named, IsNamedCons, HaveWords, IsNamedDecl, IsNamedDecls}
 use Rattle.fc_naming.proofs.Each.{AreEach, each_more, each_none}
 use Rattle.fc_naming.proofs.Groups.{distinct_end, none_within, plus_all_end, words_enter, words_resolve, words_tys}
 use Rattle.fc_naming.proofs.Lower.{and_keeps, both, chosen_lower, coercion_lower, end_keeps, none_lower, type_lower}
-use Rattle.fc_naming.proofs.Naming.{By, found_by, found_kept, found_meant, is_declared, takes_type}
-
--- WORDS OF THE FIELDS
-
-pub fields_use : {own : Word} {s : Locals} {k l : Counts} {ns ms : List NBinder} {ts us : List NTy} {ws mid more : Words} → AddsBinders own s k ns ws mid → k ≡ nothing_around → l ≡ in_binders ns k
-    → AddsTys own s l ts mid more → ns ≡ ms → ts ≡ us → FieldsUse own s ms us more
-fields_use {own = own} {s = s} {k = k} {l = l} {ns = ns} {ts = ts} {us = us} {mid = mid} {more = more} a none below b e f =
-    subst (λ (xs : List NBinder). FieldsUse own s xs us more) e (subst (λ (xs : List NTy). FieldsUse own s ns xs more) f (record {
-      binders = subst (λ (c : Counts). HoldsBinders (is_kept own more s) c ns) none (both_binders _ _ _ _ (kept_within own mid more s b.within) k k refl ns a.kept a.kept);
-      fields = subst (λ (c : Counts). HoldsTys (is_kept own more s) c ts) (below ∙ ap (in_binders ns) none) b.kept;
-    }))
+use Rattle.fc_naming.proofs.Naming.{By, found_by, found_meant, is_declared, takes_type}
 
 -- CONSTRUCTORS
 
@@ -69,15 +58,15 @@ binders_formed (more_take (coercion_takes free low p q) rest) l h =
     let r = coercions_formed rest (coercion_lower l (low (and_parts _ _ k.0).0)) k.1 in
     (both (and_keeps low (and_keeps (λ e. e) (and_keeps (p.formed l) (q.formed l))) k.0) r.0, r.1)
 
-con_from : {top : Top} {s t : Locals} {taken more : Words} (n : Word) {cs : List WBinder} {bs : List Binder} {ts : List WTy} {fields : List Ty} → FieldsUse top.own s (bare_binders cs) (bare_tys ts) taken
+con_from : {top : Top} {s t : Locals} {taken more : Words} (n : Word) {cs : List WBinder} {bs : List Binder} {ts : List WTy} {fields : List Ty} → FieldsUse top s (bare_binders cs) (bare_tys ts) taken
     → TakeWords top s taken cs bs t more → IsNamedTys top t ts fields → IsNamedCon top s (ConOf n cs ts) (ConOf n bs fields)
 con_from {top = top} {s = s} {t = t} {taken = taken} {more = more} n {cs = cs} {bs = bs} {ts = ts} {fields = fields} u d p = con_named
-    (λ h g. words_resolve top s t taken more cs bs d no_words (none_within taken) (both_binders _ _ _ _ (found_kept top taken s) nothing_around nothing_around refl (bare_binders cs) h u.binders))
+    (λ h g. words_resolve top s t taken more cs bs d no_words (none_within taken) (u.binders h))
     (λ h g. subst (λ (z : Locals). ResolvesTys top z.types fields (bare_tys ts)) (sym (words_enter top s t taken more cs bs d))
-    (p.resolves (words_tys top s t taken more cs bs d (bare_tys ts) (both_tys _ _ _ _ (found_kept top taken s) _ _ refl (bare_tys ts) g u.fields))))
+    (p.resolves (words_tys top s t taken more cs bs d (bare_tys ts) (u.fields g))))
     (λ l h. let k = and_parts _ _ h in let j = and_parts _ _ k.1 in let r = binders_formed d l j.0 in both k.0 (both r.0 (p.formed r.1 j.1)))
 
-pub named_con : {top : Top} {s t : Locals} {taken more : Words} {n m : Word} {cs ds : List WBinder} {bs : List Binder} {ts us : List WTy} {fields : List Ty} → FieldsUse top.own s (bare_binders cs) (bare_tys ts) taken
+pub named_con : {top : Top} {s t : Locals} {taken more : Words} {n m : Word} {cs ds : List WBinder} {bs : List Binder} {ts us : List WTy} {fields : List Ty} → FieldsUse top s (bare_binders cs) (bare_tys ts) taken
     → TakeWords top s taken ds bs t more → IsNamedTys top t us fields → ds ≡ cs → us ≡ ts → n ≡ m → IsNamedCon top s (ConOf m cs ts) (ConOf n bs fields)
 named_con {top = top} {s = s} {t = t} {taken = taken} {more = more} {n = n} {cs = cs} {bs = bs} {ts = ts} {fields = fields} u d p e f is =
     subst (λ (w : Word). IsNamedCon top s (ConOf w cs ts) (ConOf n bs fields)) is

@@ -31,10 +31,10 @@ use Rattle.fc_used_words.specs.Standing.{is_found, is_found_by, more_terms, outs
 use Rattle.fc_used_words.proofs.Both.{below_group, below_joins, both_binds, both_expr, both_joins}
 use Rattle.fc_used_words.proofs.Collecting.{take_item}
 use Rattle.fc_used_words.proofs.Keeping.{by_test}
-use Rattle.fc_naming.specs.Named.{AreLower, MayTakeAlts, IsNamedTy, IsNamedCo, IsNamedHead, IsNamedExpr, IsNamedArg, IsNamedArgs, IsNamedExprs, IsNamedBinds, IsNamedJoins, IsNamedBelow, IsNamedAlts, LetUses, JoinUses}
+use Rattle.fc_naming.specs.Named.{AreLower, IsWritten, MayTakeAlts, IsNamedTy, IsNamedCo, IsNamedHead, IsNamedExpr, IsNamedArg, IsNamedArgs, IsNamedExprs, IsNamedBinds, IsNamedJoins, IsNamedBelow, IsNamedAlts, LetUses, JoinUses}
 use Rattle.fc_naming.proofs.Each.{AreEach, each_more, each_none}
-use Rattle.fc_naming.proofs.Lower.{and_keeps, both, join_at, joins_lower, lower_written, term_lower, upper_written, value_at, values_lower}
-use Rattle.fc_naming.proofs.Naming.{found_by, found_kept, takes_join, takes_value}
+use Rattle.fc_naming.proofs.Lower.{and_keeps, both, join_at, joins_lower, lower_written, term_lower, upper_written, value_at, values_lower, written_lower}
+use Rattle.fc_naming.proofs.Naming.{found_by, takes_join, takes_value}
 
 -- join points with an expression in whose scope they are
 pub record IsNamedPoints (top : Top) (s : Locals) (r : Bool) (ns : WJoins) (n : WExpr) (js : Joins) (t : Expr) : Type 0 where
@@ -80,10 +80,10 @@ join_group true _ _ (each_more p rest) h = refl
 module _ {top : Top} {s : Locals} where
   -- VARIABLES
 
-  pub named_local : {i : ℕ} {x : Name} → x.module ≡ None → value_word s.terms i ≡ Some x.text → IsNamedExpr top s (EVar (ref.Local i)) (EVar x)
+  pub named_local : {i : ℕ} {x : Name} → x.module ≡ None → IsWritten (value_word s.terms i) x.text → IsNamedExpr top s (EVar (ref.Local i)) (EVar x)
   named_local {i = i} {x = x} alone is = record {
-    resolves = λ (w, at, found, any). let e : w ≡ x.text = cc in resolves_local alone (subst (λ (v : Word). found_term s.terms v ≡ IsValue i) e found);
-    formed = λ l h. both (ap is_module_formed alone) (value_at s.terms i x.text l.terms is);
+    resolves = λ (w, at, found, any). resolves_local alone (subst (λ (v : Word). found_term s.terms v ≡ IsValue i) (sym (is.word w at)) found);
+    formed = λ l h. both (ap is_module_formed alone) (written_lower (value_word s.terms i) x.text is (λ w. value_at s.terms i w l.terms));
   }
 
   pub named_definition : {x y : Name} → y ≡ short top.own x → IsNamedExpr top s (EVar (ref.Top x)) (EVar y)
@@ -153,10 +153,10 @@ module _ {top : Top} {s : Locals} where
         both (q.group k.0) (both (p.formed l j.0) (both (q.joins_stay l i.0) (q.body_stays l i.0 i.1)));
   }
 
-  pub named_jump : {i : ℕ} {v : Word} {xs : WArgs} {args : Args} → join_word s.terms i ≡ Some v → IsNamedArgs top s xs args → IsNamedExpr top s (EJump i xs) (EJump v args)
+  pub named_jump : {i : ℕ} {v : Word} {xs : WArgs} {args : Args} → IsWritten (join_word s.terms i) v → IsNamedArgs top s xs args → IsNamedExpr top s (EJump i xs) (EJump v args)
   named_jump {i = i} {v = v} is p = record {
-    resolves = λ h. let e : h.0.0 ≡ v = cc (h.0.1, is) in resolves_jump (subst (λ (x : Word). found_term s.terms x ≡ IsJoin i) e h.0.2) (p.resolves h.1);
-    formed = λ l h. both (join_at s.terms i v l.terms is) (p.formed l h);
+    resolves = λ h. resolves_jump (subst (λ (x : Word). found_term s.terms x ≡ IsJoin i) (sym (is.word h.0.0 h.0.1)) h.0.2) (p.resolves h.1);
+    formed = λ l h. both (written_lower (join_word s.terms i) v is (λ w. join_at s.terms i w l.terms)) (p.formed l h);
   }
 
   -- ARGUMENTS
@@ -293,13 +293,12 @@ pub distinct_alone : (taken : WordSet) (vs : List Word) → AreDistinct taken vs
 distinct_alone taken vs d = distinct_less no_word taken vs (λ w h. false_true h) d
 
 pub named_let_group : (top : Top) (s : Locals) (taken : Words) (items : List (RustBind.Bind ℕ Ref)) (vs : List Word) (e : WExpr) (bs : Binds) (f : Expr) → length vs ≡ length items → AreDistinct taken.terms vs
-    → (binds_formed nameless_words (binds_of items) ≡ true → list_all is_lower_word vs ≡ true) → LetUses top.own s true (nbinds_of items) (bare_expr e) taken → bind_words bs ≡ vs
+    → (binds_formed nameless_words (binds_of items) ≡ true → list_all is_lower_word vs ≡ true) → LetUses top s true (nbinds_of items) (bare_expr e) taken → bind_words bs ≡ vs
     → IsNamedBinds top (enter_values vs s) (binds_of items) bs → IsNamedExpr top (enter_values vs s) e f → IsNamedExpr top s (ELet true (binds_of items) e) (ELet true bs f)
 named_let_group top s taken items vs e bs f counted d lower u are p q = record {
   resolves = λ h.
-      let k = in_group (nbinds_of items) nothing_around in
-      let binds = values_binds top s taken items vs counted d (nbinds_of items) (both_binds _ _ _ _ (found_kept top taken s) k k refl (nbinds_of items) h.0 (u.binds refl)) in
-      let body = values_expr top s taken items vs counted d (bare_expr e) (both_expr _ _ _ _ (found_kept top taken s) k k refl (bare_expr e) h.1 u.body) in
+      let binds = values_binds top s taken items vs counted d (nbinds_of items) (u.binds refl h.0) in
+      let body = values_expr top s taken items vs counted d (bare_expr e) (u.body h.1) in
       let words = distinct_alone taken.terms vs d in
       resolves_let (subst (λ (ws : List Word). ResolvesBinds top (enter_values ws s) no_word bs (nbinds_of items)) (sym are)
       (p.resolves no_word (subst (λ (ws : List Word). AreDistinct no_word ws) (sym are) words) binds))
@@ -312,12 +311,11 @@ named_let_group top s taken items vs e bs f counted d lower u are p q = record {
 }
 
 pub named_let : (top : Top) (s : Locals) (taken : Words) (items : List (RustBind.Bind ℕ Ref)) (vs : List Word) (e : WExpr) (bs : Binds) (f : Expr) → length vs ≡ length items → AreDistinct taken.terms vs
-    → (binds_formed nameless_words (binds_of items) ≡ true → list_all is_lower_word vs ≡ true) → LetUses top.own s false (nbinds_of items) (bare_expr e) taken → bind_words bs ≡ vs
+    → (binds_formed nameless_words (binds_of items) ≡ true → list_all is_lower_word vs ≡ true) → LetUses top s false (nbinds_of items) (bare_expr e) taken → bind_words bs ≡ vs
     → IsNamedBinds top s (binds_of items) bs → IsNamedExpr top (enter_values vs s) e f → IsNamedExpr top s (ELet false (binds_of items) e) (ELet false bs f)
 named_let top s taken items vs e bs f counted d lower u are p q = record {
   resolves = λ h.
-      let k = in_group (nbinds_of items) nothing_around in
-      let body = values_expr top s taken items vs counted d (bare_expr e) (both_expr _ _ _ _ (found_kept top taken s) k k refl (bare_expr e) h.1 u.body) in
+      let body = values_expr top s taken items vs counted d (bare_expr e) (u.body h.1) in
       let words = distinct_alone taken.terms vs d in
       resolves_let (p.resolves no_word (subst (λ (ws : List Word). AreDistinct no_word ws) (sym are) words) h.0)
       (subst (λ (ws : List Word). ResolvesExpr top (enter_values ws s) f (bare_expr e)) (sym are) (q.resolves body));
@@ -328,17 +326,15 @@ named_let top s taken items vs e bs f counted d lower u are p q = record {
 }
 
 pub named_join_group : (top : Top) (s : Locals) (taken : Words) (items : List (RustJoin.JoinBind ℕ Ref)) (vs : List Word) (e : WExpr) (js : Joins) (f : Expr) → length vs ≡ length items
-    → AreDistinct taken.terms vs → (joins_formed nameless_words (joins_of items) ≡ true → list_all is_lower_word vs ≡ true) → JoinUses top.own s true (njoins_of items) (bare_expr e) taken → join_words js ≡ vs
+    → AreDistinct taken.terms vs → (joins_formed nameless_words (joins_of items) ≡ true → list_all is_lower_word vs ≡ true) → JoinUses top s true (njoins_of items) (bare_expr e) taken → join_words js ≡ vs
     → IsNamedJoins top (enter_joins vs s) (joins_of items) js → IsNamedExpr top (enter_joins vs s) e f → IsNamedPoints top s true (joins_of items) e js f
 named_join_group top s taken items vs e js f counted d lower u are p q = record {
   joins = λ h g.
-      let k = in_joins (njoins_of items) nothing_around in
-      let joins = joins_joins top s taken items vs counted d (njoins_of items) (both_joins _ _ _ _ (found_kept top taken s) k k refl (njoins_of items) h (u.joins refl)) in
+      let joins = joins_joins top s taken items vs counted d (njoins_of items) (u.joins refl h) in
       subst (λ (ws : List Word). ResolvesJoins top (enter_joins ws s) no_word js (njoins_of items)) (sym are)
       (p.resolves no_word (subst (λ (ws : List Word). AreDistinct no_word ws) (sym are) (distinct_alone taken.terms vs d)) joins);
   body = λ g.
-      let k = in_joins (njoins_of items) nothing_around in
-      let body = joins_expr top s taken items vs counted d (bare_expr e) (both_expr _ _ _ _ (found_kept top taken s) k k refl (bare_expr e) g u.body) in
+      let body = joins_expr top s taken items vs counted d (bare_expr e) (u.body g) in
       subst (λ (ws : List Word). ResolvesExpr top (enter_joins ws s) f (bare_expr e)) (sym are) (q.resolves body);
   group = p.group true;
   joins_stay = λ l h. p.formed (joins_lower vs l (lower h)) (ap (list_all is_lower_word) are ∙ lower h) h;
@@ -346,13 +342,12 @@ named_join_group top s taken items vs e js f counted d lower u are p q = record 
 }
 
 pub named_join_alone : (top : Top) (s : Locals) (taken : Words) (items : List (RustJoin.JoinBind ℕ Ref)) (vs : List Word) (e : WExpr) (js : Joins) (f : Expr) → length vs ≡ length items
-    → AreDistinct taken.terms vs → (joins_formed nameless_words (joins_of items) ≡ true → list_all is_lower_word vs ≡ true) → JoinUses top.own s false (njoins_of items) (bare_expr e) taken → join_words js ≡ vs
+    → AreDistinct taken.terms vs → (joins_formed nameless_words (joins_of items) ≡ true → list_all is_lower_word vs ≡ true) → JoinUses top s false (njoins_of items) (bare_expr e) taken → join_words js ≡ vs
     → IsNamedJoins top s (joins_of items) js → IsNamedExpr top (enter_joins vs s) e f → IsNamedPoints top s false (joins_of items) e js f
 named_join_alone top s taken items vs e js f counted d lower u are p q = record {
   joins = λ h g. p.resolves no_word (subst (λ (ws : List Word). AreDistinct no_word ws) (sym are) (distinct_alone taken.terms vs d)) h;
   body = λ g.
-      let k = in_joins (njoins_of items) nothing_around in
-      let body = joins_expr top s taken items vs counted d (bare_expr e) (both_expr _ _ _ _ (found_kept top taken s) k k refl (bare_expr e) g u.body) in
+      let body = joins_expr top s taken items vs counted d (bare_expr e) (u.body g) in
       subst (λ (ws : List Word). ResolvesExpr top (enter_joins ws s) f (bare_expr e)) (sym are) (q.resolves body);
   group = p.group false;
   joins_stay = λ l h. p.formed l (ap (list_all is_lower_word) are ∙ lower h) h;

@@ -42,7 +42,7 @@ pub below_in : {top : Top} {s : Locals} {e : WExpr} {bs : List Binder} {f : Expr
 below_in {top = top} {s = s} {e = e} {bs = bs} {f = f} xs ys same p = subst (λ (zs : List (RustBinder.Binder ℕ)). IsNamedBelow top s (binders_of zs) e bs f) same p
 
 let_by : (top : Top) (s : Locals) (r : Bool) (taken : Words) (items : List (RustBind.Bind ℕ Ref)) (e : WExpr) (bs : Binds) (f : Expr) (g : Group) → AreDistinct taken.terms g.words → length g.words ≡ length items
-    → (binds_formed nameless_words (binds_of items) ≡ true → list_all is_lower_word g.words ≡ true) → with_values g.names s ≡ enter_values g.words s → LetUses top.own s r (nbinds_of items) (bare_expr e) taken
+    → (binds_formed nameless_words (binds_of items) ≡ true → list_all is_lower_word g.words ≡ true) → with_values g.names s ≡ enter_values g.words s → LetUses top s r (nbinds_of items) (bare_expr e) taken
     → bind_words bs ≡ g.words → IsNamedBinds top (if r then with_values g.names s else s) (binds_of items) bs → IsNamedExpr top (with_values g.names s) e f → IsNamedExpr top s (ELet r (binds_of items) e) (ELet r bs f)
 let_by top s true taken items e bs f g distinct counted lower values uses are p q =
     named_let_group top s taken items g.words e bs f counted distinct lower uses are (binds_in p values) (expr_in q values)
@@ -57,7 +57,7 @@ named_let_form {top = top} {s = s} {r = r} {ns = ns} {e = e} {bs = bs} {f = f} {
 
 points_by : (top : Top) (s : Locals) (r : Bool) (taken : Words) (items : List (RustJoin.JoinBind ℕ Ref)) (e : WExpr) (js : Joins) (f : Expr) (g : Group) → AreDistinct taken.terms g.words
     → length g.words ≡ length items → (joins_formed nameless_words (joins_of items) ≡ true → list_all is_lower_word g.words ≡ true) → with_joins g.names s ≡ enter_joins g.words s
-    → JoinUses top.own s r (njoins_of items) (bare_expr e) taken → join_words js ≡ g.words → IsNamedJoins top (if r then with_joins g.names s else s) (joins_of items) js
+    → JoinUses top s r (njoins_of items) (bare_expr e) taken → join_words js ≡ g.words → IsNamedJoins top (if r then with_joins g.names s else s) (joins_of items) js
     → IsNamedExpr top (with_joins g.names s) e f → IsNamedPoints top s r (joins_of items) e js f
 points_by top s true taken items e js f g distinct counted lower joins uses are p q =
     named_join_group top s taken items g.words e js f counted distinct lower uses are (joins_in p joins) (expr_in q joins)

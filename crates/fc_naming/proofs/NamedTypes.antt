@@ -16,52 +16,48 @@ use Rattle.fc_model.specs.ResolutionRules.{resolves_coercion_variable, resolves_
 use Rattle.fc_model.specs.Worded.{WTy, WCo, WCos, bare_ty, bare_co, bare_cos}
 use Rattle.fc_used_words.specs.Scoped.{in_type, in_value, nothing_around}
 use Rattle.fc_used_words.specs.Standing.{more_types, more_terms, short}
-use Rattle.fc_used_words.specs.Used.{AddsTy, AddsCo, AddsAlts}
 use Rattle.fc_used_words.proofs.Both.{both_ty, both_co, both_alts}
-use Rattle.fc_naming.specs.Named.{IsChosen, MayTakeTy, MayTakeCo, MayTakeAlts, IsNamedTy, IsNamedTys, IsNamedCo, IsNamedCos}
+use Rattle.fc_naming.specs.Named.{AltsUse, CoUses, TyUses, IsChosen, MayTakeTy, MayTakeCo, MayTakeAlts, IsWritten, IsNamedTy, IsNamedTys, IsNamedCo, IsNamedCos}
 use Rattle.fc_naming.proofs.Each.{AreEach, each_more, each_none}
-use Rattle.fc_naming.proofs.Lower.{and_keeps, both, chosen_lower, type_lower, upper_written, word_at}
-use Rattle.fc_naming.proofs.Naming.{found_by, found_kept, takes_type, takes_value}
+use Rattle.fc_naming.proofs.Lower.{and_keeps, both, chosen_lower, type_lower, upper_written, word_at, written_lower}
+use Rattle.fc_naming.proofs.Naming.{found_by, takes_type, takes_value}
 
 -- THE WORD OF A BINDER
 
-pub may_take_ty : {top : Top} {s : Locals} {n : NTy} {ws more : Words} {w v : Word} → AddsTy top.own s (in_type nothing_around) n ws more → IsChosen more.types w v → MayTakeTy top s w v n
-may_take_ty {top = top} {s = s} {n = n} {more = more} {v = v} a c = record {
+pub may_take_ty : {top : Top} {s : Locals} {n : NTy} {ws : Words} {w v : Word} → TyUses top s n ws → IsChosen ws.types w v → MayTakeTy top s w v n
+may_take_ty {top = top} {s = s} {n = n} {ws = ws} {v = v} u c = record {
   lower = chosen_lower c;
   enters = λ h.
       let k = in_type nothing_around in
-      let kept = both_ty _ _ _ _ (found_kept top more s) k k refl n h a.kept in
-      let moved = both_ty _ _ _ _ (takes_type top more s v c.free) k nothing_around refl n kept kept in
-      both_ty _ _ _ _ (found_by top (more_types v more) (with_type v s)) nothing_around nothing_around refl n moved moved;
+      let moved = both_ty _ _ _ _ (takes_type top ws s v c.free) k nothing_around refl n (u.body h) (u.body h) in
+      both_ty _ _ _ _ (found_by top (more_types v ws) (with_type v s)) nothing_around nothing_around refl n moved moved;
 }
 
-pub may_take_co : {top : Top} {s : Locals} {n : NCo} {ws more : Words} {w v : Word} → AddsCo top.own s (in_type nothing_around) n ws more → IsChosen more.types w v → MayTakeCo top s w v n
-may_take_co {top = top} {s = s} {n = n} {more = more} {v = v} a c = record {
+pub may_take_co : {top : Top} {s : Locals} {n : NCo} {ws : Words} {w v : Word} → CoUses top s n ws → IsChosen ws.types w v → MayTakeCo top s w v n
+may_take_co {top = top} {s = s} {n = n} {ws = ws} {v = v} u c = record {
   lower = chosen_lower c;
   enters = λ h.
       let k = in_type nothing_around in
-      let kept = both_co _ _ _ _ (found_kept top more s) k k refl n h a.kept in
-      let moved = both_co _ _ _ _ (takes_type top more s v c.free) k nothing_around refl n kept kept in
-      both_co _ _ _ _ (found_by top (more_types v more) (with_type v s)) nothing_around nothing_around refl n moved moved;
+      let moved = both_co _ _ _ _ (takes_type top ws s v c.free) k nothing_around refl n (u.body h) (u.body h) in
+      both_co _ _ _ _ (found_by top (more_types v ws) (with_type v s)) nothing_around nothing_around refl n moved moved;
 }
 
-pub may_take_alts : {top : Top} {s : Locals} {n : NAlts} {ws more : Words} {w v : Word} → AddsAlts top.own s (in_value nothing_around) n ws more → IsChosen more.terms w v → MayTakeAlts top s w v n
-may_take_alts {top = top} {s = s} {n = n} {more = more} {v = v} a c = record {
+pub may_take_alts : {top : Top} {s : Locals} {n : NAlts} {ws : Words} {w v : Word} → AltsUse top s n ws → IsChosen ws.terms w v → MayTakeAlts top s w v n
+may_take_alts {top = top} {s = s} {n = n} {ws = ws} {v = v} u c = record {
   lower = chosen_lower c;
   enters = λ h.
       let k = in_value nothing_around in
-      let kept = both_alts _ _ _ _ (found_kept top more s) k k refl n h a.kept in
-      let moved = both_alts _ _ _ _ (takes_value top more s v c.free) k nothing_around refl n kept kept in
-      both_alts _ _ _ _ (found_by top (more_terms v more) (with_term (Value v) s)) nothing_around nothing_around refl n moved moved;
+      let moved = both_alts _ _ _ _ (takes_value top ws s v c.free) k nothing_around refl n (u.alts h) (u.alts h) in
+      both_alts _ _ _ _ (found_by top (more_terms v ws) (with_term (Value v) s)) nothing_around nothing_around refl n moved moved;
 }
 
 module _ {top : Top} {s : Locals} where
   -- TYPES
 
-  pub named_type_variable : {i : ℕ} {v : Word} → slice_get s.types i ≡ Some v → IsNamedTy top s (TVar i) (TVar v)
+  pub named_type_variable : {i : ℕ} {v : Word} → IsWritten (slice_get s.types i) v → IsNamedTy top s (TVar i) (TVar v)
   named_type_variable {i = i} {v = v} is = record {
-    resolves = λ (w, at, found, any). let e : w ≡ v = cc in resolves_type_variable (subst (λ (x : Word). index_of s.types x ≡ Some i) e found);
-    formed = λ l h. word_at s.types i v l.types is;
+    resolves = λ (w, at, found, any). resolves_type_variable (subst (λ (x : Word). index_of s.types x ≡ Some i) (sym (is.word w at)) found);
+    formed = λ l h. written_lower (slice_get s.types i) v is (λ w. word_at s.types i w l.types);
   }
 
   pub named_type_name : {x y : Name} → y ≡ short top.own x → IsNamedTy top s (TCon x) (TCon y)
@@ -90,10 +86,10 @@ module _ {top : Top} {s : Locals} where
 
   -- COERCIONS
 
-  pub named_coercion_variable : {i : ℕ} {v : Word} → slice_get s.coercions i ≡ Some v → IsNamedCo top s (GVar i) (GVar v)
+  pub named_coercion_variable : {i : ℕ} {v : Word} → IsWritten (slice_get s.coercions i) v → IsNamedCo top s (GVar i) (GVar v)
   named_coercion_variable {i = i} {v = v} is = record {
-    resolves = λ (w, at, found, any). let e : w ≡ v = cc in resolves_coercion_variable (subst (λ (x : Word). index_of s.coercions x ≡ Some i) e found);
-    formed = λ l h. word_at s.coercions i v l.coercions is;
+    resolves = λ (w, at, found, any). resolves_coercion_variable (subst (λ (x : Word). index_of s.coercions x ≡ Some i) (sym (is.word w at)) found);
+    formed = λ l h. written_lower (slice_get s.coercions i) v is (λ w. word_at s.coercions i w l.coercions);
   }
 
   pub named_refl : {r : Role} {a : WTy} {t : Ty} → IsNamedTy top s a t → IsNamedCo top s (GRefl r a) (GRefl r t)

@@ -1,5 +1,5 @@
 -- What each function that puts names back in declarations promises of its answer.
-use Rattle.std.specs.Prelude.{◌≡◌, true, List, map, reverse}
+use Rattle.std.specs.Prelude.{◌≡◌, true, List, Option, Some, None, map, reverse}
 use Rattle.std.specs.List.{list_all}
 use Rattle.fc_syntax.specs.Tree.{Word, Ty, Binder, ConDecl, ConOf, Decl, Module}
 use Rattle.fc_model.specs.Declaring.{coercion_words, con_words, ncoercion_words, ncon_words, nterm_words, ntype_words, nwords_by, term_words, type_words, words_by}
@@ -9,15 +9,15 @@ use Rattle.fc_model.specs.Resolution.{Top, Locals, WordSet, Words, no_word, no_w
 use Rattle.fc_model.specs.ResolutionRules.{AreDistinct, ResolvesBinders, ResolvesTys, ResolvesCons, ResolvesDecl, ResolvesDecls, Resolves}
 use Rattle.fc_model.specs.Worded.{WTy, WBinder, WConDecl, WDecl, WModule, bare_binders, bare_con, bare_decl, bare_decls, bare_module, bare_tys}
 use Rattle.fc_used_words.specs.Scoped.{in_binders, nothing_around, HoldsTys, HoldsBinders, HoldsCons, HoldsDecl, HoldsDecls, IsScoped, is_meant}
-use Rattle.fc_used_words.specs.Standing.{is_found, is_kept}
+use Rattle.fc_used_words.specs.Standing.{is_found, is_found_by}
 use Rattle.fc_naming.specs.Named.{AreLower}
 
 -- CONSTRUCTORS
 
--- the sets have the words that the types below binders use, and those that the binders use
-pub record FieldsUse (own : Word) (s : Locals) (ns : List NBinder) (ts : List NTy) (ws : Words) : Type 0 where
-  pub binders : HoldsBinders (is_kept own ws s) nothing_around ns
-  pub fields : HoldsTys (is_kept own ws s) (in_binders ns nothing_around) ts
+-- sets for the scope of binders, which is the types below them, and for the binders themselves
+pub record FieldsUse (top : Top) (s : Locals) (ns : List NBinder) (ts : List NTy) (ws : Words) : Type 0 where
+  pub binders : HoldsBinders (is_found top s) nothing_around ns → HoldsBinders (is_found_by top ws s) nothing_around ns
+  pub fields : HoldsTys (is_found top s) (in_binders ns nothing_around) ts → HoldsTys (is_found_by top ws s) (in_binders ns nothing_around) ts
 
 -- a constructor keeps its word, its parts are those of a nameless one whose names are all found in these locals, and it is of the text form if
 -- that one and the locals are
@@ -71,3 +71,8 @@ pub record IsNamedDecls (top : Top) (n : List WDecl) (t : List Decl) : Type 0 wh
 pub record IsNamedModule (top : Top) (n : WModule) (t : Module) : Type 0 where
   pub resolves : top ≡ ntop_of (bare_module n) → IsScoped (bare_module n) → Resolves t (bare_module n)
   pub formed : IsNamelessFormed n → IsFormed t
+
+-- a nameless module is named back exactly where it is scoped
+abbrev pub IsNamedBack : WModule → Option Module → Type 0
+IsNamedBack n (Some t) = IsScoped (bare_module n) × Resolves t (bare_module n) × (IsNamelessFormed n → IsFormed t)
+IsNamedBack n None = IsScoped (bare_module n) → ⊥

@@ -23,7 +23,7 @@ pub record LetWords (top : Top) (s : Locals) (r : Bool) (ns : WBinds) (n : NExpr
   pub counted : length g.words ≡ length items
   pub lower : binds_formed nameless_words ns ≡ true → list_all is_lower_word g.words ≡ true
   pub values : with_values g.names s ≡ enter_values g.words s
-  pub uses : LetUses top.own s r (nbinds_of items) n taken
+  pub uses : LetUses top s r (nbinds_of items) n taken
 
 pub record JoinWords (top : Top) (s : Locals) (r : Bool) (ns : WJoins) (n : NExpr) (g : Group) : Type 0 where
   pub items : List (RustJoin.JoinBind ℕ Ref)
@@ -33,4 +33,4 @@ pub record JoinWords (top : Top) (s : Locals) (r : Bool) (ns : WJoins) (n : NExp
   pub counted : length g.words ≡ length items
   pub lower : joins_formed nameless_words ns ≡ true → list_all is_lower_word g.words ≡ true
   pub joins : with_joins g.names s ≡ enter_joins g.words s
-  pub uses : JoinUses top.own s r (njoins_of items) n taken
+  pub uses : JoinUses top s r (njoins_of items) n taken

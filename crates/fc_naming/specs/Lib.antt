@@ -2,3 +2,4 @@ pub mod Declarations
 pub mod GroupWords
 pub mod Groups
 pub mod Named
+pub mod Taken

@@ -1,5 +1,5 @@
 -- What each function that puts names back promises of its answer.
-use Rattle.std.specs.Prelude.{◌≡◌, ℕ, zero, suc, ◌<◌, Bool, true, false, List, [], ◌∷◌, ◌++◌, codes, decimal}
+use Rattle.std.specs.Prelude.{◌≡◌, ℕ, zero, suc, ◌<◌, Bool, true, false, List, [], ◌∷◌, ◌++◌, Option, Some, None, codes, decimal}
 use Rattle.std.specs.List.{list_all}
 use Rattle.fc_syntax.specs.declared.expr.Head.{Head}
 use Rattle.fc_syntax.specs.declared.ty.Role.{Role}
@@ -13,7 +13,7 @@ use Rattle.fc_model.specs.Worded.{WTy, WCo, WCos, WBinder, WExpr, WArg, WArgs, W
 use Rattle.fc_model.specs.Worded.{bare_ty, bare_tys, bare_co, bare_cos, bare_binders, bare_expr, bare_arg, bare_args, bare_exprs, bare_binds, bare_joins, bare_alts}
 use Rattle.fc_used_words.specs.Scoped.{in_type, in_value, in_group, in_joins, in_binders, in_binder, nothing_around}
 use Rattle.fc_used_words.specs.Scoped.{HoldsTy, HoldsTys, HoldsCo, HoldsCos, HoldsBinders, HoldsHead, HoldsExpr, HoldsArg, HoldsArgs, HoldsExprs, HoldsBinds, HoldsJoins, HoldsAlts}
-use Rattle.fc_used_words.specs.Standing.{is_found, is_kept, more_types, more_terms, more_coercions}
+use Rattle.fc_used_words.specs.Standing.{is_found, is_found_by, more_types, more_terms, more_coercions}
 
 -- WORDS OF THE TEXT FORM
 
@@ -30,6 +30,11 @@ pub record AreLower (s : Locals) : Type 0 where
   pub types : list_all is_lower_word s.types ≡ true
   pub terms : list_all (λ x. is_lower_word (term_word x)) s.terms ≡ true
   pub coercions : list_all is_lower_word s.coercions ≡ true
+
+-- the word of a variable, which is that of its binder, and some lower word where it has none
+pub record IsWritten (o : Option Word) (v : Word) : Type 0 where
+  pub word : (w : Word) → o ≡ Some w → v ≡ w
+  pub other : o ≡ None → IsLower v
 
 -- THE WORD OF A BINDER
 
@@ -147,19 +152,30 @@ pub data TakeWords (top : Top) : Locals → Words → List WBinder → List Bind
 
 -- WORDS THAT A SCOPE USES
 
--- the sets have the words that an expression below binders uses, and those that the binders use
-pub record BelowUses (own : Word) (s : Locals) (ns : List NBinder) (n : NExpr) (ws : Words) : Type 0 where
-  pub binders : HoldsBinders (is_kept own ws s) nothing_around ns
-  pub body : HoldsExpr (is_kept own ws s) (in_binders ns nothing_around) n
+-- Sets for the scope of binders: each name that is found in it without their words has its word in them. An expression below binders, and the
+-- binders themselves.
+pub record BelowUses (top : Top) (s : Locals) (ns : List NBinder) (n : NExpr) (ws : Words) : Type 0 where
+  pub binders : HoldsBinders (is_found top s) nothing_around ns → HoldsBinders (is_found_by top ws s) nothing_around ns
+  pub body : HoldsExpr (is_found top s) (in_binders ns nothing_around) n → HoldsExpr (is_found_by top ws s) (in_binders ns nothing_around) n
 
 -- the same of an expression below a group, and of its right sides where it is recursive
-pub record LetUses (own : Word) (s : Locals) (r : Bool) (ns : NBinds) (n : NExpr) (ws : Words) : Type 0 where
-  pub binds : r ≡ true → HoldsBinds (is_kept own ws s) (in_group ns nothing_around) ns
-  pub body : HoldsExpr (is_kept own ws s) (in_group ns nothing_around) n
+pub record LetUses (top : Top) (s : Locals) (r : Bool) (ns : NBinds) (n : NExpr) (ws : Words) : Type 0 where
+  pub binds : r ≡ true → HoldsBinds (is_found top s) (in_group ns nothing_around) ns → HoldsBinds (is_found_by top ws s) (in_group ns nothing_around) ns
+  pub body : HoldsExpr (is_found top s) (in_group ns nothing_around) n → HoldsExpr (is_found_by top ws s) (in_group ns nothing_around) n
 
-pub record JoinUses (own : Word) (s : Locals) (r : Bool) (ns : NJoins) (n : NExpr) (ws : Words) : Type 0 where
-  pub joins : r ≡ true → HoldsJoins (is_kept own ws s) (in_joins ns nothing_around) ns
-  pub body : HoldsExpr (is_kept own ws s) (in_joins ns nothing_around) n
+pub record JoinUses (top : Top) (s : Locals) (r : Bool) (ns : NJoins) (n : NExpr) (ws : Words) : Type 0 where
+  pub joins : r ≡ true → HoldsJoins (is_found top s) (in_joins ns nothing_around) ns → HoldsJoins (is_found_by top ws s) (in_joins ns nothing_around) ns
+  pub body : HoldsExpr (is_found top s) (in_joins ns nothing_around) n → HoldsExpr (is_found_by top ws s) (in_joins ns nothing_around) n
 
-pub record LamUses (own : Word) (s : Locals) (c : NBinder) (n : NExpr) (ws : Words) : Type 0 where
-  pub body : HoldsExpr (is_kept own ws s) (in_binder c nothing_around) n
+-- of an expression below one binder, of a type and of a coercion below a type, and of alternatives below a value
+pub record LamUses (top : Top) (s : Locals) (c : NBinder) (n : NExpr) (ws : Words) : Type 0 where
+  pub body : HoldsExpr (is_found top s) (in_binder c nothing_around) n → HoldsExpr (is_found_by top ws s) (in_binder c nothing_around) n
+
+pub record TyUses (top : Top) (s : Locals) (n : NTy) (ws : Words) : Type 0 where
+  pub body : HoldsTy (is_found top s) (in_type nothing_around) n → HoldsTy (is_found_by top ws s) (in_type nothing_around) n
+
+pub record CoUses (top : Top) (s : Locals) (n : NCo) (ws : Words) : Type 0 where
+  pub body : HoldsCo (is_found top s) (in_type nothing_around) n → HoldsCo (is_found_by top ws s) (in_type nothing_around) n
+
+pub record AltsUse (top : Top) (s : Locals) (n : NAlts) (ws : Words) : Type 0 where
+  pub alts : HoldsAlts (is_found top s) (in_value nothing_around) n → HoldsAlts (is_found_by top ws s) (in_value nothing_around) n

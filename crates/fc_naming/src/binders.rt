@@ -2,18 +2,18 @@
 ghost use Rattle.std.specs.Prelude.{◌≡◌, IfOk, OnOk};
 ghost use Rattle.fc_syntax.specs.View.{binder_of, binders_of};
 ghost use Rattle.fc_model.specs.Resolution.{Locals, enter};
-ghost use Rattle.fc_model.specs.WordSets.{set_of};
-ghost use Rattle.fc_model.specs.DeclaredWords.{top_by, words_by_space};
-ghost use Rattle.fc_scope.specs.ScopeWords.{locals_of, with_binders};
+ghost use Rattle.fc_model.specs.DeclaredWords.{top_by};
+ghost use Rattle.fc_scope.specs.ScopeWords.{locals_of, with_binders, with_joins, with_values};
 ghost use Rattle.fc_naming.specs.Groups.{IsGroup};
 ghost use Rattle.fc_naming.specs.Named.{TakeWords, TakesWord};
+ghost use Rattle.fc_naming.specs.Taken.{taken_words};
 
 use crate::choose::take_word;
+use crate::taken::{Space, Taken};
 use crate::types::named_ty;
-use fc_model::{Declared, Spaces, WordSet};
+use fc_model::Declared;
 use fc_scope::{Binders, Names, Scope};
 use fc_syntax::{Binder, Memory, NBind, NBinder, NJoinBind, Seq, Text};
-use fc_used_words::NotNamed;
 use std::alloc::Global;
 
 /// A binder with a word that is not taken, which is taken then.
@@ -22,25 +22,25 @@ pub fn named_binder<'x>(
     binder: &NBinder,
     top: &Declared,
     scope: &'x Scope<'x>,
-    taken: &mut Spaces,
-) -> Result<Binder, NotNamed>
-    ensures { IfOk result (λ b. TakesWord (top_by top.now) (locals_of scope.now) (words_by_space taken.old) (binder_of binder.now) (binder_of b) (enter (binder_of b) (locals_of scope.now)) (words_by_space taken.new)) }
+    taken: &mut Taken,
+) -> Result<Binder, Memory>
+    ensures { IfOk result (λ b. TakesWord (top_by top.now) (locals_of scope.now) (taken_words (top_by top.now) (locals_of scope.now) taken.old) (binder_of binder.now) (binder_of b) (enter (binder_of b) (locals_of scope.now)) (taken_words (top_by top.now) (enter (binder_of b) (locals_of scope.now)) taken.new)) }
 {
     match binder {
         NBinder::Value(hint, t) => {
             let t = named_ty(alloc, t, top, &*scope)?;
-            let word = take_word(alloc, hint, &mut taken.terms)?;
+            let word = take_word(alloc, hint, Space::Values, top, &*scope, taken)?;
             Ok(Binder::Value(word, t))
         }
         NBinder::OfType(hint, kind) => {
             let kind = kind.copy(alloc)?;
-            let word = take_word(alloc, hint, &mut taken.types)?;
+            let word = take_word(alloc, hint, Space::Types, top, &*scope, taken)?;
             Ok(Binder::OfType(word, kind))
         }
         NBinder::OfCo(hint, role, t, u) => {
             let t = named_ty(alloc, t, top, &*scope)?;
             let u = named_ty(alloc, u, top, &*scope)?;
-            let word = take_word(alloc, hint, &mut taken.coercions)?;
+            let word = take_word(alloc, hint, Space::Coercions, top, &*scope, taken)?;
             Ok(Binder::OfCo(word, *role, t, u))
         }
     }
@@ -72,9 +72,9 @@ pub fn named_binders<'x>(
     binders: &[NBinder],
     top: &Declared,
     scope: &'x Scope<'x>,
-    taken: &mut Spaces,
-) -> Result<Named, NotNamed>
-    ensures { IfOk result (λ r. TakeWords (top_by top.now) (locals_of scope.now) (words_by_space taken.old) (binders_of binders.now) (binders_of r.binders) (with_binders r.words (locals_of scope.now)) (words_by_space taken.new)) }
+    taken: &mut Taken,
+) -> Result<Named, Memory>
+    ensures { IfOk result (λ r. TakeWords (top_by top.now) (locals_of scope.now) (taken_words (top_by top.now) (locals_of scope.now) taken.old) (binders_of binders.now) (binders_of r.binders) (with_binders r.words (locals_of scope.now)) (taken_words (top_by top.now) (with_binders r.words (locals_of scope.now)) taken.new)) }
 {
     let mut words = Binders::new(alloc);
     let mut out = Seq::new(alloc);
@@ -100,13 +100,20 @@ pub struct Group {
 }
 
 /// The words of binds, each not taken by a name in its scope or by a bind before it.
-pub fn bind_group(alloc: Global, binds: &[NBind], taken: &mut WordSet) -> Result<Group, NotNamed>
-    ensures { IfOk result (λ r. IsGroup (set_of taken.old) binds.now (λ b. b.name) r.words r.names (set_of taken.new)) }
+pub fn bind_group<'x>(
+    alloc: Global,
+    binds: &[NBind],
+    top: &Declared,
+    scope: &'x Scope<'x>,
+    taken: &mut Taken,
+) -> Result<Group, Memory>
+    ensures { IfOk result (λ r. IsGroup (taken_words (top_by top.now) (locals_of scope.now) taken.old).terms binds.now (λ b. b.name) r.words r.names (taken_words (top_by top.now) (with_values r.names (locals_of scope.now)) taken.new).terms) }
 {
     let mut words = Seq::new(alloc);
     let mut names = Names::new(alloc);
     for bind in binds {
-        let word = take_word(alloc, &bind.name, taken)?;
+        let around = Scope::Values(&names, &*scope);
+        let word = take_word(alloc, &bind.name, Space::Values, top, &around, taken)?;
         names.add(alloc, &word)?;
         words.push(word)?;
     }
@@ -114,17 +121,20 @@ pub fn bind_group(alloc: Global, binds: &[NBind], taken: &mut WordSet) -> Result
 }
 
 /// The words of join points, each not taken by a name in its scope or by a join point before it.
-pub fn join_group(
+pub fn join_group<'x>(
     alloc: Global,
     joins: &[NJoinBind],
-    taken: &mut WordSet,
-) -> Result<Group, NotNamed>
-    ensures { IfOk result (λ r. IsGroup (set_of taken.old) joins.now (λ j. j.name) r.words r.names (set_of taken.new)) }
+    top: &Declared,
+    scope: &'x Scope<'x>,
+    taken: &mut Taken,
+) -> Result<Group, Memory>
+    ensures { IfOk result (λ r. IsGroup (taken_words (top_by top.now) (locals_of scope.now) taken.old).terms joins.now (λ j. j.name) r.words r.names (taken_words (top_by top.now) (with_joins r.names (locals_of scope.now)) taken.new).terms) }
 {
     let mut words = Seq::new(alloc);
     let mut names = Names::new(alloc);
     for join in joins {
-        let word = take_word(alloc, &join.name, taken)?;
+        let around = Scope::Joins(&names, &*scope);
+        let word = take_word(alloc, &join.name, Space::Joins, top, &around, taken)?;
         names.add(alloc, &word)?;
         words.push(word)?;
     }

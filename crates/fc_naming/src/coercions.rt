@@ -4,29 +4,23 @@ ghost use Rattle.fc_syntax.specs.View.{co_of, cos_of};
 ghost use Rattle.fc_model.specs.NamelessView.{nco_of};
 ghost use Rattle.fc_model.specs.DeclaredWords.{top_by};
 ghost use Rattle.fc_scope.specs.ScopeWords.{locals_of};
-ghost use Rattle.fc_naming.specs.Named.{IsNamedCo, IsNamedCos, MayTakeCo};
+ghost use Rattle.fc_naming.specs.Named.{IsNamedCo, IsNamedCos, IsWritten, MayTakeCo};
 
 use crate::choose::choose;
-use crate::names::written;
+use crate::names::{word_or_other, written};
+use crate::taken::Space;
 use crate::types::named_ty;
-use fc_model::{Declared, Spaces};
+use crate::used::used_in_coercion;
+use fc_model::Declared;
 use fc_scope::{Scope, coercion_word};
 use fc_syntax::{Co, Memory, NCo, Seq, Text, boxed};
-use fc_used_words::{Inside, NotNamed, use_co};
 use std::alloc::Global;
 
 /// The word of a coercion variable at a distance.
-fn coercion_variable<'x>(
-    alloc: Global,
-    scope: &'x Scope<'x>,
-    distance: u32,
-) -> Result<Text, NotNamed>
-    ensures { IfOk result (λ v. slice_get (locals_of scope.now).coercions distance ≡ Some v) }
+fn coercion_variable<'x>(alloc: Global, scope: &'x Scope<'x>, distance: u32) -> Result<Text, Memory>
+    ensures { IfOk result (λ v. IsWritten (slice_get (locals_of scope.now).coercions distance) v) }
 {
-    match coercion_word(&*scope, distance) {
-        Some(word) => Ok(word.copy(alloc)?),
-        None => Err(NotNamed::Unscoped),
-    }
+    word_or_other(alloc, coercion_word(&*scope, distance))
 }
 
 /// The word for a binder of a type around a coercion.
@@ -36,13 +30,11 @@ fn word_around<'x>(
     top: &Declared,
     scope: &'x Scope<'x>,
     hint: &Text,
-) -> Result<Text, NotNamed>
+) -> Result<Text, Memory>
     ensures { IfOk result (λ v. MayTakeCo (top_by top.now) (locals_of scope.now) hint.now v (nco_of g.now)) }
 {
-    let mut used = Spaces::new(alloc);
-    let inside = Inside::new().in_type()?;
-    use_co(alloc, &top.own, g, &*scope, inside, &mut used)?;
-    let word = choose(alloc, hint, &used.types)?;
+    let taken = used_in_coercion(alloc, g, top, &*scope, hint)?;
+    let word = choose(alloc, hint, Space::Types, top, &*scope, &taken)?;
     Ok(word)
 }
 
@@ -54,7 +46,7 @@ pub fn named_co<'x>(
     g: &NCo,
     top: &Declared,
     scope: &'x Scope<'x>,
-) -> Result<Co, NotNamed>
+) -> Result<Co, Memory>
     ensures { IfOk result (λ r. IsNamedCo (top_by top.now) (locals_of scope.now) (co_of g.now) (co_of r)) }
 {
     match g {
@@ -70,7 +62,7 @@ pub fn named_co<'x>(
             Ok(Co::Trans(boxed(alloc, g)?, boxed(alloc, h)?))
         }
         NCo::Tc(role, name, gs) => {
-            let name = written(alloc, top, &top.spaces.types, name)?;
+            let name = written(alloc, top, name)?;
             let gs = named_cos(alloc, gs.as_slice(), top, &*scope)?;
             Ok(Co::Tc(*role, name, gs))
         }
@@ -121,7 +113,7 @@ pub fn named_co<'x>(
             Ok(Co::Sub(boxed(alloc, g)?))
         }
         NCo::Ax(name, gs) => {
-            let name = written(alloc, top, &top.spaces.coercions, name)?;
+            let name = written(alloc, top, name)?;
             let gs = named_cos(alloc, gs.as_slice(), top, &*scope)?;
             Ok(Co::Ax(name, gs))
         }
@@ -139,7 +131,7 @@ fn named_cos<'x>(
     gs: &[NCo],
     top: &Declared,
     scope: &'x Scope<'x>,
-) -> Result<Seq<Co>, NotNamed>
+) -> Result<Seq<Co>, Memory>
     ensures { IfOk result (λ r. IsNamedCos (top_by top.now) (locals_of scope.now) (cos_of gs.now) (cos_of r)) }
 {
     let mut out = Seq::new(alloc);

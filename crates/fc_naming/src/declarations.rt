@@ -1,51 +1,21 @@
 //! Declarations with words for their binders.
 ghost use Rattle.std.specs.Prelude.{IfOk};
 ghost use Rattle.fc_syntax.specs.View.{con_of, cons_of, decl_of, decls_of};
-ghost use Rattle.fc_model.specs.NamelessView.{nbinders_of, ntys_of};
-ghost use Rattle.fc_model.specs.DeclaredWords.{top_by, words_by_space};
+ghost use Rattle.fc_model.specs.DeclaredWords.{top_by};
 ghost use Rattle.fc_scope.specs.ScopeWords.{locals_of};
-ghost use Rattle.fc_naming.specs.Declarations.{FieldsUse, IsNamedCon, IsNamedCons, IsNamedDecl, IsNamedDecls};
+ghost use Rattle.fc_naming.specs.Declarations.{IsNamedCon, IsNamedCons, IsNamedDecl, IsNamedDecls};
 
 use crate::binders::named_binders;
 use crate::expressions::named_expr;
 use crate::params::{own_params, own_plains};
 use crate::types::{named_ty, named_tys};
-use fc_model::{Declared, Spaces};
+use crate::used::used_in_con;
+use fc_model::Declared;
 use fc_scope::Scope;
 use fc_syntax::{ConDecl, Decl, Memory, NConDecl, NDecl, Seq};
-use fc_used_words::{Inside, NotNamed, use_binders, use_tys};
 use std::alloc::Global;
 
 // CONSTRUCTORS
-
-/// The words that the binders of a constructor and its fields use.
-fn used_in_con<'x>(
-    alloc: Global,
-    con: &NConDecl,
-    top: &Declared,
-    scope: &'x Scope<'x>,
-) -> Result<Spaces, NotNamed>
-    ensures { IfOk result (λ u. FieldsUse top.now.own (locals_of scope.now) (nbinders_of con.now.binders) (ntys_of con.now.fields) (words_by_space u)) }
-{
-    let mut used = Spaces::new(alloc);
-    let inside = use_binders(
-        alloc,
-        &top.own,
-        con.binders.as_slice(),
-        &*scope,
-        Inside::new(),
-        &mut used,
-    )?;
-    use_tys(
-        alloc,
-        &top.own,
-        con.fields.as_slice(),
-        &*scope,
-        inside,
-        &mut used,
-    )?;
-    Ok(used)
-}
 
 /// A constructor with words for its binders.
 fn named_con<'x>(
@@ -53,7 +23,7 @@ fn named_con<'x>(
     con: &NConDecl,
     top: &Declared,
     scope: &'x Scope<'x>,
-) -> Result<ConDecl, NotNamed>
+) -> Result<ConDecl, Memory>
     ensures { IfOk result (λ r. IsNamedCon (top_by top.now) (locals_of scope.now) (con_of con.now) (con_of r)) }
 {
     let mut taken = used_in_con(alloc, con, top, &*scope)?;
@@ -75,7 +45,7 @@ fn named_cons<'x>(
     cons: &[NConDecl],
     top: &Declared,
     scope: &'x Scope<'x>,
-) -> Result<Seq<ConDecl>, NotNamed>
+) -> Result<Seq<ConDecl>, Memory>
     ensures { IfOk result (λ r. IsNamedCons (top_by top.now) (locals_of scope.now) (cons_of cons.now) (cons_of r)) }
 {
     let mut out = Seq::new(alloc);
@@ -89,13 +59,13 @@ fn named_cons<'x>(
 // DECLARATIONS
 
 /// A declaration with words for its parameters and binders.
-fn named_decl(alloc: Global, decl: &NDecl, top: &Declared) -> Result<Decl, NotNamed>
+fn named_decl(alloc: Global, decl: &NDecl, top: &Declared) -> Result<Decl, Memory>
     ensures { IfOk result (λ r. IsNamedDecl (top_by top.now) (decl_of decl.now) (decl_of r)) }
 {
     let none = Scope::End;
     match decl {
         NDecl::DataType(name, params, cons) => {
-            let own = own_params(alloc, params.as_slice())?;
+            let own = own_params(alloc, params.as_slice(), top)?;
             let scope = Scope::Types(&own.names, &none);
             let cons = named_cons(alloc, cons.as_slice(), top, &scope)?;
             let name = name.copy(alloc)?;
@@ -103,7 +73,7 @@ fn named_decl(alloc: Global, decl: &NDecl, top: &Declared) -> Result<Decl, NotNa
             Ok(Decl::DataType(name, params, cons))
         }
         NDecl::NewType(name, params, t, con) => {
-            let own = own_params(alloc, params.as_slice())?;
+            let own = own_params(alloc, params.as_slice(), top)?;
             let scope = Scope::Types(&own.names, &none);
             let t = named_ty(alloc, t, top, &scope)?;
             let name = name.copy(alloc)?;
@@ -112,14 +82,14 @@ fn named_decl(alloc: Global, decl: &NDecl, top: &Declared) -> Result<Decl, NotNa
             Ok(Decl::NewType(name, params, t, con))
         }
         NDecl::Family(name, params, kind) => {
-            let own = own_plains(alloc, params.as_slice())?;
+            let own = own_plains(alloc, params.as_slice(), top)?;
             let name = name.copy(alloc)?;
             let kind = kind.copy(alloc)?;
             let params = own.params;
             Ok(Decl::Family(name, params, kind))
         }
         NDecl::Axiom(name, params, t, u) => {
-            let own = own_plains(alloc, params.as_slice())?;
+            let own = own_plains(alloc, params.as_slice(), top)?;
             let scope = Scope::Types(&own.names, &none);
             let t = named_ty(alloc, t, top, &scope)?;
             let u = named_ty(alloc, u, top, &scope)?;
@@ -143,7 +113,7 @@ fn named_decl(alloc: Global, decl: &NDecl, top: &Declared) -> Result<Decl, NotNa
 }
 
 /// Declarations with words for their parameters and binders.
-pub fn named_decls(alloc: Global, decls: &[NDecl], top: &Declared) -> Result<Seq<Decl>, NotNamed>
+pub fn named_decls(alloc: Global, decls: &[NDecl], top: &Declared) -> Result<Seq<Decl>, Memory>
     ensures { IfOk result (λ r. IsNamedDecls (top_by top.now) (decls_of decls.now) (decls_of r)) }
 {
     let mut out = Seq::new(alloc);

@@ -11,16 +11,15 @@ use crate::binders::{Group, add_binder, named_binder, named_binders};
 use crate::coercions::named_co;
 use crate::members::{let_words, point_words};
 use crate::names::written;
-use crate::taken::{used_below, used_in_lambda, word_around};
 use crate::types::named_ty;
-use crate::variables::{join_point, local, named_head};
+use crate::used::{used_below, used_in_lambda};
+use crate::variables::{join_point, local, named_head, word_around};
 use fc_model::Declared;
 use fc_scope::{Binders, Scope};
 use fc_syntax::{
     Alt, Arg, Bind, Binder, Expr, JoinBind, Memory, NAlt, NArg, NBind, NBinder, NExpr, NJoinBind,
     Ref, Seq, Text, boxed,
 };
-use fc_used_words::NotNamed;
 use std::alloc::Global;
 
 /// An expression as it is written in a scope.
@@ -31,12 +30,12 @@ pub fn named_expr<'x>(
     e: &NExpr,
     top: &Declared,
     scope: &'x Scope<'x>,
-) -> Result<Expr, NotNamed>
+) -> Result<Expr, Memory>
     ensures { IfOk result (λ r. IsNamedExpr (top_by top.now) (locals_of scope.now) (expr_of e.now) (expr_of r)) }
 {
     match e {
         NExpr::Var(Ref::Local(distance)) => Ok(Expr::Var(local(alloc, &*scope, *distance)?)),
-        NExpr::Var(Ref::Top(name)) => Ok(Expr::Var(written(alloc, top, &top.spaces.terms, name)?)),
+        NExpr::Var(Ref::Top(name)) => Ok(Expr::Var(written(alloc, top, name)?)),
         NExpr::Lit(n) => Ok(Expr::Lit(*n)),
         NExpr::App(f, a) => {
             let f = named_expr(alloc, f, top, &*scope)?;
@@ -67,7 +66,7 @@ pub fn named_expr<'x>(
             Ok(Expr::Cast(boxed(alloc, e)?, g))
         }
         NExpr::Con(name, args) => {
-            let name = written(alloc, top, &top.spaces.terms, name)?;
+            let name = written(alloc, top, name)?;
             let args = named_args(alloc, args.as_slice(), top, &*scope)?;
             Ok(Expr::Con(name, args))
         }
@@ -100,7 +99,7 @@ fn named_arg<'x>(
     arg: &NArg,
     top: &Declared,
     scope: &'x Scope<'x>,
-) -> Result<Arg, NotNamed>
+) -> Result<Arg, Memory>
     ensures { IfOk result (λ r. IsNamedArg (top_by top.now) (locals_of scope.now) (arg_of arg.now) (arg_of r)) }
 {
     match arg {
@@ -116,7 +115,7 @@ fn named_args<'x>(
     args: &[NArg],
     top: &Declared,
     scope: &'x Scope<'x>,
-) -> Result<Seq<Arg>, NotNamed>
+) -> Result<Seq<Arg>, Memory>
     ensures { IfOk result (λ r. IsNamedArgs (top_by top.now) (locals_of scope.now) (args_of args.now) (args_of r)) }
 {
     let mut out = Seq::new(alloc);
@@ -133,7 +132,7 @@ fn named_exprs<'x>(
     es: &[NExpr],
     top: &Declared,
     scope: &'x Scope<'x>,
-) -> Result<Seq<Expr>, NotNamed>
+) -> Result<Seq<Expr>, Memory>
     ensures { IfOk result (λ r. IsNamedExprs (top_by top.now) (locals_of scope.now) (exprs_of es.now) (exprs_of r)) }
 {
     let mut out = Seq::new(alloc);
@@ -153,7 +152,7 @@ fn lambda<'x>(
     top: &Declared,
     scope: &'x Scope<'x>,
     binder: &NBinder,
-) -> Result<Expr, NotNamed>
+) -> Result<Expr, Memory>
     ensures { IfOk result (λ r. IsNamedExpr (top_by top.now) (locals_of scope.now) (ELam (binder_of binder.now) (expr_of e.now)) (expr_of r)) }
 {
     let mut taken = used_in_lambda(alloc, e, top, &*scope, binder)?;
@@ -175,7 +174,7 @@ fn named_binds<'x>(
     top: &Declared,
     scope: &'x Scope<'x>,
     words: &[Text],
-) -> Result<Seq<Bind>, NotNamed>
+) -> Result<Seq<Bind>, Memory>
     requires { length words.now ≡ length binds.now }
     ensures named { IfOk result (λ r. IsNamedBinds (top_by top.now) (locals_of scope.now) (binds_of binds.now) (binds_of r)) }
     ensures words { IfOk result (λ r. bind_words (binds_of r) ≡ words.now) }
@@ -199,7 +198,7 @@ fn let_binds<'x>(
     scope: &'x Scope<'x>,
     recursive: bool,
     group: &'x Group,
-) -> Result<Seq<Bind>, NotNamed>
+) -> Result<Seq<Bind>, Memory>
     requires { length group.now.words ≡ length binds.now }
     ensures named { IfOk result (λ r. IsNamedBinds (top_by top.now) (if recursive then with_values group.now.names (locals_of scope.now) else locals_of scope.now) (binds_of binds.now) (binds_of r)) }
     ensures words { IfOk result (λ r. bind_words (binds_of r) ≡ group.now.words) }
@@ -231,7 +230,7 @@ fn named_below<'x>(
     top: &Declared,
     scope: &'x Scope<'x>,
     binders: &[NBinder],
-) -> Result<Below, NotNamed>
+) -> Result<Below, Memory>
     ensures { IfOk result (λ r. IsNamedBelow (top_by top.now) (locals_of scope.now) (binders_of binders.now) (expr_of e.now) (binders_of r.binders) (expr_of r.body)) }
 {
     let mut taken = used_below(alloc, e, top, &*scope, binders)?;
@@ -250,7 +249,7 @@ fn named_joins<'x>(
     top: &Declared,
     scope: &'x Scope<'x>,
     words: &[Text],
-) -> Result<Seq<JoinBind>, NotNamed>
+) -> Result<Seq<JoinBind>, Memory>
     requires { length words.now ≡ length joins.now }
     ensures named { IfOk result (λ r. IsNamedJoins (top_by top.now) (locals_of scope.now) (joins_of joins.now) (joins_of r)) }
     ensures words { IfOk result (λ r. join_words (joins_of r) ≡ words.now) }
@@ -275,7 +274,7 @@ fn join_members<'x>(
     scope: &'x Scope<'x>,
     recursive: bool,
     group: &'x Group,
-) -> Result<Seq<JoinBind>, NotNamed>
+) -> Result<Seq<JoinBind>, Memory>
     requires { length group.now.words ≡ length joins.now }
     ensures named { IfOk result (λ r. IsNamedJoins (top_by top.now) (if recursive then with_joins group.now.names (locals_of scope.now) else locals_of scope.now) (joins_of joins.now) (joins_of r)) }
     ensures words { IfOk result (λ r. join_words (joins_of r) ≡ group.now.words) }
@@ -297,7 +296,7 @@ fn named_alts<'x>(
     alts: &[NAlt],
     top: &Declared,
     scope: &'x Scope<'x>,
-) -> Result<Seq<Alt>, NotNamed>
+) -> Result<Seq<Alt>, Memory>
     ensures { IfOk result (λ r. IsNamedAlts (top_by top.now) (locals_of scope.now) (alts_of alts.now) (alts_of r)) }
 {
     let mut out = Seq::new(alloc);

@@ -5,6 +5,7 @@ mod binders;
 mod choose;
 mod coercions;
 mod declarations;
+mod error;
 mod expressions;
 mod members;
 mod module;
@@ -12,7 +13,8 @@ mod names;
 mod params;
 mod taken;
 mod types;
+mod used;
 mod variables;
 
-pub use fc_used_words::NotNamed;
+pub use error::NotNamed;
 pub use module::name_back;

@@ -1,42 +1,33 @@
-//! Names of declarations as they are written in a module.
+//! Words of variables, and names of declarations, as they are written in a module.
 ghost use Rattle.std.specs.Prelude.{◌≡◌, IfOk};
+ghost use Rattle.std.specs.Option.{option_copied};
 ghost use Rattle.fc_used_words.specs.Standing.{short};
+ghost use Rattle.fc_naming.specs.Named.{IsWritten};
 
-use fc_model::{Declared, WordSet};
+use fc_model::Declared;
 use fc_syntax::{Memory, Name, Text};
-use fc_used_words::NotNamed;
 use std::alloc::Global;
 
-/// A name of the module itself, if its word is among these.
-fn written_alone(alloc: Global, words: &WordSet, text: &Text) -> Result<Name, NotNamed>
-    ensures { IfOk result (λ n. n ≡ record { «module» = None; text = text.now }) }
+/// The word of a variable. No variable of a scoped module is without one.
+#[tactic(auto, using(crate::proofs::Lower::word_rules))]
+pub fn word_or_other(alloc: Global, word: Option<&Text>) -> Result<Text, Memory>
+    ensures { IfOk result (λ v. IsWritten (option_copied word.entry) v) }
 {
-    if !words.has(text) {
-        return Err(NotNamed::Unscoped);
+    match word {
+        Some(word) => word.copy(alloc),
+        None => Text::from_str(alloc, "unbound"),
     }
-    let text = text.copy(alloc)?;
-    Ok(Name { module: None, text })
 }
 
-/// A name as it is written, where these are the words that the module declares in its space.
-pub fn written(
-    alloc: Global,
-    top: &Declared,
-    words: &WordSet,
-    name: &Name,
-) -> Result<Name, NotNamed>
+/// A name as it is written: without its module where that is this one.
+pub fn written(alloc: Global, top: &Declared, name: &Name) -> Result<Name, Memory>
     ensures { IfOk result (λ n. n ≡ short top.now.own name.now) }
 {
-    match &name.module {
-        None => Err(NotNamed::Unscoped),
-        Some(module) => {
-            if module.as_str() == top.own.as_str() {
-                return written_alone(alloc, words, &name.text);
-            }
-            if !top.imports.has(module) {
-                return Err(NotNamed::Unscoped);
-            }
-            Ok(name.copy(alloc)?)
+    if let Some(module) = &name.module {
+        if module.as_str() != top.own.as_str() {
+            return name.copy(alloc);
         }
     }
+    let text = name.text.copy(alloc)?;
+    Ok(Name { module: None, text })
 }

@@ -1,105 +1,116 @@
-//! The words that the scope of a binder uses, which the binder must not take.
-ghost use Rattle.std.specs.Prelude.{IfOk};
-ghost use Rattle.fc_model.specs.NamelessView.{nalts_of, nbinder_of, nbinders_of, nbinds_of, nexpr_of, njoins_of};
+//! The words that a binder must not take.
+ghost use Rattle.std.specs.Prelude.{◌≡◌, IfOk, OnOk};
 ghost use Rattle.fc_model.specs.DeclaredWords.{top_by, words_by_space};
+ghost use Rattle.fc_model.specs.Resolution.{Locals, Top};
 ghost use Rattle.fc_scope.specs.ScopeWords.{locals_of};
-ghost use Rattle.fc_naming.specs.Named.{BelowUses, JoinUses, LamUses, LetUses, MayTakeAlts};
+ghost use Rattle.fc_naming.specs.Taken.{enter_word, more_words, taken_words, words_around, words_of};
 
-use crate::choose::choose;
 use fc_model::{Declared, Spaces};
-use fc_scope::Scope;
-use fc_syntax::{Memory, NAlt, NBind, NBinder, NExpr, NJoinBind, Text};
-use fc_used_words::{
-    Inside, NotNamed, in_binder, in_group, in_joins, use_alts, use_binders, use_binds, use_expr,
-    use_joins,
-};
+use fc_scope::{Found, Scope};
+use fc_syntax::{Memory, Text};
 use std::alloc::Global;
 
-/// The words that the body of a lambda uses.
-pub fn used_in_lambda<'x>(
-    alloc: Global,
-    e: &NExpr,
-    top: &Declared,
-    scope: &'x Scope<'x>,
-    binder: &NBinder,
-) -> Result<Spaces, NotNamed>
-    ensures { IfOk result (λ u. LamUses top.now.own (locals_of scope.now) (nbinder_of binder.now) (nexpr_of e.now) (words_by_space u)) }
-{
-    let mut used = Spaces::new(alloc);
-    let inside = in_binder(Inside::new(), binder)?;
-    use_expr(alloc, &top.own, e, &*scope, inside, &mut used)?;
-    Ok(used)
+/// What is bound. Values and join points share the words of terms.
+#[derive(Clone, Copy)]
+pub enum Space {
+    /// Types.
+    Types,
+    /// Values.
+    Values,
+    /// Join points.
+    Joins,
+    /// Coercions.
+    Coercions,
 }
 
-/// The words that binders and the expression below them use.
-pub fn used_below<'x>(
-    alloc: Global,
-    e: &NExpr,
-    top: &Declared,
-    scope: &'x Scope<'x>,
-    binders: &[NBinder],
-) -> Result<Spaces, NotNamed>
-    ensures { IfOk result (λ u. BelowUses top.now.own (locals_of scope.now) (nbinders_of binders.now) (nexpr_of e.now) (words_by_space u)) }
-{
-    let mut used = Spaces::new(alloc);
-    let inside = use_binders(alloc, &top.own, binders, &*scope, Inside::new(), &mut used)?;
-    use_expr(alloc, &top.own, e, &*scope, inside, &mut used)?;
-    Ok(used)
+/// The words that a binder must not take.
+#[derive(Drop)]
+pub enum Taken {
+    /// These: the words that the scope of the binder uses, and those that binders beside it took.
+    Words(Spaces),
+    /// Every word in scope, with those of binders beside it, and every term of the module: what takes no walk through the binder's scope to
+    /// know, and is as good where the word that the binder was read with is none of them.
+    InScope,
 }
 
-/// The words that the scope of a let's group uses.
-pub fn used_in_let<'x>(
-    alloc: Global,
-    e: &NExpr,
-    top: &Declared,
-    scope: &'x Scope<'x>,
-    recursive: bool,
-    binds: &[NBind],
-) -> Result<Spaces, NotNamed>
-    ensures { IfOk result (λ u. LetUses top.now.own (locals_of scope.now) recursive (nbinds_of binds.now) (nexpr_of e.now) (words_by_space u)) }
+/// Whether a word is one of these.
+#[tactic(auto, unfolding(fc_model::specs::DeclaredWords::words_by_space))]
+fn is_among(words: &Spaces, space: Space, word: &Text) -> bool
+    ensures { result ≡ words_of space (words_by_space words.now) word.now }
 {
-    let mut used = Spaces::new(alloc);
-    let inside = in_group(Inside::new(), binds)?;
-    if recursive {
-        use_binds(alloc, &top.own, binds, &*scope, inside, &mut used)?;
+    match space {
+        Space::Types => words.types.has(word),
+        Space::Values => words.terms.has(word),
+        Space::Joins => words.terms.has(word),
+        Space::Coercions => words.coercions.has(word),
     }
-    use_expr(alloc, &top.own, e, &*scope, inside, &mut used)?;
-    Ok(used)
 }
 
-/// The words that the scope of a group of join points uses.
-pub fn used_in_join<'x>(
-    alloc: Global,
-    e: &NExpr,
-    top: &Declared,
-    scope: &'x Scope<'x>,
-    recursive: bool,
-    joins: &[NJoinBind],
-) -> Result<Spaces, NotNamed>
-    ensures { IfOk result (λ u. JoinUses top.now.own (locals_of scope.now) recursive (njoins_of joins.now) (nexpr_of e.now) (words_by_space u)) }
+/// Whether a word is one of a term in scope or of the module.
+fn is_term<'x>(word: &Text, top: &Declared, scope: &'x Scope<'x>) -> Result<bool, Memory>
+    ensures { IfOk result (λ b. b ≡ (words_around (top_by top.now) (locals_of scope.now)).terms word.now) }
 {
-    let mut used = Spaces::new(alloc);
-    let inside = in_joins(Inside::new(), joins)?;
-    if recursive {
-        use_joins(alloc, &top.own, joins, &*scope, inside, &mut used)?;
+    match scope.term(word)? {
+        Found::Nowhere => Ok(top.spaces.terms.has(word)),
+        Found::Value(_) => Ok(true),
+        Found::Join(_) => Ok(true),
     }
-    use_expr(alloc, &top.own, e, &*scope, inside, &mut used)?;
-    Ok(used)
 }
 
-/// The word for the value that a case binds around its alternatives.
-pub fn word_around<'x>(
-    alloc: Global,
-    alts: &[NAlt],
+/// Whether a word is one of those in scope or of the module's terms. Fails where a distance has no 32 bits.
+pub fn is_around<'x>(
+    space: Space,
+    word: &Text,
     top: &Declared,
     scope: &'x Scope<'x>,
-    hint: &Text,
-) -> Result<Text, NotNamed>
-    ensures { IfOk result (λ v. MayTakeAlts (top_by top.now) (locals_of scope.now) hint.now v (nalts_of alts.now)) }
+) -> Result<bool, Memory>
+    ensures { IfOk result (λ b. b ≡ words_of space (words_around (top_by top.now) (locals_of scope.now)) word.now) }
 {
-    let mut used = Spaces::new(alloc);
-    let inside = Inside::new().in_value()?;
-    use_alts(alloc, &top.own, alts, &*scope, inside, &mut used)?;
-    let word = choose(alloc, hint, &used.terms)?;
-    Ok(word)
+    match space {
+        Space::Types => Ok(scope.ty(word)?.is_some()),
+        Space::Values => is_term(word, top, &*scope),
+        Space::Joins => is_term(word, top, &*scope),
+        Space::Coercions => Ok(scope.coercion(word)?.is_some()),
+    }
+}
+
+impl Taken {
+    /// Whether a word is one of them.
+    pub fn has<'x>(
+        &self,
+        space: Space,
+        word: &Text,
+        top: &Declared,
+        scope: &'x Scope<'x>,
+    ) -> Result<bool, Memory>
+        ensures { IfOk result (λ b. b ≡ words_of space (taken_words (top_by top.now) (locals_of scope.now) self.now) word.now) }
+    {
+        match self {
+            Taken::Words(words) => Ok(is_among(words, space, word)),
+            Taken::InScope => is_around(space, word, top, &*scope),
+        }
+    }
+
+    /// Puts a word in that a binder takes, in whose scope they are asked for from there on.
+    pub fn add(&mut self, alloc: Global, space: Space, word: &Text) -> Result<(), Memory>
+        ensures { OnOk result ((t : Top) (s : Locals) → taken_words t (enter_word space word.now s) self.new ≡ more_words space word.now (taken_words t s self.old)) }
+    {
+        match self {
+            Taken::Words(words) => add_word(alloc, words, space, word),
+            Taken::InScope => Ok(()),
+        }
+    }
+}
+
+/// Puts a word in.
+#[tactic(auto, unfolding(fc_model::specs::DeclaredWords::words_by_space))]
+fn add_word(alloc: Global, words: &mut Spaces, space: Space, word: &Text) -> Result<(), Memory>
+    ensures { OnOk result (words_by_space words.new ≡ more_words space word.now (words_by_space words.old)) }
+{
+    match space {
+        Space::Types => words.types.add(alloc, word),
+        Space::Values => words.terms.add(alloc, word),
+        Space::Joins => words.terms.add(alloc, word),
+        Space::Coercions => words.coercions.add(alloc, word),
+    }
 }

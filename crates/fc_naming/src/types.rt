@@ -4,24 +4,22 @@ ghost use Rattle.fc_syntax.specs.View.{ty_of, tys_of};
 ghost use Rattle.fc_model.specs.NamelessView.{nty_of};
 ghost use Rattle.fc_model.specs.DeclaredWords.{top_by};
 ghost use Rattle.fc_scope.specs.ScopeWords.{locals_of};
-ghost use Rattle.fc_naming.specs.Named.{IsNamedTy, IsNamedTys, MayTakeTy};
+ghost use Rattle.fc_naming.specs.Named.{IsNamedTy, IsNamedTys, IsWritten, MayTakeTy};
 
 use crate::choose::choose;
-use crate::names::written;
-use fc_model::{Declared, Spaces};
+use crate::names::{word_or_other, written};
+use crate::taken::Space;
+use crate::used::used_in_type;
+use fc_model::Declared;
 use fc_scope::{Scope, type_word};
 use fc_syntax::{Memory, NTy, Seq, Text, Ty, boxed};
-use fc_used_words::{Inside, NotNamed, use_ty};
 use std::alloc::Global;
 
 /// The word of a type variable at a distance.
-fn type_variable<'x>(alloc: Global, scope: &'x Scope<'x>, distance: u32) -> Result<Text, NotNamed>
-    ensures { IfOk result (λ v. slice_get (locals_of scope.now).types distance ≡ Some v) }
+fn type_variable<'x>(alloc: Global, scope: &'x Scope<'x>, distance: u32) -> Result<Text, Memory>
+    ensures { IfOk result (λ v. IsWritten (slice_get (locals_of scope.now).types distance) v) }
 {
-    match type_word(&*scope, distance) {
-        Some(word) => Ok(word.copy(alloc)?),
-        None => Err(NotNamed::Unscoped),
-    }
+    word_or_other(alloc, type_word(&*scope, distance))
 }
 
 /// The word for a binder of a type around a type.
@@ -31,13 +29,11 @@ fn word_around<'x>(
     top: &Declared,
     scope: &'x Scope<'x>,
     hint: &Text,
-) -> Result<Text, NotNamed>
+) -> Result<Text, Memory>
     ensures { IfOk result (λ v. MayTakeTy (top_by top.now) (locals_of scope.now) hint.now v (nty_of t.now)) }
 {
-    let mut used = Spaces::new(alloc);
-    let inside = Inside::new().in_type()?;
-    use_ty(alloc, &top.own, t, &*scope, inside, &mut used)?;
-    let word = choose(alloc, hint, &used.types)?;
+    let taken = used_in_type(alloc, t, top, &*scope, hint)?;
+    let word = choose(alloc, hint, Space::Types, top, &*scope, &taken)?;
     Ok(word)
 }
 
@@ -48,12 +44,12 @@ pub fn named_ty<'x>(
     t: &NTy,
     top: &Declared,
     scope: &'x Scope<'x>,
-) -> Result<Ty, NotNamed>
+) -> Result<Ty, Memory>
     ensures { IfOk result (λ r. IsNamedTy (top_by top.now) (locals_of scope.now) (ty_of t.now) (ty_of r)) }
 {
     match t {
         NTy::Var(distance) => Ok(Ty::Var(type_variable(alloc, &*scope, *distance)?)),
-        NTy::Con(name) => Ok(Ty::Con(written(alloc, top, &top.spaces.types, name)?)),
+        NTy::Con(name) => Ok(Ty::Con(written(alloc, top, name)?)),
         NTy::IntHash => Ok(Ty::IntHash),
         NTy::App(t, u) => {
             let t = named_ty(alloc, t, top, &*scope)?;
@@ -89,7 +85,7 @@ pub fn named_tys<'x>(
     types: &[NTy],
     top: &Declared,
     scope: &'x Scope<'x>,
-) -> Result<Seq<Ty>, NotNamed>
+) -> Result<Seq<Ty>, Memory>
     ensures { IfOk result (λ r. IsNamedTys (top_by top.now) (locals_of scope.now) (tys_of types.now) (tys_of r)) }
 {
     let mut out = Seq::new(alloc);

@@ -1,50 +1,60 @@
-//! Variables of terms, and what alternatives are for.
-ghost use Rattle.std.specs.Prelude.{◌≡◌, None, Some, IfOk};
+//! Variables of terms, what alternatives are for, and the value that a case binds around them.
+ghost use Rattle.std.specs.Prelude.{◌≡◌, None, IfOk};
 ghost use Rattle.fc_model.specs.Resolution.{Locals};
 ghost use Rattle.fc_model.specs.DeclaredWords.{top_by};
 ghost use Rattle.fc_scope.specs.ScopeWords.{locals_of};
 ghost use Rattle.fc_scope.specs.WordsAt.{join_word as join_word_at, value_word as value_word_at};
-ghost use Rattle.fc_naming.specs.Named.{IsNamedHead};
+ghost use Rattle.fc_model.specs.NamelessView.{nalts_of};
+ghost use Rattle.fc_naming.specs.Named.{IsNamedHead, IsWritten, MayTakeAlts};
 
-use crate::names::written;
+use crate::choose::choose;
+use crate::names::{word_or_other, written};
+use crate::taken::Space;
+use crate::used::used_in_alts;
 use fc_model::Declared;
 use fc_scope::{Scope, join_word, value_word};
-use fc_syntax::{Head, Memory, Name, Text};
-use fc_used_words::NotNamed;
+use fc_syntax::{Head, Memory, NAlt, Name, Text};
 use std::alloc::Global;
 
 /// A value at a distance.
-pub fn local<'x>(alloc: Global, scope: &'x Scope<'x>, distance: u32) -> Result<Name, NotNamed>
+pub fn local<'x>(alloc: Global, scope: &'x Scope<'x>, distance: u32) -> Result<Name, Memory>
     ensures alone { IfOk result (λ n. n.module ≡ None) }
-    ensures word { IfOk result (λ n. value_word_at (locals_of scope.now).terms distance ≡ Some n.text) }
+    ensures word { IfOk result (λ n. IsWritten (value_word_at (locals_of scope.now).terms distance) n.text) }
 {
-    match value_word(&*scope, distance) {
-        Some(word) => {
-            let text = word.copy(alloc)?;
-            Ok(Name { module: None, text })
-        }
-        None => Err(NotNamed::Unscoped),
-    }
+    let text = word_or_other(alloc, value_word(&*scope, distance))?;
+    Ok(Name { module: None, text })
 }
 
 /// The word of a join point at a distance.
-pub fn join_point<'x>(alloc: Global, scope: &'x Scope<'x>, distance: u32) -> Result<Text, NotNamed>
-    ensures { IfOk result (λ v. join_word_at (locals_of scope.now).terms distance ≡ Some v) }
+pub fn join_point<'x>(alloc: Global, scope: &'x Scope<'x>, distance: u32) -> Result<Text, Memory>
+    ensures { IfOk result (λ v. IsWritten (join_word_at (locals_of scope.now).terms distance) v) }
 {
-    match join_word(&*scope, distance) {
-        Some(word) => Ok(word.copy(alloc)?),
-        None => Err(NotNamed::Unscoped),
-    }
+    word_or_other(alloc, join_word(&*scope, distance))
 }
 
 /// What an alternative is for.
 #[tactic(auto, using(crate::proofs::NamedExpressions::head_names))]
-pub fn named_head(alloc: Global, head: &Head, top: &Declared) -> Result<Head, NotNamed>
+pub fn named_head(alloc: Global, head: &Head, top: &Declared) -> Result<Head, Memory>
     ensures { IfOk result (λ h. (s : Locals) → IsNamedHead (top_by top.now) s head.now h) }
 {
     match head {
         Head::Default => Ok(Head::Default),
         Head::Lit(_) => Ok(head.copy(alloc)?),
-        Head::Con(name) => Ok(Head::Con(written(alloc, top, &top.spaces.terms, name)?)),
+        Head::Con(name) => Ok(Head::Con(written(alloc, top, name)?)),
     }
+}
+
+/// The word for the value that a case binds around its alternatives.
+pub fn word_around<'x>(
+    alloc: Global,
+    alts: &[NAlt],
+    top: &Declared,
+    scope: &'x Scope<'x>,
+    hint: &Text,
+) -> Result<Text, Memory>
+    ensures { IfOk result (λ v. MayTakeAlts (top_by top.now) (locals_of scope.now) hint.now v (nalts_of alts.now)) }
+{
+    let taken = used_in_alts(alloc, alts, top, &*scope, hint)?;
+    let word = choose(alloc, hint, Space::Values, top, &*scope, &taken)?;
+    Ok(word)
 }

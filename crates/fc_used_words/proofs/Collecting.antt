@@ -65,6 +65,9 @@ adds_word word many i set v h is = record {
   within = λ w within. in_plus v w set within;
 }
 
+pub adds_nothing : (word : ℕ → Option Word) (many i : ℕ) (set : WordSet) → many ≤ i → word (i - many) ≡ None → AddsAt word many i set set
+adds_nothing word many i set h is = record { kept = beyond_far _ many i h (λ w at. absurd (cc)); within = λ w within. within }
+
 pub adds_other : (own : Word) (n : Name) (set : WordSet) (m : Word) → n.module ≡ Some m → bytes_eq m own ≡ false → AddsDefinition own n set set
 adds_other own n set m is differs = record {
   kept = λ alone. let e : outside own n.module ≡ Some m = ap (outside own) is ∙ ap (λ b. if b then None else Some m) differs in absurd cc;
@@ -76,7 +79,7 @@ adds_own own n set = record { kept = λ alone. plus_has n.text set; within = λ 
 
 pub ruleset definition_adds = (adds_other, adds_own)
 
-pub ruleset distance_adds = (adds_inside, adds_word)
+pub ruleset distance_adds = (adds_inside, adds_word, adds_nothing)
 
 -- WHAT WAS KEPT IS KEPT
 

@@ -2,12 +2,10 @@
 #![tactic(auto)]
 
 mod around;
-mod error;
 mod used_expressions;
 mod used_types;
 
 pub use around::Inside;
-pub use error::NotNamed;
 pub use used_expressions::{
     in_binder, in_group, in_joins, use_alts, use_binders, use_binds, use_expr, use_joins,
 };

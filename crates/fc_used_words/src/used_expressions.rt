@@ -10,7 +10,6 @@ ghost use Rattle.fc_used_words.specs.Scoped.{in_binder, in_binders, in_group, in
 ghost use Rattle.fc_used_words.specs.Used.{AddsAlts, AddsArg, AddsArgs, AddsAt, AddsBinders, AddsBinds, AddsDefinition, AddsExpr, AddsExprs, AddsJoins};
 
 use crate::around::Inside;
-use crate::error::NotNamed;
 use crate::used_types::{use_binder, use_co, use_ty};
 use fc_model::{Spaces, WordSet};
 use fc_scope::{Scope, join_word, value_word};
@@ -60,7 +59,7 @@ pub fn use_binders<'x>(
     scope: &'x Scope<'x>,
     inside: Inside,
     used: &mut Spaces,
-) -> Result<Inside, NotNamed>
+) -> Result<Inside, Memory>
     ensures below { IfOk result (λ k. counts_of k ≡ in_binders (nbinders_of binders.now) (counts_of inside)) }
     ensures adds { OnOk result (AddsBinders own.now (locals_of scope.now) (counts_of inside) (nbinders_of binders.now) (words_by_space used.old) (words_by_space used.new)) }
 {
@@ -82,15 +81,15 @@ fn add_value<'x>(
     scope: &'x Scope<'x>,
     inside: u32,
     terms: &mut WordSet,
-) -> Result<(), NotNamed>
+) -> Result<(), Memory>
     ensures { OnOk result (AddsAt (value_word_at (locals_of scope.now).terms) inside distance (set_of terms.old) (set_of terms.new)) }
 {
     if distance < inside {
         return Ok(());
     }
     match value_word(&*scope, distance - inside) {
-        Some(word) => Ok(terms.add(alloc, word)?),
-        None => Err(NotNamed::Unscoped),
+        Some(word) => terms.add(alloc, word),
+        None => Ok(()),
     }
 }
 
@@ -102,35 +101,30 @@ fn add_join<'x>(
     scope: &'x Scope<'x>,
     inside: u32,
     terms: &mut WordSet,
-) -> Result<(), NotNamed>
+) -> Result<(), Memory>
     ensures { OnOk result (AddsAt (join_word_at (locals_of scope.now).terms) inside distance (set_of terms.old) (set_of terms.new)) }
 {
     if distance < inside {
         return Ok(());
     }
     match join_word(&*scope, distance - inside) {
-        Some(word) => Ok(terms.add(alloc, word)?),
-        None => Err(NotNamed::Unscoped),
+        Some(word) => terms.add(alloc, word),
+        None => Ok(()),
     }
 }
 
 /// Puts the word of a definition in, if it is one of the module `own`.
 #[tactic(auto, using(crate::proofs::Collecting::definition_adds))]
-fn add_definition(
-    alloc: Global,
-    own: &Text,
-    name: &Name,
-    terms: &mut WordSet,
-) -> Result<(), NotNamed>
+fn add_definition(alloc: Global, own: &Text, name: &Name, terms: &mut WordSet) -> Result<(), Memory>
     ensures { OnOk result (AddsDefinition own.now name.now (set_of terms.old) (set_of terms.new)) }
 {
     match &name.module {
-        None => Err(NotNamed::Unscoped),
+        None => terms.add(alloc, &name.text),
         Some(module) => {
             if module.as_str() != own.as_str() {
                 return Ok(());
             }
-            Ok(terms.add(alloc, &name.text)?)
+            terms.add(alloc, &name.text)
         }
     }
 }
@@ -147,7 +141,7 @@ pub fn use_expr<'x>(
     scope: &'x Scope<'x>,
     inside: Inside,
     used: &mut Spaces,
-) -> Result<(), NotNamed>
+) -> Result<(), Memory>
     ensures { OnOk result (AddsExpr own.now (locals_of scope.now) (counts_of inside) (nexpr_of e.now) (words_by_space used.old) (words_by_space used.new)) }
 {
     match e {
@@ -228,7 +222,7 @@ fn use_arg<'x>(
     scope: &'x Scope<'x>,
     inside: Inside,
     used: &mut Spaces,
-) -> Result<(), NotNamed>
+) -> Result<(), Memory>
     ensures { OnOk result (AddsArg own.now (locals_of scope.now) (counts_of inside) (narg_of arg.now) (words_by_space used.old) (words_by_space used.new)) }
 {
     match arg {
@@ -246,7 +240,7 @@ fn use_args<'x>(
     scope: &'x Scope<'x>,
     inside: Inside,
     used: &mut Spaces,
-) -> Result<(), NotNamed>
+) -> Result<(), Memory>
     ensures { OnOk result (AddsArgs own.now (locals_of scope.now) (counts_of inside) (nargs_of args.now) (words_by_space used.old) (words_by_space used.new)) }
 {
     for arg in args {
@@ -263,7 +257,7 @@ fn use_exprs<'x>(
     scope: &'x Scope<'x>,
     inside: Inside,
     used: &mut Spaces,
-) -> Result<(), NotNamed>
+) -> Result<(), Memory>
     ensures { OnOk result (AddsExprs own.now (locals_of scope.now) (counts_of inside) (nexprs_of es.now) (words_by_space used.old) (words_by_space used.new)) }
 {
     for e in es {
@@ -281,7 +275,7 @@ pub fn use_binds<'x>(
     scope: &'x Scope<'x>,
     inside: Inside,
     used: &mut Spaces,
-) -> Result<(), NotNamed>
+) -> Result<(), Memory>
     ensures { OnOk result (AddsBinds own.now (locals_of scope.now) (counts_of inside) (nbinds_of binds.now) (words_by_space used.old) (words_by_space used.new)) }
 {
     for bind in binds {
@@ -300,7 +294,7 @@ pub fn use_joins<'x>(
     scope: &'x Scope<'x>,
     inside: Inside,
     used: &mut Spaces,
-) -> Result<(), NotNamed>
+) -> Result<(), Memory>
     ensures { OnOk result (AddsJoins own.now (locals_of scope.now) (counts_of inside) (njoins_of joins.now) (words_by_space used.old) (words_by_space used.new)) }
 {
     for join in joins {
@@ -319,7 +313,7 @@ pub fn use_alts<'x>(
     scope: &'x Scope<'x>,
     inside: Inside,
     used: &mut Spaces,
-) -> Result<(), NotNamed>
+) -> Result<(), Memory>
     ensures { OnOk result (AddsAlts own.now (locals_of scope.now) (counts_of inside) (nalts_of alts.now) (words_by_space used.old) (words_by_space used.new)) }
 {
     for alt in alts {

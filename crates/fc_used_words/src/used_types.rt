@@ -8,7 +8,6 @@ ghost use Rattle.fc_used_words.specs.Around.{counts_of};
 ghost use Rattle.fc_used_words.specs.Used.{AddsAt, AddsBinder, AddsCo, AddsCos, AddsTy, AddsTys};
 
 use crate::around::Inside;
-use crate::error::NotNamed;
 use fc_model::{Spaces, WordSet};
 use fc_scope::{Scope, coercion_word, type_word};
 use fc_syntax::{Memory, NBinder, NCo, NTy, Text};
@@ -22,15 +21,15 @@ fn add_type<'x>(
     scope: &'x Scope<'x>,
     inside: u32,
     types: &mut WordSet,
-) -> Result<(), NotNamed>
+) -> Result<(), Memory>
     ensures { OnOk result (AddsAt (slice_get (locals_of scope.now).types) inside distance (set_of types.old) (set_of types.new)) }
 {
     if distance < inside {
         return Ok(());
     }
     match type_word(&*scope, distance - inside) {
-        Some(word) => Ok(types.add(alloc, word)?),
-        None => Err(NotNamed::Unscoped),
+        Some(word) => types.add(alloc, word),
+        None => Ok(()),
     }
 }
 
@@ -43,7 +42,7 @@ pub fn use_ty<'x>(
     scope: &'x Scope<'x>,
     inside: Inside,
     used: &mut Spaces,
-) -> Result<(), NotNamed>
+) -> Result<(), Memory>
     ensures { OnOk result (AddsTy own.now (locals_of scope.now) (counts_of inside) (nty_of t.now) (words_by_space used.old) (words_by_space used.new)) }
 {
     match t {
@@ -81,7 +80,7 @@ pub fn use_tys<'x>(
     scope: &'x Scope<'x>,
     inside: Inside,
     used: &mut Spaces,
-) -> Result<(), NotNamed>
+) -> Result<(), Memory>
     ensures { OnOk result (AddsTys own.now (locals_of scope.now) (counts_of inside) (ntys_of types.now) (words_by_space used.old) (words_by_space used.new)) }
 {
     for t in types {
@@ -98,15 +97,15 @@ fn add_coercion<'x>(
     scope: &'x Scope<'x>,
     inside: u32,
     coercions: &mut WordSet,
-) -> Result<(), NotNamed>
+) -> Result<(), Memory>
     ensures { OnOk result (AddsAt (slice_get (locals_of scope.now).coercions) inside distance (set_of coercions.old) (set_of coercions.new)) }
 {
     if distance < inside {
         return Ok(());
     }
     match coercion_word(&*scope, distance - inside) {
-        Some(word) => Ok(coercions.add(alloc, word)?),
-        None => Err(NotNamed::Unscoped),
+        Some(word) => coercions.add(alloc, word),
+        None => Ok(()),
     }
 }
 
@@ -120,7 +119,7 @@ pub fn use_co<'x>(
     scope: &'x Scope<'x>,
     inside: Inside,
     used: &mut Spaces,
-) -> Result<(), NotNamed>
+) -> Result<(), Memory>
     ensures { OnOk result (AddsCo own.now (locals_of scope.now) (counts_of inside) (nco_of g.now) (words_by_space used.old) (words_by_space used.new)) }
 {
     match g {
@@ -192,7 +191,7 @@ fn use_cos<'x>(
     scope: &'x Scope<'x>,
     inside: Inside,
     used: &mut Spaces,
-) -> Result<(), NotNamed>
+) -> Result<(), Memory>
     ensures { OnOk result (AddsCos own.now (locals_of scope.now) (counts_of inside) (ncos_of gs.now) (words_by_space used.old) (words_by_space used.new)) }
 {
     for g in gs {
@@ -210,7 +209,7 @@ pub fn use_binder<'x>(
     scope: &'x Scope<'x>,
     inside: Inside,
     used: &mut Spaces,
-) -> Result<(), NotNamed>
+) -> Result<(), Memory>
     ensures { OnOk result (AddsBinder own.now (locals_of scope.now) (counts_of inside) (nbinder_of binder.now) (words_by_space used.old) (words_by_space used.new)) }
 {
     match binder {

@@ -1,6 +1,7 @@
 use Rattle.std.proofs.Common.{refl}
-use Rattle.fc_model.specs.DeclaredWords.{words_by_space}
+use Rattle.fc_model.specs.DeclaredWords.{top_by}
 use Rattle.fc_scope.specs.ScopeWords.{locals_of}
+use Rattle.fc_naming.specs.Taken.{taken_words}
 use Rattle.fc_naming.proofs.NamedGroups.{join_hints_lower}
 use Rattle.fc_naming.proofs.members.point_words.Goals as goal
 
@@ -8,11 +9,10 @@ pub returns-clause-counted : goal.returns-clause-counted
 returns-clause-counted c = c.in_ok-group.ensures.counted
 
 pub returns-clause-around : goal.returns-clause-around
-unfolding words_by_space
 returns-clause-around c = record {
   items = c.args.joins.now;
   members = refl;
-  taken = words_by_space c.in_ok-taken.taken;
+  taken = taken_words (top_by c.args.top.now) (locals_of c.args.scope.now) c.in_ok-taken.taken;
   distinct = c.in_ok-group.ensures.distinct;
   counted = c.in_ok-group.ensures.counted;
   lower = λ h. c.in_ok-group.ensures.lower (join_hints_lower c.args.joins.now h);

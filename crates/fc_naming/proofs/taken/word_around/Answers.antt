@@ -1,9 +1,0 @@
-use Rattle.std.proofs.Common.{rules}
-use Rattle.fc_model.specs.DeclaredWords.{words_by_space}
-use Rattle.fc_used_words.proofs.Collecting.{alts_below}
-use Rattle.fc_naming.proofs.NamedTypes.{may_take_alts}
-use Rattle.fc_naming.proofs.taken.word_around.Goals as goal
-
-pub returns : goal.returns
-unfolding words_by_space
-returns c = may_take_alts (alts_below c.in_ok-use_alts.ensures (search rules)) c.in_ok-word.ensures

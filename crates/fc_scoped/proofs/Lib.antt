@@ -1,0 +1,5 @@
+mod Counting
+mod Knowing
+mod Parameters
+mod Scoping
+pub mod Tested

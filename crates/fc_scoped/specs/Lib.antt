@@ -1,0 +1,2 @@
+pub mod LintedAreScoped
+pub mod Testing
