@@ -2,9 +2,10 @@
 """Runs calls of the probe on nameless modules of growing size, up to the limits of a module: copies, measures, naming back, arguments in place of variables, what binds without
 its binders, and how often something occurs. Prints for each the pieces of the module, the processor seconds (the least of five runs), the nanoseconds a piece, and how many
 times that of the smallest size this is. Each call reads the module and makes it nameless first, and all but the measures and the counts name it back and print it, so the same
-module under `resolve`, which prints what its declarations refer to, and under `name_back` stands for comparison. There are five kinds of modules: lets nested as deep as the limits let
-them, in many definitions; the same where all of them bind one word; one group of recursive binds, each of which uses the next; one group of binds that use one variable around it twice each; and one group that does not use
-it. The last definition applies a lambda around these, so that its variable is what is replaced and counted. Run it from anywhere, on a machine where the probe is built, or with
+module under `resolve`, which prints what its declarations refer to, and under `name_back` stands for comparison. There are six kinds of modules: lets nested as deep as the limits let
+them, in many definitions; the same where all of them bind one word; one group of recursive binds, each of which uses the next; the same behind hundreds of lambdas; one group of
+binds that use one variable around it twice each; and one group that does not use it. The last definition applies a lambda around these, so that its variable is what is replaced and
+counted. Run it from anywhere, on a machine where the probe is built, or with
 another program as its only word."""
 import os
 import subprocess
@@ -50,6 +51,13 @@ def group(count):
     yield f"(def e T (app (lam ((x T)) (letrec ({binds}) b0)) (con K)))"
 
 
+def around(count):
+    """The same behind as many lambdas as the limits let them be, whose variables the binds use in turn."""
+    names = [f"x{k}" for k in range(LETS - 10)]
+    binds = " ".join(f"(b{k} T (con P b{(k + 1) % count} {names[k % len(names)]}))" for k in range(count))
+    yield f"(def e (fun {'T ' * (len(names) - 1)}T) (app (lam ({' '.join(f'({name} T)' for name in names)}) (letrec ({binds}) b0)) (con K)))"
+
+
 def uses(count):
     """A lambda around one group of binds that use its variable, so often in all, applied."""
     binds = " ".join(f"(b{k} T (con P x x))" for k in range(count // 2))
@@ -72,6 +80,7 @@ KINDS = [
     ("lets", deep, [40, 80, 160]),
     ("one word", deep_of_one_word, [40, 80, 160]),
     ("group", group, [12_500, 25_000, 50_000]),
+    ("around", around, [12_500, 25_000, 50_000]),
     ("uses", uses, [25_000, 50_000, 100_000]),
     ("unused", unused, [16_000, 32_000, 64_000]),
 ]

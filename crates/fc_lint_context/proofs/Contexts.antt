@@ -7,7 +7,7 @@ use Rattle.fc_model.specs.Nameless.{NTy, NBinder, NBType, NBinds, NJoins}
 use Rattle.fc_model.specs.Substituting.{raised_type}
 use Rattle.fc_model.specs.Typing.{Context, JoinPoint, no_context, with_binders, with_binds, with_joins, with_type}
 use Rattle.fc_types.specs.KindViews.{kinds_of}
-use Rattle.fc_type_scope.proofs.BinderLists.{kinds_past-one, length-binder_kinds}
+use Rattle.fc_type_table.proofs.BinderKinds.{kinds_past-one, length-binder_kinds}
 use Rattle.fc_type_scope.proofs.Numbers.{number_rules, AreTypesAt-behind, AreTypesAt-grows, AreTypesAt-past, shown_all-behind, shown_all-grows, shown_all-past}
 use Rattle.fc_type_scope.specs.Behind.{IsEntered, binder_coercions, binder_kinds, binder_values, context_past, kinds_past, raised_ends, raised_join}
 use Rattle.fc_type_scope.specs.EndViews.{AreEndsAt, shown_all_ends_at}

@@ -13,7 +13,7 @@ use Rattle.fc_model.specs.Nameless.{NTy, NTCon, NTForall, NParam, NParamOf, NBin
 use Rattle.fc_model.specs.NamelessView.{nparams_of, nplains_of, ntys_of}
 use Rattle.fc_types.specs.KindViews.{behind_group, own_kinds}
 use Rattle.fc_types.specs.declared.kind_scope.LocalKind.{LocalKind}
-use Rattle.fc_type_scope.proofs.BinderLists.{length-binder_kinds}
+use Rattle.fc_type_table.proofs.BinderKinds.{length-binder_kinds}
 use Rattle.fc_type_scope.specs.Behind.{binder_kinds}
 use Rattle.fc_type_table.specs.Scopes.{shown_at}
 use Rattle.fc_type_table.specs.declared.node.Node.{Node}

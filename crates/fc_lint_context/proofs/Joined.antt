@@ -5,14 +5,11 @@ use Rattle.fc_syntax.specs.declared.expr.Binder.{Binder}
 use Rattle.fc_syntax.specs.declared.expr.JoinBind.{JoinBind}
 use Rattle.fc_syntax.specs.declared.ty.Ref.{Ref}
 use Rattle.fc_model.proofs.Lists.{drop_item}
-use Rattle.fc_model.specs.Calling.{over_binders, type_count}
+use Rattle.fc_model.specs.Calling.{binders_to}
 use Rattle.fc_model.specs.Nameless.{NTy}
 use Rattle.fc_model.specs.NamelessView.{nbinders_of, njoins_of}
-use Rattle.fc_model.specs.Substituting.{raised_type}
 use Rattle.fc_model.specs.Typing.{JoinPoint, join_point}
 use Rattle.fc_type_scope.proofs.Growing.{IsType-grows, shown-grows}
-use Rattle.fc_type_scope.proofs.PastBinders.{shown-behind}
-use Rattle.fc_type_scope.specs.Behind.{kinds_past}
 use Rattle.fc_type_table.specs.Nodes.{Extends}
 use Rattle.fc_type_table.specs.TypeTables.{Grows, IsType, nodes_of, shown}
 use Rattle.fc_type_table.specs.declared.node.Node.{Node}
@@ -27,18 +24,15 @@ params_count [] = refl
 params_count (p ∷ ps) = ap suc (params_count ps)
 
 pub join_made : (old mid new : TypeTable) (ks : List Kind) (ps : List (Binder ℕ)) (ty answer : TypeId) → Grows old mid → Grows mid new → IsType old ks answer
-    → shown new ks ty ≡ over_binders (nbinders_of ps) (shown mid (kinds_past (nbinders_of ps) ks) answer)
+    → shown new ks ty ≡ binders_to (nbinders_of ps) (shown mid ks answer)
     → shown_join (nodes_of new) ks (record { arity = length ps; ty = ty; answer = answer }) ≡ join_point (shown old ks answer) (nbinders_of ps)
 join_made old mid new ks ps ty answer more further t made =
     let bs = nbinders_of ps in
-    let there : IsType mid ks answer = IsType-grows old mid ks answer more t in
     let first : shown mid ks answer ≡ shown old ks answer = shown-grows old mid ks answer more t in
-    let last : shown new ks answer ≡ shown old ks answer = shown-grows mid new ks answer further there ∙ first in
-    let whole : shown new ks ty ≡ over_binders bs (raised_type (type_count bs) (shown old ks answer)) =
-    made ∙ ap (over_binders bs) (shown-behind mid bs ks answer there ∙ ap (raised_type (type_count bs)) first) in
+    let last : shown new ks answer ≡ shown old ks answer = shown-grows mid new ks answer further (IsType-grows old mid ks answer more t) ∙ first in
     let f : ℕ → NTy → NTy → JoinPoint = λ n u v. record { arity = n; type = u; result = v } in
-    ap (λ n. f n (shown new ks ty) (shown new ks answer)) (params_count ps) ∙ ap (λ u. f (length bs) u (shown new ks answer)) whole
-    ∙ ap (f (length bs) (over_binders bs (raised_type (type_count bs) (shown old ks answer)))) last
+    ap (λ n. f n (shown new ks ty) (shown new ks answer)) (params_count ps) ∙ ap (λ u. f (length bs) u (shown new ks answer)) (made ∙ ap (binders_to bs) first)
+    ∙ ap (f (length bs) (binders_to bs (shown old ks answer))) last
 
 -- one join point more
 pub points_more : (old new : List Node) (ks : List Kind) (points pushed : List code.JoinPoint) (j : code.JoinPoint) (t u : NTy) (joins : List (JoinBind ℕ Ref)) (i : ℕ) (b : JoinBind ℕ Ref) (ps : List (Binder ℕ)) → Extends old new → AreJoinsAt old ks points

@@ -50,9 +50,7 @@ impl<'x, 'd, 'a> Context<'x, 'd, 'a> {
     {
         let entered = self.scope.enter(alloc, params, types)?;
         let arity = params.len();
-        let ty = self
-            .scope
-            .function_over(alloc, params, &entered, answer, types)?;
+        let ty = self.scope.function_to(params, &entered, answer, types)?;
         Ok(JoinPoint { arity, ty, answer })
     }
 

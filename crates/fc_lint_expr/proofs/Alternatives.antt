@@ -5,19 +5,17 @@ use Rattle.fc_syntax.specs.Tree.{Kind}
 use Rattle.fc_syntax.specs.declared.expr.Head.{Head}
 use Rattle.fc_syntax.specs.declared.fault.FaultKind.{FaultKind}
 use Rattle.fc_syntax.specs.declared.fault.FaultKind.TheVariants.{AltType, LetType, NotAType, ScrutineeType}
-use Rattle.fc_model.specs.Calling.{binders_to, over_binders, type_count}
+use Rattle.fc_model.specs.Calling.{binders_to, type_count}
 use Rattle.fc_model.specs.Faulting.{F, and_then, need, under}
 use Rattle.fc_model.specs.Kinding.{Modules, is_value_kind, kind_or_fault, same_type}
 use Rattle.fc_model.specs.Nameless.{NTy, NAlt, NAlts, NBinder, NBranch, NExpr, NJoin, NJoinBind, NJoined, NJoins}
 use Rattle.fc_model.specs.Says.{Refuses, Says, fault_of}
-use Rattle.fc_model.specs.Substituting.{raised_type}
 use Rattle.fc_model.specs.Typing.{Before, Context, Start, alt_judged, alts_judged, binders_judged, head_goes, join_judged, joins_judged, leaves_as, paid, type_or_fault, with_binders, with_joins, with_value}
 use Rattle.fc_model.specs.declared.flaw.Flawed.{Flawed}
 use Rattle.fc_model.specs.declared.flaw.Flawed.TheVariants.{Memory, Flaw as OfFlaw}
 use Rattle.fc_types.specs.KindViews.{kinds_of}
-use Rattle.fc_type_scope.proofs.BinderLists.{length-binder_kinds}
+use Rattle.fc_type_table.proofs.BinderKinds.{length-binder_kinds}
 use Rattle.fc_type_scope.proofs.Growing.{IsType-grows, shown-grows}
-use Rattle.fc_type_scope.proofs.PastBinders.{shown-behind}
 use Rattle.fc_type_scope.specs.Behind.{binder_kinds, kinds_past}
 use Rattle.fc_type_scope.specs.Scopes.{scope_in}
 use Rattle.fc_type_table.proofs.Numbers.{Grows-further}
@@ -84,11 +82,9 @@ says_is v r whole rest e h = subst (λ q. Says v r q) (sym e) h
 
 -- ---- the number of what takes arguments for binders
 
-pub over_is : (k0 k2 k3 : TypeTable) (bs : List NBinder) (ks : List Kind) (over s : TypeId) → Grows k0 k2 → Grows k2 k3 → IsType k0 ks s → shown k3 ks over ≡ over_binders bs (shown k2 (kinds_past bs ks) s)
+pub over_is : (k0 k2 k3 : TypeTable) (bs : List NBinder) (ks : List Kind) (over s : TypeId) → Grows k0 k2 → Grows k2 k3 → IsType k0 ks s → shown k3 ks over ≡ binders_to bs (shown k2 ks s)
     → shown k3 ks over ≡ binders_to bs (shown k3 ks s)
-over_is k0 k2 k3 bs ks over s g2 g3 valid view =
-    let there = IsType-grows k0 k2 ks s g2 valid in
-    view ∙ ap (over_binders bs) (shown-behind k2 bs ks s there ∙ ap (raised_type (type_count bs)) (sym (shown-grows k2 k3 ks s g3 there)))
+over_is k0 k2 k3 bs ks over s g2 g3 valid view = view ∙ ap (binders_to bs) (sym (shown-grows k2 k3 ks s g3 (IsType-grows k0 k2 ks s g2 valid)))
 
 -- ---- the kinds of a context
 

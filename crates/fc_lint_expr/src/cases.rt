@@ -108,7 +108,7 @@ pub(crate) fn alternative_fits<'x, 'd, 'a>(
     )?;
     let over = context
         .scope
-        .function_over(alloc, binders, &entered, wanted.scrutinee, types)?;
+        .function_to(binders, &entered, wanted.scrutinee, types)?;
     let next = head_goes(
         alloc,
         &alternative.head,

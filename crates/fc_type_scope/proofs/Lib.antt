@@ -10,3 +10,4 @@ pub mod Past
 pub mod PastBinders
 pub mod Proven
 pub mod Raising
+pub mod EnteredScoped

@@ -30,10 +30,10 @@ AreTypesAt-none ns ks = record { each = All-nil (Each ns ks) }
 pub AreTypesAt-cons : (ns : List Node) (ks : List Kind) (id : TypeId) (ids : List TypeId) → IsTypeAt ns ks id.0 → AreTypesAt ns ks ids → AreTypesAt ns ks (id ∷ ids)
 AreTypesAt-cons ns ks id ids t ts = record { each = All-cons (Each ns ks) id ids t ts.each }
 
-AreTypesAt-head : (ns : List Node) (ks : List Kind) (id : TypeId) (ids : List TypeId) → AreTypesAt ns ks (id ∷ ids) → IsTypeAt ns ks id.0
+pub AreTypesAt-head : (ns : List Node) (ks : List Kind) (id : TypeId) (ids : List TypeId) → AreTypesAt ns ks (id ∷ ids) → IsTypeAt ns ks id.0
 AreTypesAt-head ns ks id ids ts = All-head (Each ns ks) id ids ts.each
 
-AreTypesAt-tail : (ns : List Node) (ks : List Kind) (id : TypeId) (ids : List TypeId) → AreTypesAt ns ks (id ∷ ids) → AreTypesAt ns ks ids
+pub AreTypesAt-tail : (ns : List Node) (ks : List Kind) (id : TypeId) (ids : List TypeId) → AreTypesAt ns ks (id ∷ ids) → AreTypesAt ns ks ids
 AreTypesAt-tail ns ks id ids ts = record { each = All-tail (Each ns ks) id ids ts.each }
 
 AreTypesAt-append : (ns : List Node) (ks : List Kind) (ids more : List TypeId) → AreTypesAt ns ks ids → AreTypesAt ns ks more → AreTypesAt ns ks (ids ++ more)

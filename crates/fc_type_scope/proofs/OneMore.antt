@@ -15,7 +15,8 @@ use Rattle.fc_type_scope.specs.EndViews.{AreEndsAt, IsEndsAt, shown_all_ends_at,
 use Rattle.fc_type_scope.specs.Scopes.{AreTypesAt, shown_all_at}
 use Rattle.fc_type_scope.specs.declared.ends.Ends as proven
 use Rattle.fc_type_scope.specs.declared.entering.Entered as code
-use Rattle.fc_type_scope.proofs.BinderLists.{binder_coercions-one, binder_coercions-type, binder_coercions-value, binder_kinds-append, binder_values-coercion, binder_values-type, binder_values-value, kinds_past-last}
+use Rattle.fc_type_table.proofs.BinderKinds.{binder_kinds-append, kinds_past-last}
+use Rattle.fc_type_scope.proofs.BinderLists.{binder_coercions-one, binder_coercions-type, binder_coercions-value, binder_values-coercion, binder_values-type, binder_values-value}
 use Rattle.fc_type_scope.proofs.Numbers.{AreTypesAt-grows, AreTypesAt-none, AreTypesAt-past, AreTypesAt-push, shown_all-grows, shown_all-none, shown_all-past, shown_all-push}
 use Rattle.fc_type_scope.proofs.Proven.{AreEndsAt-grows, AreEndsAt-none, AreEndsAt-past, AreEndsAt-push, shown_all_ends-grows, shown_all_ends-none, shown_all_ends-past, shown_all_ends-push}
 use Rattle.std.proofs.lemmas.List.{append-nil}

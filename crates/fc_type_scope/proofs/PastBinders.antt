@@ -18,7 +18,8 @@ use Rattle.fc_type_scope.specs.Behind.{IsEntered, binder_coercions, binder_kinds
 use Rattle.fc_type_scope.specs.Scopes.{AreTypes, scope_in, shown_all}
 use Rattle.fc_type_scope.specs.declared.entering.Entered as code
 use Rattle.fc_type_scope.specs.declared.scope.TypeScope as scopes
-use Rattle.fc_type_scope.proofs.BinderLists.{all_ends_raised_none, all_raised_none, kinds_past-first, kinds_past-none, length-binder_kinds}
+use Rattle.fc_type_table.proofs.BinderKinds.{kinds_past-first, kinds_past-none, length-binder_kinds}
+use Rattle.fc_type_scope.proofs.BinderLists.{all_ends_raised_none, all_raised_none}
 use Rattle.fc_type_scope.proofs.Numbers.{AreTypesAt-behind, AreTypesAt-past, shown_all-behind, shown_all-past}
 use Rattle.fc_type_scope.proofs.Past.{IsTypeAt-past, shown_at-past}
 use Rattle.fc_type_scope.proofs.Raising.{raised_none}

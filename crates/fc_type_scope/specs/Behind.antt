@@ -7,23 +7,13 @@ use Rattle.fc_model.specs.Nameless.{NTy, NBinder, NBValue, NBType, NBCo}
 use Rattle.fc_model.specs.Substituting.{raised_type}
 use Rattle.fc_model.specs.Typing.{Context, JoinPoint}
 use Rattle.fc_types.specs.KindViews.{own_kinds}
+unfoldable pub use Rattle.fc_type_table.specs.Binders.{binder_kinds, kinds_past}
 use Rattle.fc_type_table.specs.Scopes.{IsTypeAt, shown_at}
 use Rattle.fc_type_table.specs.declared.node.Node.{Node}
 use Rattle.fc_type_table.specs.declared.node.TypeId.{TypeId}
 use Rattle.fc_type_scope.specs.EndViews.{AreEndsAt, shown_all_ends_at}
 use Rattle.fc_type_scope.specs.Scopes.{AreTypesAt, shown_all_at}
 use Rattle.fc_type_scope.specs.declared.entering.Entered as code
-
--- the kinds of the type variables that binders bind, in their order
-unfoldable pub binder_kinds : List NBinder → List Kind
-binder_kinds [] = []
-binder_kinds (NBValue t ∷ bs) = binder_kinds bs
-binder_kinds (NBType k ∷ bs) = k ∷ binder_kinds bs
-binder_kinds (NBCo r t u ∷ bs) = binder_kinds bs
-
--- the kinds of the type variables in scope behind binders
-unfoldable pub kinds_past : List NBinder → List Kind → List Kind
-kinds_past bs ks = reverse (binder_kinds bs) ++ ks
 
 -- the types of the values that binders bind, in their order, as they stand behind all of them
 unfoldable pub binder_values : List NBinder → List NTy

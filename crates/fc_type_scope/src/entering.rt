@@ -2,7 +2,7 @@
 ghost use Rattle.std.specs.Prelude.{◌≡◌, ◌++◌, ◌-◌, ◌≤◌, [], ◌∷◌, List, reverse, IfOk, OnOk};
 ghost use Rattle.fc_model.specs.Nameless as trees;
 ghost use Rattle.fc_model.specs.Calling as words;
-ghost use Rattle.fc_model.specs.Calling.{over_binders, type_count};
+ghost use Rattle.fc_model.specs.Calling.{binders_to, over_binders, type_count};
 ghost use Rattle.fc_model.specs.NamelessView.{nbinder_of, nbinders_of, nty_of};
 ghost use Rattle.fc_model.specs.Typing.{kinds_behind};
 ghost use Rattle.fc_types.specs.KindViews.{kinds_of, own_kinds};
@@ -204,6 +204,27 @@ impl<'x> TypeScope<'x> {
             whole = scope.over_binder(alloc, binder, values, counts.values, whole, types)?;
         }
         Ok(whole)
+    }
+
+    /// The type of what takes arguments for binders and is then of the type `answer`, which stands outside them, such as the type of a join
+    /// point. Each part of the binders is visited once, and no part of the answer.
+    #[tactic(auto, unfolding(crate::specs::Scopes::scope_in))]
+    pub fn function_to<'a>(
+        &self,
+        binders: &'a [NBinder],
+        entered: &Entered<'a>,
+        answer: TypeId,
+        types: &mut TypeTable<'a>,
+    ) -> Result<TypeId, Memory>
+        requires entered_in { IsEntered (nodes_of types.old) (scope_in self.now) (nbinders_of binders.now) entered.now }
+        requires answer_in { IsType types.old (scope_in self.now) answer }
+        ensures valid { IfOk result (λ id. IsType types.new (scope_in self.now) id) }
+        ensures view { IfOk result (λ id. shown types.new (scope_in self.now) id ≡ binders_to (nbinders_of binders.now) (shown types.old (scope_in self.now) answer)) }
+        ensures grows { OnOk result (Grows types.old types.new) }
+    {
+        let variables = self.variables()?;
+        let own = entered.kinds.as_slice();
+        types.read_over(binders, own, self.kinds, variables, answer)
     }
 
     /// The type of what takes an argument for a binder and is then of the type `answer`, which stands behind it.

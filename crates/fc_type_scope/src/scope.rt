@@ -30,7 +30,7 @@ pub struct TypeScope<'x> {
 impl<'x> TypeScope<'x> {
     /// How many type variables are in scope, where the number can be told.
     #[tactic(auto, unfolding(crate::specs::Scopes::scope_in))]
-    fn variables(&self) -> Result<u32, Memory>
+    pub(crate) fn variables(&self) -> Result<u32, Memory>
         ensures { IfOk result (λ n. n ≡ length (scope_in self.now)) }
     {
         variables(self.kinds)

@@ -29,7 +29,7 @@ indexed-leveled n ls k (NTForall j t) h =
     cc (kind_in-tree j, indexed-leveled n (j ∷ ls) (k + 1) t (subst (λ m. IsScopedType m t) e h))
 indexed-leveled n ls k (NTCoForall r a b t) h = cc (indexed-leveled n ls k a h.0, indexed-leveled n ls k b h.1, indexed-leveled n ls k t h.2)
 
-leveled-indexed : (ks js : List Kind) (d : ℕ) → d ≡ length js → (t : Tree) → Scoped ks js t → leveled (length ks) (js ++ ks) d (indexed (length ks) d t) ≡ t
+pub leveled-indexed : (ks js : List Kind) (d : ℕ) → d ≡ length js → (t : Tree) → Scoped ks js t → leveled (length ks) (js ++ ks) d (indexed (length ks) d t) ≡ t
 unfolding indexed leveled
 leveled-indexed ks js d e (LBound i k) h = by (nat_lt i d) refl
   where
@@ -75,7 +75,7 @@ renaming_under-high s r moves (suc c) zero h = absurd (omega arith)
 renaming_under-high s r moves (suc c) (suc i) h = omega (arith, renaming_under-high s r moves c i (omega arith))
 
 -- a shift by s moves what levels show
-renamed-indexed : (s : ℕ) (r : ℕ → ℕ) → ((i : ℕ) → r i ≡ i + s) → (ks js : List Kind) (c m : ℕ) → c ≡ length js → (t : Tree) → Scoped ks js t → c ≤ m
+pub renamed-indexed : (s : ℕ) (r : ℕ → ℕ) → ((i : ℕ) → r i ≡ i + s) → (ks js : List Kind) (c m : ℕ) → c ≡ length js → (t : Tree) → Scoped ks js t → c ≤ m
     → renamed_type (renaming_under c r) (indexed (length ks) m t) ≡ indexed (length ks) (m + s) t
 unfolding indexed
 renamed-indexed s r moves ks js c m e (LBound i k) h g = ap NTVar (renaming_under-low r c i (omega (arith, h.0)))

@@ -13,3 +13,6 @@ pub mod Interned
 pub mod Numbers
 pub mod Shown
 pub mod Noted
+pub mod BinderKinds
+pub mod Reached
+pub mod Overs

@@ -73,7 +73,7 @@ renamed-mentions r bs ks js moves c e (LArrow a b) h u p = absurd h
 renamed-mentions r bs ks js moves c e t h u p = absurd (cc)
 
 -- under more binders, outside the others
-Scoped-more : (ks js ls : List Kind) (t : Tree) → Scoped ks js t → Scoped ks (js ++ ls) t
+pub Scoped-more : (ks js ls : List Kind) (t : Tree) → Scoped ks js t → Scoped ks (js ++ ls) t
 Scoped-more ks js ls (LBound i k) h = let long = length-append js ls in (omega (arith, h.0), h.1 ∙ sym (label-inner js ls i h.0))
 Scoped-more ks js ls (LFree l k) h = h
 Scoped-more ks js ls (LCon i) h = tt

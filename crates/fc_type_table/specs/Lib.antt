@@ -6,5 +6,6 @@ pub mod Instances
 pub mod Facts
 pub mod Told
 pub mod Scopes
+pub mod Binders
 pub mod TypeTables
 pub mod Walks

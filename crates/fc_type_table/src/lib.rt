@@ -11,6 +11,7 @@ mod kinds;
 mod naming;
 mod node;
 mod opening;
+mod over;
 mod parts;
 mod reading;
 mod spot;

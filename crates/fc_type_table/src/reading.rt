@@ -84,7 +84,7 @@ impl<'a> TypeTable<'a> {
     /// The number of a part of a type, under so many binders of the type, so deep in it. The kinds are those of the type's own
     /// variables and of the so many of the context.
     #[tactic(auto, using(fc_syntax::proofs::View::view_rules), unfolding(crate::specs::Scopes::leveled))]
-    fn read_part<'x>(
+    pub(crate) fn read_part<'x>(
         &mut self,
         t: &'a NTy,
         kinds: &'x Kinds<'x>,

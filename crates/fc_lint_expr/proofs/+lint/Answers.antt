@@ -33,11 +33,10 @@ use Rattle.fc_syntax.specs.View.{kind_of}
 use Rattle.fc_syntax.specs.declared.expr.Binder.{Binder}
 use Rattle.fc_syntax.specs.declared.fault.FaultKind.TheVariants.{ConArity, JumpArity, JumpNotTail, NotAType, Unbound}
 use Rattle.fc_syntax.specs.declared.ty.Ref.{Ref}
-use Rattle.fc_type_scope.proofs.BinderLists.{kinds_past-one}
+use Rattle.fc_type_table.proofs.BinderKinds.{kinds_past-one}
 use Rattle.fc_type_scope.proofs.Growing.{IsType-grows, shown-grows}
 use Rattle.fc_type_scope.proofs.Numbers.{AreTypesAt-grows, shown_all-grows}
 use Rattle.fc_type_scope.proofs.OneMore.{entered_grows}
-use Rattle.fc_type_scope.proofs.PastBinders.{IsType-behind}
 use Rattle.fc_type_scope.specs.Behind.{IsEntered, kinds_past}
 use Rattle.fc_type_scope.specs.EndViews.{shown_ends}
 use Rattle.fc_type_scope.specs.Scopes.{AreTypesAt, scope_in, shown_all_at}
@@ -454,22 +453,22 @@ cases::alternative_fits-returns-in_err-body-clause-says t c =
     subst (λ r. Says {Y = words.Before} before_of r (judged a.binders)) (sym given) (subst (λ xs. Refuses f (judged xs)) c.as_slice-binders.ensures refused)
 
 -- src/cases.rt:98:16
-pub cases::alternative_fits-function_over-requires-clause-answer_in :
-    goal.cases::alternative_fits-function_over-requires-clause-answer_in
-cases::alternative_fits-function_over-requires-clause-answer_in t c =
+pub cases::alternative_fits-function_to-requires-clause-answer_in :
+    goal.cases::alternative_fits-function_to-requires-clause-answer_in
+cases::alternative_fits-function_to-requires-clause-answer_in t c =
     let ks = scope_in c.args.context.now.scope in
     let s = c.args.wanted.scrutinee in
     let k0 = c.args.types.now in
     let k1 = c.enter.new.types in
     let k2 = c.type_behind.new.types in
     let g2 = Grows-further k0 k1 k2 c.in_ok-entered.ensures.grows c.in_ok-body.ensures.grows in
-    IsType-behind k2 (nbinders_of c.as_slice-binders.result.now) ks s (IsType-grows k0 k2 ks s g2 c.requires.scrutinee_in)
+    IsType-grows k0 k2 ks s g2 c.requires.scrutinee_in
 
 -- src/cases.rt:99:16
 pub cases::alternative_fits-head_goes-requires-clause-context :
     goal.cases::alternative_fits-head_goes-requires-clause-context
 cases::alternative_fits-head_goes-requires-clause-context t c =
-    IsContextAt-grows (nodes_of c.type_behind.new.types) (nodes_of c.function_over.new.types) c.args.context.now c.in_ok-over.ensures.grows.nodes c.in_ok-body.ensures.context
+    IsContextAt-grows (nodes_of c.type_behind.new.types) (nodes_of c.function_to.new.types) c.args.context.now c.in_ok-over.ensures.grows.nodes c.in_ok-body.ensures.context
 
 -- src/cases.rt:99:16
 pub cases::alternative_fits-head_goes-requires-clause-over_view :
@@ -479,7 +478,7 @@ cases::alternative_fits-head_goes-requires-clause-over_view t c =
     let k1 = c.enter.new.types in
     let k2 = c.type_behind.new.types in
     let g2 = Grows-further k0 k1 k2 c.in_ok-entered.ensures.grows c.in_ok-body.ensures.grows in
-    over_is k0 k2 c.function_over.new.types (nbinders_of c.as_slice-binders.result.now) (scope_in c.args.context.now.scope) c.in_ok-over.over c.args.wanted.scrutinee g2 c.in_ok-over.ensures.grows c.requires.scrutinee_in c.in_ok-over.ensures.view
+    over_is k0 k2 c.function_to.new.types (nbinders_of c.as_slice-binders.result.now) (scope_in c.args.context.now.scope) c.in_ok-over.over c.args.wanted.scrutinee g2 c.in_ok-over.ensures.grows c.requires.scrutinee_in c.in_ok-over.ensures.view
 
 -- src/cases.rt:99:16
 pub cases::alternative_fits-returns-in_err-next-clause-says :
@@ -498,7 +497,7 @@ cases::alternative_fits-returns-in_err-next-clause-says t c =
     let k1 = c.enter.new.types in
     let k2 = c.type_behind.new.types in
     let g2 = Grows-further k0 k1 k2 c.in_ok-entered.ensures.grows c.in_ok-body.ensures.grows in
-    let k3 = c.function_over.new.types in
+    let k3 = c.function_to.new.types in
     let g3 = Grows-further k0 k2 k3 g2 c.in_ok-over.ensures.grows in
     let f = c.in_err-next.field-0.0 in
     let refused : Refuses f (judged c.as_slice-binders.result.now) = alt_head_refused ms k0 ctx s rt b a.head bs (nexpr_of a.body) k1 c.in_ok-part.part c.in_ok-binders_owe.field-0 c.requires.context c.in_ok-entered.ensures.grows c.in_ok-binders_owe.ensures c.in_ok-part.ensures.part k3 (shown k2 (kinds_past bs ks) c.in_ok-body.body) g3 c.requires.scrutinee_in c.in_ok-body.ensures.says f c.in_err-next.ensures.says in
@@ -522,7 +521,7 @@ cases::alternative_fits-returns-in_err-leaves_as-clause-says t c =
     let k1 = c.enter.new.types in
     let k2 = c.type_behind.new.types in
     let g2 = Grows-further k0 k1 k2 c.in_ok-entered.ensures.grows c.in_ok-body.ensures.grows in
-    let k3 = c.function_over.new.types in
+    let k3 = c.function_to.new.types in
     let g3 = Grows-further k0 k2 k3 g2 c.in_ok-over.ensures.grows in
     let f = c.in_err-leaves_as.field-0.0 in
     let refused : Refuses f (judged c.as_slice-binders.result.now) = alt_says ms k0 ctx s rt b a.head bs (nexpr_of a.body) k1 c.in_ok-part.part c.in_ok-binders_owe.field-0 c.requires.context c.in_ok-entered.ensures.grows c.in_ok-binders_owe.ensures c.in_ok-part.ensures.part
@@ -547,7 +546,7 @@ cases::alternative_fits-returns-clause-says t c =
     let k1 = c.enter.new.types in
     let k2 = c.type_behind.new.types in
     let g2 = Grows-further k0 k1 k2 c.in_ok-entered.ensures.grows c.in_ok-body.ensures.grows in
-    let k3 = c.function_over.new.types in
+    let k3 = c.function_to.new.types in
     let g3 = Grows-further k0 k2 k3 g2 c.in_ok-over.ensures.grows in
     let said : judged c.as_slice-binders.result.now ≡ Ok (before_of c.in_ok-next.next) = alt_says ms k0 ctx s rt b a.head bs (nexpr_of a.body) k1 c.in_ok-part.part c.in_ok-binders_owe.field-0 c.requires.context c.in_ok-entered.ensures.grows c.in_ok-binders_owe.ensures c.in_ok-part.ensures.part
     k2 k3 c.head_goes.new.types c.in_ok-body.body g3 c.requires.scrutinee_in c.requires.answer_in c.in_ok-body.ensures.says c.in_ok-over.ensures.grows c.in_ok-next.ensures.grows c.in_ok-body.ensures.valid
@@ -561,7 +560,7 @@ cases::alternative_fits-leaves_as-requires-clause-outer_in t c =
     let k1 = c.enter.new.types in
     let k2 = c.type_behind.new.types in
     let g2 = Grows-further k0 k1 k2 c.in_ok-entered.ensures.grows c.in_ok-body.ensures.grows in
-    let k3 = c.function_over.new.types in
+    let k3 = c.function_to.new.types in
     let g3 = Grows-further k0 k2 k3 g2 c.in_ok-over.ensures.grows in
     let g4 = Grows-further k0 k3 c.head_goes.new.types g3 c.in_ok-next.ensures.grows in
     IsType-grows k0 c.head_goes.new.types (scope_in c.args.context.now.scope) c.args.wanted.answer g4 c.requires.answer_in
@@ -573,7 +572,7 @@ cases::alternative_fits-returns-clause-grows t c =
     let k1 = c.enter.new.types in
     let k2 = c.type_behind.new.types in
     let g2 = Grows-further k0 k1 k2 c.in_ok-entered.ensures.grows c.in_ok-body.ensures.grows in
-    let k3 = c.function_over.new.types in
+    let k3 = c.function_to.new.types in
     let g3 = Grows-further k0 k2 k3 g2 c.in_ok-over.ensures.grows in
     Grows-further k0 k3 c.head_goes.new.types g3 c.in_ok-next.ensures.grows
 

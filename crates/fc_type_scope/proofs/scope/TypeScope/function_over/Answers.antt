@@ -11,8 +11,9 @@ use Rattle.fc_type_table.specs.Scopes.{IsTypeAt}
 use Rattle.fc_type_table.specs.TypeTables.{nodes_of, shown}
 use Rattle.fc_type_scope.specs.Behind.{IsEntered, IsValueAt, binder_kinds, kinds_past, value_count}
 use Rattle.fc_type_scope.specs.Scopes.{scope_in}
-use Rattle.fc_type_scope.proofs.Backwards.{Reached, counted_values, entered_at, kinds_before, kinds_counted, kinds_there, kinds_upto, over_upto, reached, values_counted}
-use Rattle.fc_type_scope.proofs.BinderLists.{kinds_past-none, length-binder_kinds}
+use Rattle.fc_type_table.proofs.Reached.{Reached, kinds_before, kinds_counted, kinds_there, kinds_upto, reached}
+use Rattle.fc_type_scope.proofs.Backwards.{counted_values, entered_at, over_upto, values_counted}
+use Rattle.fc_type_table.proofs.BinderKinds.{kinds_past-none, length-binder_kinds}
 use Rattle.fc_type_table.proofs.Numbers.{Grows-refl, Grows-further}
 use Rattle.fc_type_scope.proofs.OneMore.{entered_grows}
 use Rattle.fc_type_scope.proofs.scope.TypeScope.function_over.Goals as goal

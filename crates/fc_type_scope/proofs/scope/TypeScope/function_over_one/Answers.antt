@@ -6,7 +6,7 @@ use Rattle.fc_type_table.specs.TypeTables.{nodes_of, shown}
 use Rattle.fc_type_scope.specs.Behind.{IsValueAt}
 use Rattle.fc_type_scope.specs.Scopes.{scope_in}
 use Rattle.fc_type_scope.proofs.Backwards.{entered_at}
-use Rattle.fc_type_scope.proofs.BinderLists.{kinds_past-none, kinds_past-one}
+use Rattle.fc_type_table.proofs.BinderKinds.{kinds_past-none, kinds_past-one}
 use Rattle.fc_type_scope.proofs.scope.TypeScope.function_over_one.Goals as goal
 
 pub over_binder-requires-clause-value_in : goal.over_binder-requires-clause-value_in
