@@ -1,7 +1,7 @@
 #!/usr/bin/env python3
 """Lints modules whose types are what takes time, with the program `coreopt`, and prints for each size the bytes, the processor seconds (the least of three runs), the peak memory, and
 the growth: the exponent of time in bytes since the size before, where that took a tenth of a second. There are six kinds: a join point with n types and n values of them (joins);
-the same binders in an alternative of a constructor that has none, which is refused by its number of binders (alternatives); a function of n types that is applied at n types of n
+the same binders in an alternative of a constructor that has none, which is refused (alternatives); a function of n types that is applied at n types of n
 parts each (arguments); eighty definitions of lambdas over n types and n values (foralls); a type variable of a kind of n parts that is an argument n/2 times (kinds); and n foralls around a
 coercion that is taken to instances n times and back (coercions). Run it from anywhere, on a machine where the program is built (`./coreopt build examples/Shapes.fc`), or with another
 program as its only word."""
