@@ -17,4 +17,5 @@ mod used;
 mod variables;
 
 pub use error::NotNamed;
+pub use expressions::named_expr;
 pub use module::name_back;

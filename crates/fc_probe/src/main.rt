@@ -9,6 +9,7 @@ mod answers;
 mod binders;
 mod changing;
 mod interfaces;
+mod named;
 mod names;
 mod occurring;
 mod pieces;
@@ -21,6 +22,7 @@ mod texts;
 
 use crate::answers::{NoAnswer, tell};
 use crate::changing::Change;
+use crate::named::By;
 use crate::reading::{File, number_in, read_all};
 use crate::texts::Form;
 use fc_files::{Files, HostFiles, HostSink};
@@ -37,7 +39,7 @@ fn words_before_files(call: &str) -> usize {
         "read_module_in_room" | "read_interface_in_room" | "interface" | "name_back" => 2,
         "recursive" | "piece" | "mentions" | "count" => 2,
         "written" | "exchange" | "substitute" | "leave_binders" | "occurs" => 2,
-        "reaches" => 3,
+        "reaches" | "subst_expr" | "subst_type" | "subst_co" | "freshen" => 3,
         _ => 1,
     }
 }
@@ -57,6 +59,21 @@ fn answer_on_form(alloc: Global, words: &[&str], files: &[File]) -> Result<Vec<u
         }
         (["occurs", place], [file]) => changing::occurring(alloc, place, file),
         _ => Err(NoAnswer::Usage),
+    }
+}
+
+/// What a call with these words answers on the named tree, where words are in scope.
+fn answer_in_scope(alloc: Global, words: &[&str], files: &[File]) -> Result<Vec<u8>, NoAnswer> {
+    match (words, files) {
+        (["subst_expr", word, scope], [file]) => {
+            named::put_in(alloc, By::Expression, word, scope, file)
+        }
+        (["subst_type", word, scope], [file]) => named::put_in(alloc, By::Type, word, scope, file),
+        (["subst_co", word, scope], [file]) => {
+            named::put_in(alloc, By::Coercion, word, scope, file)
+        }
+        (["freshen", word, scope], []) => named::fresh(alloc, word, scope),
+        _ => answer_on_form(alloc, words, files),
     }
 }
 
@@ -88,7 +105,7 @@ fn answer_of(alloc: Global, words: &[&str], files: &[File]) -> Result<Vec<u8>, N
         (["free"], [file]) => occurring::free_names(alloc, file),
         (["mentions", name], [file]) => occurring::mentioned(alloc, name, file),
         (["count", word], [file]) => occurring::counted(alloc, word, file),
-        _ => answer_on_form(alloc, words, files),
+        _ => answer_in_scope(alloc, words, files),
     }
 }
 

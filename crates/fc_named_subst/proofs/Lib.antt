@@ -1,0 +1,5 @@
+pub mod Found
+pub mod Kept
+pub mod Meaning
+pub mod PutIn
+pub mod ScopeSteps

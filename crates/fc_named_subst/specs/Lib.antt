@@ -1,0 +1,3 @@
+pub mod Scopes
+pub mod Substituted
+pub mod Tasks

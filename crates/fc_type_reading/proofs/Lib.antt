@@ -1,0 +1,3 @@
+pub mod Constructed
+pub mod Readable
+pub mod Steps

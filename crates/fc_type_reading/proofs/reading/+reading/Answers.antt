@@ -1,0 +1,75 @@
+use Rattle.std.proofs.Common.{◌≡◌, [], ◌∷◌, Some, None, arith, rules, subst, sym}
+use Rattle.fc_lint_context.proofs.Contexts.{context_at-grows}
+use Rattle.fc_lint_context.specs.ContextViews.{context_at, modules_of_context}
+use Rattle.fc_lint_context.specs.LocalViews.{bind_types}
+use Rattle.fc_model.specs.NamelessView.{nbinder_of, nbinds_of, nexpr_of}
+use Rattle.fc_model.specs.Typing.{type_read_off, with_binder}
+use Rattle.fc_type_reading.proofs.Readable.{IsReadable-grows}
+use Rattle.fc_type_reading.proofs.Steps.{lambda-none, lambda-some, let-is, reads-as}
+use Rattle.fc_type_scope.proofs.Growing.{IsEntered-grows}
+use Rattle.fc_type_scope.specs.Behind.{kinds_past}
+use Rattle.fc_type_scope.specs.Scopes.{AreTypesAt, scope_in, shown_all_at}
+use Rattle.fc_type_table.specs.TypeTables.{Grows, nodes_of, shown}
+use Rattle.fc_type_table.specs.declared.node.TypeId.{TypeId}
+use Rattle.fc_type_reading.proofs.reading.+reading.Goals as goal
+
+pub lambda_type-type_below-requires : goal.lambda_type-type_below-requires
+lambda_type-type_below-requires t c =
+    (omega arith, (IsReadable-grows c.args.types.now c.enter_one.new.types c.args.context.now c.in_ok-entered.ensures.grows c.requires, c.in_ok-entered.ensures.entered))
+
+pub lambda_type-returns-in-None-clause-view : goal.lambda_type-returns-in-None-clause-view
+lambda_type-returns-in-None-clause-view t c =
+    let ctx = c.args.context.now in
+    let ms = modules_of_context ctx in
+    let old = nodes_of c.args.types.now in
+    let mid = nodes_of c.enter_one.new.types in
+    let b = nbinder_of c.args.binder.now in
+    let e = nexpr_of c.args.body.now in
+    let same : context_at mid ctx ≡ context_at old ctx = context_at-grows old mid ctx c.in_ok-entered.ensures.grows.nodes c.requires.context in
+    let none : None ≡ type_read_off ms (with_binder b (context_at mid ctx)) e = search rules in
+    lambda-none ms (context_at old ctx) (context_at mid ctx) same b e none
+
+pub lambda_type-function_over_one-requires-clause-entered_in : goal.lambda_type-function_over_one-requires-clause-entered_in
+lambda_type-function_over_one-requires-clause-entered_in t c =
+    let mid = c.enter_one.new.types in
+    let below = c.type_below.new.types in
+    let grows : Grows mid below = search rules in
+    IsEntered-grows mid below (scope_in c.args.context.now.scope) (nbinder_of c.args.binder.now ∷ []) c.in_ok-entered.entered grows c.in_ok-entered.ensures.entered
+
+pub lambda_type-returns-clause-view : goal.lambda_type-returns-clause-view
+lambda_type-returns-clause-view t c =
+    let ctx = c.args.context.now in
+    let ks = scope_in ctx.scope in
+    let ms = modules_of_context ctx in
+    let old = nodes_of c.args.types.now in
+    let mid = nodes_of c.enter_one.new.types in
+    let b = nbinder_of c.args.binder.now in
+    let e = nexpr_of c.args.body.now in
+    let u = shown c.type_below.new.types (kinds_past (b ∷ []) ks) c.in-Some.id in
+    let same : context_at mid ctx ≡ context_at old ctx = context_at-grows old mid ctx c.in_ok-entered.ensures.grows.nodes c.requires.context in
+    let found : Some u ≡ type_read_off ms (with_binder b (context_at mid ctx)) e = search rules in
+    lambda-some ms (context_at old ctx) (context_at mid ctx) same b e u (shown c.function_over_one.new.types ks c.in_ok-whole-in-Some.whole) found c.in_ok-whole-in-Some.ensures.view
+
+pub let_type-type_behind_binds-requires : goal.let_type-type_behind_binds-requires
+let_type-type_behind_binds-requires t c =
+    let ks = scope_in c.args.context.now.scope in
+    let mid = nodes_of c.types_of_binds.new.types in
+    let here = sym c.as_slice.ensures in (
+      omega arith,
+      (
+        IsReadable-grows c.args.types.now c.types_of_binds.new.types c.args.context.now c.in_ok-ids.ensures.grows c.requires,
+        (
+          subst (λ ids. AreTypesAt mid ks ids) here c.in_ok-ids.ensures.valid,
+          subst (λ ids. shown_all_at mid ks ids ≡ bind_types (nbinds_of c.args.binds.now)) here c.in_ok-ids.ensures.all,
+        ),
+      ),
+    )
+
+pub let_type-returns-clause-view : goal.let_type-returns-clause-view
+let_type-returns-clause-view t c =
+    let ctx = c.args.context.now in
+    let old = nodes_of c.args.types.now in
+    let mid = nodes_of c.types_of_binds.new.types in
+    let same : context_at mid ctx ≡ context_at old ctx = context_at-grows old mid ctx c.in_ok-ids.ensures.grows.nodes c.requires.context in
+    reads-as (λ (id : TypeId). shown c.type_behind_binds.new.types (scope_in ctx.scope) id) c.type_behind_binds.result _ _
+    (sym (let-is (modules_of_context ctx) (context_at old ctx) (context_at mid ctx) same (nbinds_of c.args.binds.now) (nexpr_of c.args.body.now))) c.type_behind_binds.ensures.view

@@ -1,0 +1,8 @@
+//! The type of an expression, read off without judging its premises. Types are numbers in a table, where type variables are in scope.
+#![tactic(auto)]
+
+mod constructors;
+mod pieces;
+mod reading;
+
+pub use reading::type_read_off;
