@@ -1,9 +1,9 @@
 #!/usr/bin/env python3
 """Lints modules whose types are what takes time, with the program `coreopt`, and prints for each size the bytes, the processor seconds (the least of three runs), the peak memory, and
-the growth: the exponent of time in bytes since the size before, where that took a tenth of a second. There are six kinds: a join point with n types and n values of them (joins);
+the growth: the exponent of time in bytes since the size before, where that took a tenth of a second. There are seven kinds: a join point with n types and n values of them (joins);
 the same binders in an alternative of a constructor that has none, which is refused (alternatives); a function of n types that is applied at n types of n
-parts each (arguments); eighty definitions of lambdas over n types and n values (foralls); a type variable of a kind of n parts that is an argument n/2 times (kinds); and n foralls around a
-coercion that is taken to instances n times and back (coercions). Run it from anywhere, on a machine where the program is built (`./coreopt build examples/Shapes.fc`), or with another
+parts each (arguments); eighty definitions of lambdas over n types and n values (foralls); a type variable of a kind of n parts that is an argument n/2 times (kinds); one that the type of a
+definition mentions n/2 times (declared); and n foralls around a coercion that is taken to instances n times and back (coercions). Run it from anywhere, on a machine where the program is built (`./coreopt build examples/Shapes.fc`), or with another
 program as its only word."""
 import math
 import tempfile
@@ -58,6 +58,17 @@ def kinds(count):
     yield f"(def g (forall (b {of}) T) (lam ((type b {of})) (letrec ({' '.join(f'(y{k} T (app f (type b)))' for k in range(count // 2))}) (con K))))"
 
 
+def pairs(count, leaf):
+    """Functions from and to so many of a type, as deep as they have to be."""
+    return leaf if count == 1 else f"(fun {pairs(count // 2, leaf)} {pairs(count - count // 2, leaf)})"
+
+
+def declared(count):
+    of = kind(count)
+    yield f"(family F ((a {of})) *)"
+    yield f"(def f (forall (a {of}) {pairs(count // 2, '(F a)')}) f)"
+
+
 def coercions(count):
     of = over(count, functions(count))
     around = "".join(f"(allco (a{k} *) " for k in range(count)) + "(inst " * count
@@ -72,6 +83,7 @@ KINDS = [
     ("arguments", arguments, (50, 100, 200), 0),
     ("foralls", foralls, (60, 120, 240), 0),
     ("kinds", kinds, (2_000, 4_000, 8_000), 0),
+    ("declared", declared, (1_000, 2_000, 4_000), 0),
     ("coercions", coercions, (30, 60, 120), 0),
 ]
 

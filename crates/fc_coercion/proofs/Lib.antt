@@ -1,5 +1,6 @@
 pub mod Alone
 pub mod AxiomEnds
+pub mod AxiomFits
 pub mod AxiomSides
 pub mod Beside
 pub mod Growing

@@ -36,7 +36,7 @@ fn fit_declared<'a>(
     match decl {
         NDecl::DataType(_, _, _) => Err(flaw_here(alloc, FaultKind::Unbound)),
         NDecl::NewType(_, params, _, _) => {
-            let kinds = param_kinds(alloc, params.as_slice())?;
+            let kinds = param_kinds(alloc, params.as_slice(), types)?;
             let params = params.as_slice();
             fit(
                 alloc,
@@ -50,7 +50,7 @@ fn fit_declared<'a>(
         }
         NDecl::Family(_, _, _) => Err(flaw_here(alloc, FaultKind::Unbound)),
         NDecl::Axiom(_, params, _, _) => {
-            let kinds = plain_kinds(alloc, params.as_slice())?;
+            let kinds = plain_kinds(alloc, params.as_slice(), types)?;
             fit(alloc, Role::N, &[], kinds.as_slice(), group, types, scope)
         }
         NDecl::Def(_, _, _) => Err(flaw_here(alloc, FaultKind::Unbound)),

@@ -21,8 +21,7 @@ use fc_lint_context::Context;
 use fc_model::{Flawed, deeper, flaw_here, next_part};
 use fc_syntax::{FaultKind, Kind, NCo, NTy, Role, Seq};
 use fc_type_scope::Ends;
-use fc_type_table::TypeTable;
-use fc_types::{Kinds, kind_of_part, same_kind};
+use fc_type_table::{NumberedKind, NumberedKinds, TypeTable};
 use std::alloc::Global;
 
 /// A type is equal to itself: the faults of the type, which is the part 0.
@@ -41,12 +40,11 @@ fn reflexive<'x, 'd, 'a>(
     ensures grows { OnOk result (Grows types.old types.new) }
     ensures context { OnOk result (IsContext types.new context.now) }
 {
-    kind_of_part(alloc, t, context.declared.declared, context.scope.kinds, 0)?;
-    let id = context.scope.read(t, types)?;
+    let read = context.scope.kinded_part(alloc, t, types, 0)?;
     Ok(Ends {
         role,
-        left: id,
-        right: id,
+        left: read.ty,
+        right: read.ty,
     })
 }
 
@@ -66,14 +64,16 @@ fn universal<'x, 'd, 'a>(
     ensures grows { OnOk result (Grows types.old types.new) }
     ensures context { OnOk result (IsContext types.new context.now) }
 {
-    let declared = context.declared.declared;
-    let left = kind_of_part(alloc, t, declared, context.scope.kinds, 0)?;
-    let right = kind_of_part(alloc, u, declared, context.scope.kinds, 1)?;
-    if !same_kind(&left, &right) {
+    let left = context.scope.kinded_part(alloc, t, types, 0)?;
+    let right = context.scope.kinded_part(alloc, u, types, 1)?;
+    if !types.same_kind(left.kind, right.kind) {
         return Err(flaw_here(alloc, FaultKind::KindsDiffer));
     }
-    let ends = context.scope.read_ends(Role::P, t, u, types)?;
-    Ok(ends)
+    Ok(Ends {
+        role: Role::P,
+        left: left.ty,
+        right: right.ty,
+    })
 }
 
 /// What a coercion proves that is the part of this number.
@@ -114,7 +114,11 @@ fn ends_behind<'x, 'd, 'a>(
     ensures grows { OnOk result (Grows types.old types.new) }
     ensures context { OnOk result (IsContext types.new context.now) }
 {
-    let kinds = Kinds::Kind(kind, context.scope.kinds);
+    let variable = NumberedKind {
+        kind,
+        id: types.read_kind(kind)?,
+    };
+    let kinds = NumberedKinds::Kind(variable, context.scope.kinds);
     let inner = (&*context).behind_type(&kinds);
     let body = ends_of_part(alloc, g, types, &inner, 0)?;
     quantified(alloc, kind, body, types, &inner.scope, &context.scope)

@@ -6,76 +6,66 @@ ghost use Rattle.fc_model.specs.Coercing as words;
 ghost use Rattle.fc_model.specs.NamelessView.{nparams_of};
 ghost use Rattle.fc_model.specs.Needs.{param_roles};
 ghost use Rattle.fc_model.specs.Says.{Says};
-ghost use Rattle.fc_syntax.specs.View.{kind_of};
-ghost use Rattle.fc_types.specs.KindViews.{own_kinds};
 ghost use Rattle.fc_coercion_forms.specs.Axioms as views;
 ghost use Rattle.fc_coercion_forms.specs.Axioms.{parameters_fit};
 ghost use Rattle.fc_type_scope.specs.EndViews.{AreEndsAt, IsEnds, shown_all_ends_at};
 ghost use Rattle.fc_type_scope.specs.Scopes.{scope_in};
-ghost use Rattle.fc_type_table.specs.TypeTables.{Grows, IsType, modules_in, nodes_of, shown};
+ghost use Rattle.fc_type_table.specs.InScope.{AreNumbered, own_kinds};
+ghost use Rattle.fc_type_table.specs.TypeTables.{Grows, IsKindId, IsType, kind_shown, modules_in, nodes_of, shown};
 
 use crate::kinds::is_of_kind;
 use crate::roles::are_at_roles;
 use fc_model::{Flawed, flaw_here};
-use fc_syntax::{FaultKind, Kind, Memory, Param, Role};
+use fc_syntax::{FaultKind, Memory, Param, Role};
 use fc_type_scope::{Ends, TypeScope};
-use fc_type_table::{TypeId, TypeTable};
-use fc_types::LocalKind;
+use fc_type_table::{NumberedKind, TypeId, TypeTable};
 use std::alloc::Global;
 
 /// Whether both ends of a coercion are of a kind.
-#[tactic(auto, using(fc_type_scope::proofs::Proven::table_rules))]
-fn is_between<'a>(
-    kind: &Kind,
-    ends: &Ends,
-    types: &mut TypeTable<'a>,
-    scope: &TypeScope<'_>,
-) -> Result<bool, Memory>
-    requires { IsEnds types.old (scope_in scope.now) ends.now }
-    ensures view { IfOk result (λ b. b ≡ (words.is_of_kind (modules_in types.old) (scope_in scope.now) (kind_of kind.now) (shown types.old (scope_in scope.now) ends.now.left) && words.is_of_kind (modules_in types.old) (scope_in scope.now) (kind_of kind.now) (shown types.old (scope_in scope.now) ends.now.right))) }
-    ensures grows { OnOk result (Grows types.old types.new) }
+fn is_between<'a>(kind: TypeId, ends: &Ends, types: &TypeTable<'a>, scope: &TypeScope<'_>) -> bool
+    requires kind_in { IsKindId types.now kind }
+    requires ends_in { IsEnds types.now (scope_in scope.now) ends.now }
+    ensures { result ≡ (words.is_of_kind (modules_in types.now) (scope_in scope.now) (kind_shown types.now kind) (shown types.now (scope_in scope.now) ends.now.left) && words.is_of_kind (modules_in types.now) (scope_in scope.now) (kind_shown types.now kind) (shown types.now (scope_in scope.now) ends.now.right)) }
 {
-    let kind = types.read_kind(kind)?;
     let left = is_of_kind(kind, ends.left, types, scope);
-    Ok(left && is_of_kind(kind, ends.right, types, scope))
+    left && is_of_kind(kind, ends.right, types, scope)
 }
 
 /// Whether both ends of each coercion are of the kind of its parameter.
 fn are_of_kinds<'a>(
-    kinds: &[LocalKind],
+    kinds: &[NumberedKind],
     group: &[Ends],
-    types: &mut TypeTable<'a>,
+    types: &TypeTable<'a>,
     scope: &TypeScope<'_>,
-) -> Result<bool, Memory>
-    requires { AreEndsAt (nodes_of types.old) (scope_in scope.now) group.now }
-    ensures view { IfOk result (λ b. b ≡ words.are_of_kinds (modules_in types.old) (scope_in scope.now) (own_kinds kinds.now) (shown_all_ends_at (nodes_of types.old) (scope_in scope.now) group.now)) }
-    ensures grows { OnOk result (Grows types.old types.new) }
+) -> bool
+    requires kinds_in { AreNumbered (nodes_of types.now) kinds.now }
+    requires group_in { AreEndsAt (nodes_of types.now) (scope_in scope.now) group.now }
+    ensures { result ≡ words.are_of_kinds (modules_in types.now) (scope_in scope.now) (own_kinds kinds.now) (shown_all_ends_at (nodes_of types.now) (scope_in scope.now) group.now) }
 {
     let mut at = 0;
     while at < kinds.len() && at < group.len() {
-        if !is_between(kinds[at].kind, &group[at], types, scope)? {
-            return Ok(false);
+        if !is_between(kinds[at].id, &group[at], types, scope) {
+            return false;
         }
         at += 1;
     }
-    Ok(true)
+    true
 }
 
 /// Whether coercions fit parameters of these kinds and roles, in what stands at a role: `AxiomArity`, `RoleWrong` and `KindsDiffer`, in this
 /// order. The answer is that role.
-#[tactic(auto, using(fc_type_scope::proofs::Proven::table_rules))]
 pub fn fit<'a>(
     alloc: Global,
     role: Role,
     params: &[Param],
-    kinds: &[LocalKind],
+    kinds: &[NumberedKind],
     group: &[Ends],
-    types: &mut TypeTable<'a>,
+    types: &TypeTable<'a>,
     scope: &TypeScope<'_>,
 ) -> Result<Role, Flawed>
-    requires { AreEndsAt (nodes_of types.old) (scope_in scope.now) group.now }
-    ensures says { Says (λ r. r) result (parameters_fit (modules_in types.old) (scope_in scope.now) (own_kinds kinds.now) role (param_roles (nparams_of params.now)) (shown_all_ends_at (nodes_of types.old) (scope_in scope.now) group.now)) }
-    ensures grows { OnOk result (Grows types.old types.new) }
+    requires kinds_in { AreNumbered (nodes_of types.now) kinds.now }
+    requires group_in { AreEndsAt (nodes_of types.now) (scope_in scope.now) group.now }
+    ensures { Says (λ r. r) result (parameters_fit (modules_in types.now) (scope_in scope.now) (own_kinds kinds.now) role (param_roles (nparams_of params.now)) (shown_all_ends_at (nodes_of types.now) (scope_in scope.now) group.now)) }
 {
     if group.len() != kinds.len() {
         return Err(flaw_here(alloc, FaultKind::AxiomArity));
@@ -83,7 +73,7 @@ pub fn fit<'a>(
     if !are_at_roles(role, params, group) {
         return Err(flaw_here(alloc, FaultKind::RoleWrong));
     }
-    if !are_of_kinds(kinds, group, types, scope)? {
+    if !are_of_kinds(kinds, group, types, scope) {
         return Err(flaw_here(alloc, FaultKind::KindsDiffer));
     }
     Ok(role)

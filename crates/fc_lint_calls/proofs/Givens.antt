@@ -1,15 +1,13 @@
 -- Arguments: one more, looked up, in a table that grows.
-use Rattle.std.proofs.Common.{◌≡◌, ℕ, ◌+◌, ◌<◌, ◌≤◌, List, [], ◌∷◌, ◌++◌, drop, get_or, length, refl, sym, ap, subst, ◌∙◌}
+use Rattle.std.proofs.Common.{◌≡◌, ℕ, ◌+◌, false, ◌<◌, ◌≤◌, List, [], ◌∷◌, ◌++◌, drop, get_or, length, refl, sym, ap, subst, ◌∙◌}
 use Rattle.std.proofs.Math.ListN.{drop_of_length-le}
-use Rattle.std.proofs.lemmas.List.{length-map, map-append}
+use Rattle.std.proofs.lemmas.List.{drop_more, length-map, map-append}
 use Rattle.std.proofs.lemmas.List.Elements.{All-append, All-cons, All-drop, All-get_or, All-head, All-nil, All-tail}
 use Rattle.fc_syntax.specs.Tree.{Kind}
-use Rattle.fc_syntax.specs.View.{kind_of}
 use Rattle.fc_model.specs.Calling as words
-use Rattle.fc_model.proofs.Lists.{drop_item}
 use Rattle.fc_type_scope.proofs.Proven.{IsEndsAt-grows, table_rules}
-use Rattle.fc_type_table.proofs.Numbers.{IsTypeAt-grows, shown_at-grows}
-use Rattle.fc_type_table.specs.Nodes.{Extends}
+use Rattle.fc_type_table.proofs.Numbers.{IsKindAt-grows, IsTypeAt-grows, kind_at-grows, shown_at-grows}
+use Rattle.fc_type_table.specs.Nodes.{Extends, kind_at}
 use Rattle.fc_type_table.specs.Scopes.{shown_at}
 use Rattle.fc_type_table.specs.declared.node.Node.{Node}
 use Rattle.fc_lint_calls.specs.GivenViews.{AreGivenAt, IsGivenAt, given_at, givens_at}
@@ -20,12 +18,13 @@ use Rattle.fc_lint_calls.specs.declared.arguments.Given.TheVariants.{Term, OfTyp
 
 pub IsGivenAt-grows : (old new : List Node) (ks : List Kind) (g : Given) → Extends old new → IsGivenAt old ks g → IsGivenAt new ks g
 IsGivenAt-grows old new ks (Term t atom) more h = IsTypeAt-grows old new ks t.0 more h
-IsGivenAt-grows old new ks (OfType t k) more h = IsTypeAt-grows old new ks t.0 more h
+IsGivenAt-grows old new ks (OfType t k) more h = (IsTypeAt-grows old new ks t.0 more h.0, IsKindAt-grows old new k.0 more h.1)
 IsGivenAt-grows old new ks (Coercion e) more h = IsEndsAt-grows old new ks e more h
 
 pub given_at-grows : (old new : List Node) (ks : List Kind) (g : Given) → Extends old new → IsGivenAt old ks g → given_at new ks g ≡ given_at old ks g
 given_at-grows old new ks (Term t atom) more h = ap (λ x. words.GivenTerm x atom) (shown_at-grows old new ks t.0 more h)
-given_at-grows old new ks (OfType t k) more h = ap (λ x. words.GivenType x (kind_of k)) (shown_at-grows old new ks t.0 more h)
+given_at-grows old new ks (OfType t k) more h =
+    ap (λ x. words.GivenType x (kind_at new k.0)) (shown_at-grows old new ks t.0 more h.0) ∙ ap (words.GivenType (shown_at old ks t.0)) (kind_at-grows old new k.0 more h.1)
 given_at-grows old new ks (Coercion e) more h =
     ap (λ x. words.GivenCoercion e.role x (shown_at new ks e.right.0)) (shown_at-grows old new ks e.left.0 more h.left)
     ∙ ap (λ x. words.GivenCoercion e.role (shown_at old ks e.left.0) x) (shown_at-grows old new ks e.right.0 more h.right)
@@ -79,9 +78,14 @@ pub length-givens : (ns : List Node) (ks : List Kind) (gs : List Given) → leng
 unfolding givens_at
 length-givens ns ks gs = length-map gs (given_at ns ks)
 
+-- the default of src
+abbrev pub no_given : Given
+no_given = Term (record { 0 = 0 }) false
+
 -- the one at an index, before the rest
-pub givens-step : (ns : List Node) (ks : List Kind) (gs : List Given) (i : ℕ) (g : Given) → i < length gs → g ≡ get_or gs i g → givens_at ns ks (drop i gs) ≡ given_at ns ks g ∷ givens_at ns ks (drop (i + 1) gs)
-givens-step ns ks gs i g low is = ap (givens_at ns ks) (drop_item gs i g low is) ∙ givens-cons ns ks g (drop (i + 1) gs)
+pub givens-step : (ns : List Node) (ks : List Kind) (gs : List Given) (i : ℕ) → i < length gs
+    → givens_at ns ks (drop i gs) ≡ given_at ns ks (get_or gs i no_given) ∷ givens_at ns ks (drop (i + 1) gs)
+givens-step ns ks gs i low = ap (givens_at ns ks) (drop_more gs i no_given low) ∙ givens-cons ns ks (get_or gs i no_given) (drop (i + 1) gs)
 
 pub givens-end : (ns : List Node) (ks : List Kind) (gs : List Given) (i : ℕ) → length gs ≤ i → givens_at ns ks (drop i gs) ≡ []
 givens-end ns ks gs i far = ap (givens_at ns ks) (drop_of_length-le gs far) ∙ givens-none ns ks

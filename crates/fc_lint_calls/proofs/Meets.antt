@@ -3,20 +3,17 @@ use Rattle.std.proofs.Common.{◌≡◌, ℕ, ◌+◌, ◌<◌, drop, get_or, le
 use Rattle.std.proofs.Math.Bool.{and-true, and_assoc}
 use Rattle.fc_syntax.specs.declared.ty.Role.{Role}
 use Rattle.fc_syntax.specs.Tree.{Kind}
-use Rattle.fc_syntax.specs.View.{kind_of}
-use Rattle.fc_syntax.specs.declared.ty.Kind as code
 use Rattle.fc_model.specs.Calling as words
 use Rattle.fc_model.specs.Calling.{Met, and_coercion, and_kind, and_term, at_type, atom_fits, coercion_asked, forall_kind, from_some, function_ends, has_kind, is_asked, met}
 use Rattle.fc_model.specs.Kinding.{same_role, same_type}
 use Rattle.fc_model.specs.Nameless.{NTy}
 use Rattle.fc_type_scope.specs.declared.ends.Ends as proven
-use Rattle.fc_type_table.proofs.Numbers.{shown_at-grows}
-use Rattle.fc_type_table.specs.Nodes.{Extends}
-use Rattle.fc_type_table.specs.Scopes.{IsTypeAt, shown_at}
+use Rattle.fc_type_table.specs.Nodes.{Extends, kind_at}
+use Rattle.fc_type_table.specs.Scopes.{shown_at}
 use Rattle.fc_type_table.specs.declared.node.Node.{Node}
 use Rattle.fc_type_table.specs.declared.node.TypeId.{TypeId}
 use Rattle.fc_lint_calls.specs.GivenViews.{AreGivenAt, givens_at}
-use Rattle.fc_lint_calls.proofs.Givens.{givens-grow-rest, givens-step}
+use Rattle.fc_lint_calls.proofs.Givens.{givens-grow-rest, givens-step, no_given}
 use Rattle.fc_lint_calls.specs.Meetings.{GoesOn, met_at, met_behind, met_from, met_on}
 use Rattle.fc_lint_calls.specs.declared.arguments.Given.{Given}
 use Rattle.fc_lint_calls.specs.declared.arguments.Given.TheVariants.{Term, OfType, Coercion}
@@ -113,33 +110,31 @@ kind_behind m o k b to (Some n) p =
     rw kinds refl
 kind_behind m o k b to None p = refl
 
--- while the table grew from old to mid, and then to new
-module _ (old mid new : List Node) (ks : List Kind) (m : Meeting) (t : TypeId) (k : code.Kind) (first : Extends old mid) (head_in : IsTypeAt old ks m.whole.0) (type_in : IsTypeAt old ks t.0) where
-  at_same : at_type (shown_at mid ks m.whole.0) (shown_at mid ks t.0) ≡ at_type (shown_at old ks m.whole.0) (shown_at old ks t.0)
-  at_same = cc (shown_at-grows old mid ks m.whole.0 first head_in, shown_at-grows old mid ks t.0 first type_in)
-
+-- while the table grew from old to new
+module _ (old new : List Node) (ks : List Kind) (m : Meeting) (t k : TypeId) where
   abbrev rest_met : List words.Given → Option NTy → Option Met
-  rest_met gs o = met_behind m (from_some (λ (r : NTy). and_kind (forall_kind (shown_at old ks m.whole.0)) (kind_of k) (met r gs)) o)
+  rest_met gs o = met_behind m (from_some (λ (r : NTy). and_kind (forall_kind (shown_at old ks m.whole.0)) (kind_at old k.0) (met r gs)) o)
 
-  pub no_forall : None ≡ at_type (shown_at mid ks m.whole.0) (shown_at mid ks t.0) → GoesOn old new ks m (OfType t k) None
+  pub no_forall : None ≡ at_type (shown_at old ks m.whole.0) (shown_at old ks t.0) → GoesOn old new ks m (OfType t k) None
   unfolding met_from met_on
-  no_forall e = record { view = λ gs. ap (rest_met gs) (sym (e ∙ at_same)) }
+  no_forall e = record { view = λ gs. ap (rest_met gs) (sym e) }
 
-  pub is_forall : (b : Bool) (to : TypeId) → Some (shown_at new ks to.0) ≡ at_type (shown_at mid ks m.whole.0) (shown_at mid ks t.0)
-      → b ≡ (m.kinds && has_kind (forall_kind (shown_at old ks m.whole.0)) (kind_of k)) → GoesOn old new ks m (OfType t k) (Some (with_kind m b to))
+  pub is_forall : (b : Bool) (to : TypeId) → Some (shown_at new ks to.0) ≡ at_type (shown_at old ks m.whole.0) (shown_at old ks t.0)
+      → b ≡ (m.kinds && has_kind (forall_kind (shown_at old ks m.whole.0)) (kind_at old k.0)) → GoesOn old new ks m (OfType t k) (Some (with_kind m b to))
   unfolding met_from met_on
   is_forall b to e p = record {
-    view = λ gs. ap (rest_met gs) (sym (e ∙ at_same))
-        ∙ kind_behind m (forall_kind (shown_at old ks m.whole.0)) (kind_of k) b to (met (shown_at new ks to.0) gs) p;
+    view = λ gs. ap (rest_met gs) (sym e) ∙ kind_behind m (forall_kind (shown_at old ks m.whole.0)) (kind_at old k.0) b to (met (shown_at new ks to.0) gs) p;
   }
 
 pub ruleset term_rules = (no_function, is_function)
 
 pub ruleset coercion_rules = (no_coforall, is_coforall)
 
+pub ruleset type_rules = (no_forall, is_forall)
+
 -- ---- one turn of the loop over the arguments
 
-pub one_more : (old new : List Node) (ks : List Kind) (whole : Option Met) (m : Meeting) (g : Given) (next : Option Meeting) (gs : List Given) (i : ℕ) → Extends old new → AreGivenAt old ks gs
-    → whole ≡ met_from old ks m (givens_at old ks (drop i gs)) → i < length gs → g ≡ get_or gs i g → GoesOn old new ks m g next → whole ≡ met_on new ks next (givens_at new ks (drop (i + 1) gs))
-one_more old new ks whole m g next gs i more all so_far low is on =
-    so_far ∙ ap (met_from old ks m) (givens-step old ks gs i g low is) ∙ on.view (givens_at old ks (drop (i + 1) gs)) ∙ ap (met_on new ks next) (sym (givens-grow-rest old new ks gs (i + 1) more all))
+pub one_more : (old new : List Node) (ks : List Kind) (whole : Option Met) (m : Meeting) (next : Option Meeting) (gs : List Given) (i : ℕ) → Extends old new → AreGivenAt old ks gs
+    → whole ≡ met_from old ks m (givens_at old ks (drop i gs)) → i < length gs → GoesOn old new ks m (get_or gs i no_given) next → whole ≡ met_on new ks next (givens_at new ks (drop (i + 1) gs))
+one_more old new ks whole m next gs i more all so_far low on =
+    so_far ∙ ap (met_from old ks m) (givens-step old ks gs i low) ∙ on.view (givens_at old ks (drop (i + 1) gs)) ∙ ap (met_on new ks next) (sym (givens-grow-rest old new ks gs (i + 1) more all))

@@ -1,9 +1,9 @@
 -- What arguments mean, where type variables are in scope.
 use Rattle.std.specs.Prelude.{List, map, All}
 use Rattle.fc_syntax.specs.Tree.{Kind}
-use Rattle.fc_syntax.specs.View.{kind_of}
 use Rattle.fc_model.specs.Calling as words
 use Rattle.fc_type_scope.specs.EndViews.{IsEndsAt}
+use Rattle.fc_type_table.specs.Nodes.{IsKindAt, kind_at}
 use Rattle.fc_type_table.specs.Scopes.{IsTypeAt, shown_at}
 use Rattle.fc_type_table.specs.TypeTables.{nodes_of}
 use Rattle.fc_type_table.specs.declared.node.Node.{Node}
@@ -11,16 +11,16 @@ use Rattle.fc_type_table.specs.declared.table.TypeTable.{TypeTable}
 use Rattle.fc_lint_calls.specs.declared.arguments.Given.{Given}
 use Rattle.fc_lint_calls.specs.declared.arguments.Given.TheVariants.{Term, OfType, Coercion}
 
--- its numbers are those of types where type variables of these kinds are in scope
+-- its numbers are those of types where type variables of these kinds are in scope, and of a kind
 abbrev pub IsGivenAt : List Node → List Kind → Given → Type 0
 IsGivenAt ns ks (Term t atom) = IsTypeAt ns ks t.0
-IsGivenAt ns ks (OfType t k) = IsTypeAt ns ks t.0
+IsGivenAt ns ks (OfType t k) = IsTypeAt ns ks t.0 × IsKindAt ns k.0
 IsGivenAt ns ks (Coercion e) = IsEndsAt ns ks e
 
 -- the argument there
 abbrev pub given_at : List Node → List Kind → Given → words.Given
 given_at ns ks (Term t atom) = words.GivenTerm (shown_at ns ks t.0) atom
-given_at ns ks (OfType t k) = words.GivenType (shown_at ns ks t.0) (kind_of k)
+given_at ns ks (OfType t k) = words.GivenType (shown_at ns ks t.0) (kind_at ns k.0)
 given_at ns ks (Coercion e) = words.GivenCoercion e.role (shown_at ns ks e.left.0) (shown_at ns ks e.right.0)
 
 abbrev pub IsGiven : TypeTable → List Kind → Given → Type 0

@@ -5,26 +5,25 @@ ghost use Rattle.fc_model.specs.Calling as words;
 ghost use Rattle.fc_model.specs.NamelessView.{nexpr_of};
 ghost use Rattle.fc_model.specs.Says.{Says};
 ghost use Rattle.fc_model.specs.Typing as typing;
-ghost use Rattle.fc_syntax.specs.View.{kind_of};
 ghost use Rattle.fc_lint_calls.specs.GivenViews.{AreGiven, IsGiven, given_in, givens_in};
 ghost use Rattle.fc_lint_calls.specs.Meetings.{GoesOn, met_at};
 ghost use Rattle.fc_type_scope.specs.EndViews.{IsEnds};
 ghost use Rattle.fc_type_scope.specs.Scopes.{scope_in};
-ghost use Rattle.fc_type_table.specs.TypeTables.{Grows, IsType, nodes_of, shown};
+ghost use Rattle.fc_type_table.specs.TypeTables.{Grows, IsKindId, IsType, kind_shown, nodes_of, shown};
 
 use fc_model::{Flawed, flaw_here};
-use fc_syntax::{FaultKind, Kind, Memory, NExpr, Ref};
+use fc_syntax::{FaultKind, Memory, NExpr, Ref};
 use fc_type_scope::{Ends, TypeScope};
 use fc_type_table::{TypeId, TypeTable};
 use std::alloc::Global;
 
 /// An argument.
-#[derive(Drop)]
+#[derive(Clone, Copy)]
 pub enum Given {
     /// A term of the type, and whether it is a literal or a variable.
     Term(TypeId, bool),
     /// The type, which is of the kind.
-    OfType(TypeId, Kind),
+    OfType(TypeId, TypeId),
     /// A coercion, which proves this.
     Coercion(Ends),
 }
@@ -98,17 +97,18 @@ fn applied_to_type<'a>(
     alloc: Global,
     head: TypeId,
     by: TypeId,
-    kind: &Kind,
+    kind: TypeId,
     types: &mut TypeTable<'a>,
     scope: &TypeScope<'_>,
 ) -> Result<TypeId, Flawed>
     requires head_in { IsType types.old (scope_in scope.now) head }
     requires by_in { IsType types.old (scope_in scope.now) by }
+    requires kind_in { IsKindId types.old kind }
     ensures valid { IfOk result (λ id. IsType types.new (scope_in scope.now) id) }
-    ensures says { Says (λ id. shown types.new (scope_in scope.now) id) result (words.applied (shown types.old (scope_in scope.now) head) (words.GivenType (shown types.old (scope_in scope.now) by) (kind_of kind.now))) }
+    ensures says { Says (λ id. shown types.new (scope_in scope.now) id) result (words.applied (shown types.old (scope_in scope.now) head) (words.GivenType (shown types.old (scope_in scope.now) by) (kind_shown types.old kind))) }
     ensures grows { OnOk result (Grows types.old types.new) }
 {
-    let fits = scope.takes_kind(head, kind, types)?;
+    let fits = scope.takes_kind(head, kind, types);
     match scope.instantiate(alloc, head, by, types)? {
         None => Err(flaw_here(alloc, FaultKind::NotForall)),
         Some(whole) => {
@@ -162,7 +162,7 @@ pub fn applied<'a>(
 {
     match given {
         Given::Term(ty, atom) => applied_to_term(alloc, head, *ty, *atom, types, scope),
-        Given::OfType(by, kind) => applied_to_type(alloc, head, *by, kind, types, scope),
+        Given::OfType(by, kind) => applied_to_type(alloc, head, *by, *kind, types, scope),
         Given::Coercion(ends) => applied_to_coercion(alloc, head, ends, types, scope),
     }
 }
@@ -197,22 +197,23 @@ fn meets_term<'a>(
 }
 
 /// What is met with one more argument, a type of this kind; nothing where none is asked.
-#[tactic(auto, using(crate::proofs::Givens::given_rules))]
+#[tactic(auto, using(crate::proofs::Meets::type_rules))]
 fn meets_type<'a>(
     alloc: Global,
     so_far: Meeting,
     by: TypeId,
-    kind: &Kind,
+    kind: TypeId,
     types: &mut TypeTable<'a>,
     scope: &TypeScope<'_>,
 ) -> Result<Option<Meeting>, Memory>
     requires whole_in { IsType types.old (scope_in scope.now) so_far.whole }
     requires by_in { IsType types.old (scope_in scope.now) by }
+    requires kind_in { IsKindId types.old kind }
     ensures valid { IfOk result (λ r. IfSome r (λ m. IsType types.new (scope_in scope.now) m.whole)) }
-    ensures view { IfOk result (λ r. GoesOn (nodes_of types.old) (nodes_of types.new) (scope_in scope.now) so_far (Given.OfType by kind.now) r) }
+    ensures view { IfOk result (λ r. GoesOn (nodes_of types.old) (nodes_of types.new) (scope_in scope.now) so_far (Given.OfType by kind) r) }
     ensures grows { OnOk result (Grows types.old types.new) }
 {
-    let fits = scope.takes_kind(so_far.whole, kind, types)?;
+    let fits = scope.takes_kind(so_far.whole, kind, types);
     match scope.instantiate(alloc, so_far.whole, by, types)? {
         None => Ok(None),
         Some(whole) => Ok(Some(Meeting {
@@ -267,7 +268,7 @@ fn meets<'a>(
 {
     match given {
         Given::Term(ty, atom) => Ok(meets_term(so_far, *ty, *atom, types, scope)),
-        Given::OfType(by, kind) => meets_type(alloc, so_far, *by, kind, types, scope),
+        Given::OfType(by, kind) => meets_type(alloc, so_far, *by, *kind, types, scope),
         Given::Coercion(ends) => Ok(meets_coercion(so_far, ends, types, scope)),
     }
 }

@@ -1,25 +1,23 @@
 //! The premises of binds, cases, casts, errors, joins and binders, behind those of their parts.
-ghost use Rattle.std.specs.Prelude.{◌≡◌, ◌++◌, List, length, Ok, IfOk, OnOk};
+ghost use Rattle.std.specs.Prelude.{◌≡◌, ◌++◌, List, length, Ok, IfOk};
 ghost use Rattle.fc_model.specs.Calling.{atom_fits};
 ghost use Rattle.fc_model.specs.Faulting.{need};
-ghost use Rattle.fc_model.specs.Kinding as kinds;
 ghost use Rattle.fc_model.specs.Kinding.{same_type};
-ghost use Rattle.fc_model.specs.NamelessView.{nbinder_of, nty_of};
+ghost use Rattle.fc_model.specs.NamelessView.{nbinder_of};
 ghost use Rattle.fc_model.specs.Says.{Says};
 ghost use Rattle.fc_model.specs.Typing as words;
 ghost use Rattle.fc_model.specs.Typing.{kinds_behind, paid};
 ghost use Rattle.fc_syntax.specs.Tree as trees;
-ghost use Rattle.fc_syntax.specs.View.{kind_of};
 ghost use Rattle.fc_syntax.specs.declared.fault.FaultKind.TheVariants.{LetType, NotAType, ScrutineeType, UnliftedNotAtom};
 ghost use Rattle.fc_type_scope.specs.EndViews.{IsEnds, shown_ends};
 ghost use Rattle.fc_type_scope.specs.Scopes.{scope_in};
-ghost use Rattle.fc_type_table.specs.TypeTables.{Grows, IsNumber, IsType, modules_in, shown};
+ghost use Rattle.fc_type_table.specs.TypeTables.{IsNumber, IsType, modules_in, shown};
 
 use fc_model::{Flawed, flaw_here};
-use fc_syntax::{FaultKind, Kind, NBinder, NTy, Role};
+use fc_syntax::{FaultKind, NBinder, Role};
 use fc_type_scope::{Ends, TypeScope};
 use fc_type_table::{TypeId, TypeTable};
-use fc_types::{is_value_kind, same_role};
+use fc_types::same_role;
 use std::alloc::Global;
 
 /// What was asked of binders, behind what stands below them: the fault, if there is one.
@@ -55,11 +53,11 @@ pub fn leaves_as<'a>(
     Ok(())
 }
 
-/// Whether a bind of this type and kind takes a right side of the other type, an atom or not: `NotAType`, `LetType` and
+/// Whether a bind of this type, which is one of values or not, takes a right side of the other type, an atom or not: `NotAType`, `LetType` and
 /// `UnliftedNotAtom`, in this order.
 pub fn bind_takes<'a>(
     alloc: Global,
-    kind: &Kind,
+    is_value: bool,
     ty: TypeId,
     right: TypeId,
     atom: bool,
@@ -68,9 +66,9 @@ pub fn bind_takes<'a>(
 ) -> Result<(), Flawed>
     requires type_in { IsType types.now (scope_in scope.now) ty }
     requires right_in { IsType types.now (scope_in scope.now) right }
-    ensures { Says (λ _. shown types.now (scope_in scope.now) ty) result (need (kinds.is_value_kind (kind_of kind.now)) NotAType (need (same_type (shown types.now (scope_in scope.now) ty) (shown types.now (scope_in scope.now) right)) LetType (need (atom_fits (shown types.now (scope_in scope.now) ty) atom) UnliftedNotAtom (Ok (shown types.now (scope_in scope.now) ty))))) }
+    ensures { Says (λ _. shown types.now (scope_in scope.now) ty) result (need is_value NotAType (need (same_type (shown types.now (scope_in scope.now) ty) (shown types.now (scope_in scope.now) right)) LetType (need (atom_fits (shown types.now (scope_in scope.now) ty) atom) UnliftedNotAtom (Ok (shown types.now (scope_in scope.now) ty))))) }
 {
-    if !is_value_kind(kind) {
+    if !is_value {
         return Err(flaw_here(alloc, FaultKind::NotAType));
     }
     if !scope.same(ty, right, types) {
@@ -82,13 +80,13 @@ pub fn bind_takes<'a>(
     Ok(())
 }
 
-/// The type of a case whose binder is of the type `of` and whose result is of the type `answer`, which is of this kind: `ScrutineeType`
+/// The type of a case whose binder is of the type `of` and whose result is of the type `answer`, which is one of values or not: `ScrutineeType`
 /// where the binder is not of the type of the scrutinee, and then `NotAType`.
 pub fn case_type<'a>(
     alloc: Global,
     of: TypeId,
     scrutinee: TypeId,
-    kind: &Kind,
+    is_value: bool,
     answer: TypeId,
     types: &TypeTable<'a>,
     scope: &TypeScope<'_>,
@@ -97,12 +95,12 @@ pub fn case_type<'a>(
     requires scrutinee_in { IsType types.now (scope_in scope.now) scrutinee }
     requires answer_in { IsType types.now (scope_in scope.now) answer }
     ensures valid { IfOk result (λ id. IsType types.now (scope_in scope.now) id) }
-    ensures says { Says (λ id. shown types.now (scope_in scope.now) id) result (need (same_type (shown types.now (scope_in scope.now) of) (shown types.now (scope_in scope.now) scrutinee)) ScrutineeType (need (kinds.is_value_kind (kind_of kind.now)) NotAType (Ok (shown types.now (scope_in scope.now) answer)))) }
+    ensures says { Says (λ id. shown types.now (scope_in scope.now) id) result (need (same_type (shown types.now (scope_in scope.now) of) (shown types.now (scope_in scope.now) scrutinee)) ScrutineeType (need is_value NotAType (Ok (shown types.now (scope_in scope.now) answer)))) }
 {
     if !scope.same(of, scrutinee, types) {
         return Err(flaw_here(alloc, FaultKind::ScrutineeType));
     }
-    if !is_value_kind(kind) {
+    if !is_value {
         return Err(flaw_here(alloc, FaultKind::NotAType));
     }
     Ok(answer)
@@ -131,29 +129,29 @@ pub fn cast_type<'a>(
     Ok(ends.right)
 }
 
-/// The type of an error at this type, which is of this kind: `NotAType` where that is none of the types of values.
+/// The type of an error at this type: `NotAType` where it is none of values.
 pub fn fail_type<'a>(
     alloc: Global,
-    kind: &Kind,
-    t: &'a NTy,
-    types: &mut TypeTable<'a>,
+    is_value: bool,
+    ty: TypeId,
+    types: &TypeTable<'a>,
     scope: &TypeScope<'_>,
 ) -> Result<TypeId, Flawed>
-    ensures valid { IfOk result (λ id. IsType types.new (scope_in scope.now) id) }
-    ensures says { Says (λ id. shown types.new (scope_in scope.now) id) result (need (kinds.is_value_kind (kind_of kind.now)) NotAType (Ok (nty_of t.now))) }
-    ensures grows { OnOk result (Grows types.old types.new) }
+    requires { IsType types.now (scope_in scope.now) ty }
+    ensures valid { IfOk result (λ id. IsType types.now (scope_in scope.now) id) }
+    ensures says { Says (λ id. shown types.now (scope_in scope.now) id) result (need is_value NotAType (Ok (shown types.now (scope_in scope.now) ty))) }
 {
-    if !is_value_kind(kind) {
+    if !is_value {
         return Err(flaw_here(alloc, FaultKind::NotAType));
     }
-    Ok(scope.read(t, types)?)
+    Ok(ty)
 }
 
-/// The type of a join of this type and kind, whose body is of the other type: `LetType`, and then `NotAType`.
+/// The type of a join of this type, which is one of values or not, whose body is of the other type: `LetType`, and then `NotAType`.
 pub fn join_type<'a>(
     alloc: Global,
     body: TypeId,
-    kind: &Kind,
+    is_value: bool,
     ty: TypeId,
     types: &TypeTable<'a>,
     scope: &TypeScope<'_>,
@@ -161,12 +159,12 @@ pub fn join_type<'a>(
     requires body_in { IsType types.now (scope_in scope.now) body }
     requires type_in { IsType types.now (scope_in scope.now) ty }
     ensures valid { IfOk result (λ id. IsType types.now (scope_in scope.now) id) }
-    ensures says { Says (λ id. shown types.now (scope_in scope.now) id) result (need (same_type (shown types.now (scope_in scope.now) body) (shown types.now (scope_in scope.now) ty)) LetType (need (kinds.is_value_kind (kind_of kind.now)) NotAType (Ok (shown types.now (scope_in scope.now) ty)))) }
+    ensures says { Says (λ id. shown types.now (scope_in scope.now) id) result (need (same_type (shown types.now (scope_in scope.now) body) (shown types.now (scope_in scope.now) ty)) LetType (need is_value NotAType (Ok (shown types.now (scope_in scope.now) ty)))) }
 {
     if !scope.same(body, ty, types) {
         return Err(flaw_here(alloc, FaultKind::LetType));
     }
-    if !is_value_kind(kind) {
+    if !is_value {
         return Err(flaw_here(alloc, FaultKind::NotAType));
     }
     Ok(ty)

@@ -6,9 +6,11 @@ use Rattle.fc_model.specs.Calling.{type_count}
 use Rattle.fc_model.specs.Nameless.{NTy, NBinder, NBType, NBinds, NJoins}
 use Rattle.fc_model.specs.Substituting.{raised_type}
 use Rattle.fc_model.specs.Typing.{Context, JoinPoint, no_context, with_binders, with_binds, with_joins, with_type}
-use Rattle.fc_types.specs.KindViews.{kinds_of}
+use Rattle.fc_type_table.specs.InScope.{AreNumbered, IsScopeAt, kinds_of, numbered_of}
 use Rattle.fc_type_table.proofs.BinderKinds.{kinds_past-one, length-binder_kinds}
+use Rattle.fc_type_table.proofs.KindsInScope.{AreNumbered-behind}
 use Rattle.fc_type_scope.proofs.Numbers.{number_rules, AreTypesAt-behind, AreTypesAt-grows, AreTypesAt-past, shown_all-behind, shown_all-grows, shown_all-past}
+use Rattle.fc_type_scope.proofs.ScopeKinds.{scope_grows}
 use Rattle.fc_type_scope.specs.Behind.{IsEntered, binder_coercions, binder_kinds, binder_values, context_past, kinds_past, raised_ends, raised_join}
 use Rattle.fc_type_scope.specs.EndViews.{AreEndsAt, shown_all_ends_at}
 use Rattle.fc_type_scope.specs.Scopes.{AreTypesAt, scope_in, shown_all_at}
@@ -37,6 +39,7 @@ use Rattle.fc_lint_context.specs.declared.joins.JoinPoint as joined
 pub IsContextAt-grows : (old new : List Node) (c : code.Context) → Extends old new → IsContextAt old c → IsContextAt new c
 IsContextAt-grows old new c more h = record {
   declared = AreRead-grows old new c.declared.now more h.declared;
+  scope = scope_grows old new c.scope.kinds.now more h.scope;
   coercions = AreEndsAt-grows old new (scope_in c.scope) (proven_of c.coercions) more h.coercions;
   locals = AreTypesAt-grows old new (scope_in c.scope) (numbers_of c.locals) more h.locals;
   joins = AreJoinsAt-grows old new (scope_in c.scope) (points_of c.joins) more h.joins;
@@ -150,10 +153,11 @@ module _ (ns : List Node) (c d : code.Context) (bs : List NBinder) (e : Entered)
       same_parts ns d (kinds_past bs (scope_in c.scope)) (reverse e.coercions ++ proven_of c.coercions) (reverse e.values ++ numbers_of c.locals) (points_of c.joins) kinds coercions locals joins
       ∙ parts_behind_binders ns (scope_in c.scope) (proven_of c.coercions) (numbers_of c.locals) (points_of c.joins) e.coercions e.values bs g.coercions g.locals g.joins h.coercions_view h.view
 
-  pub valid_behind_binders : d.declared ≡ c.declared → proven_of d.coercions ≡ reverse e.coercions ++ proven_of c.coercions → numbers_of d.locals ≡ reverse e.values ++ numbers_of c.locals
-      → points_of d.joins ≡ points_of c.joins → IsContextAt ns d
-  valid_behind_binders same coercions locals joins = record {
+  pub valid_behind_binders : d.declared ≡ c.declared → numbered_of d.scope.kinds.now ≡ reverse e.kinds ++ numbered_of c.scope.kinds.now → proven_of d.coercions ≡ reverse e.coercions ++ proven_of c.coercions
+      → numbers_of d.locals ≡ reverse e.values ++ numbers_of c.locals → points_of d.joins ≡ points_of c.joins → IsContextAt ns d
+  valid_behind_binders same numbered coercions locals joins = record {
     declared = subst (λ x. AreRead ns x.now) (sym same) g.declared;
+    scope = subst (AreNumbered ns) (sym numbered) (AreNumbered-behind ns e.kinds (numbered_of c.scope.kinds.now) h.numbered g.scope);
     coercions =
         subst (λ es. AreEndsAt ns (scope_in d.scope) es) (sym coercions) (subst (λ ks. AreEndsAt ns ks (reverse e.coercions ++ proven_of c.coercions)) (sym kinds)
         (coercions_behind_binders ns (scope_in c.scope) (proven_of c.coercions) (numbers_of c.locals) (points_of c.joins) e.coercions bs g.coercions h.coercions_valid));
@@ -183,9 +187,10 @@ module _ (ns : List Node) (c d : code.Context) (k : Kind) (g : IsContextAt ns c)
       same_parts ns d (kinds_past (NBType k ∷ []) (scope_in c.scope)) (proven_of c.coercions) (numbers_of c.locals) (points_of c.joins) (kinds ∙ sym one_past) coercions locals joins
       ∙ parts_behind_binders ns (scope_in c.scope) (proven_of c.coercions) (numbers_of c.locals) (points_of c.joins) [] [] (NBType k ∷ []) g.coercions g.locals g.joins none_coerced none_valued
 
-  pub valid_behind_type : d.declared ≡ c.declared → proven_of d.coercions ≡ proven_of c.coercions → numbers_of d.locals ≡ numbers_of c.locals → points_of d.joins ≡ points_of c.joins → IsContextAt ns d
-  valid_behind_type same coercions locals joins = record {
+  pub valid_behind_type : d.declared ≡ c.declared → IsScopeAt ns d.scope.kinds.now → proven_of d.coercions ≡ proven_of c.coercions → numbers_of d.locals ≡ numbers_of c.locals → points_of d.joins ≡ points_of c.joins → IsContextAt ns d
+  valid_behind_type same numbered coercions locals joins = record {
     declared = subst (λ x. AreRead ns x.now) (sym same) g.declared;
+    scope = numbered;
     coercions =
         subst (λ es. AreEndsAt ns (scope_in d.scope) es) (sym coercions) (subst (λ ks. AreEndsAt ns ks (proven_of c.coercions)) (sym kinds) (AreEndsAt-past ns (k ∷ []) (scope_in c.scope) (proven_of c.coercions) g.coercions));
     locals =

@@ -11,8 +11,9 @@ use Rattle.fc_model.specs.Calling.{applied_to_variables, over_binders, type_coun
 use Rattle.fc_model.specs.Kinding.{param_kinds}
 use Rattle.fc_model.specs.Nameless.{NTy, NTCon, NTForall, NParam, NParamOf, NBinder, NBType, NBValue}
 use Rattle.fc_model.specs.NamelessView.{nparams_of, nplains_of, ntys_of}
-use Rattle.fc_types.specs.KindViews.{behind_group, own_kinds}
-use Rattle.fc_types.specs.declared.kind_scope.LocalKind.{LocalKind}
+use Rattle.fc_type_table.specs.InScope.{own_kinds}
+use Rattle.fc_types.specs.KindViews.{behind_group}
+use Rattle.fc_type_table.specs.declared.numbered.NumberedKind.{NumberedKind}
 use Rattle.fc_type_table.proofs.BinderKinds.{length-binder_kinds}
 use Rattle.fc_type_scope.specs.Behind.{binder_kinds}
 use Rattle.fc_type_table.specs.Scopes.{shown_at}
@@ -22,10 +23,10 @@ use Rattle.fc_lint_context.specs.DeclaredViews.{name_in}
 
 -- ---- parameters
 
-own_kinds-push : (ks pushed : List LocalKind) (k : LocalKind) → pushed ≡ ks ++ k ∷ [] → own_kinds pushed ≡ own_kinds ks ++ kind_of k.kind.now ∷ []
-own_kinds-push ks pushed k e = ap own_kinds e ∙ map-append (λ (x : LocalKind). kind_of x.kind.now) ks (k ∷ [])
+own_kinds-push : (ks pushed : List NumberedKind) (k : NumberedKind) → pushed ≡ ks ++ k ∷ [] → own_kinds pushed ≡ own_kinds ks ++ kind_of k.kind.now ∷ []
+own_kinds-push ks pushed k e = ap own_kinds e ∙ map-append (λ (x : NumberedKind). kind_of x.kind.now) ks (k ∷ [])
 
-pub params_more : (ks pushed : List LocalKind) (k : LocalKind) (ps : List Param) (i : ℕ) (p : Param) (whole : List Kind) → whole ≡ own_kinds ks ++ param_kinds (nparams_of (drop i ps)) → i < length ps → p ≡ get_or ps i p
+pub params_more : (ks pushed : List NumberedKind) (k : NumberedKind) (ps : List Param) (i : ℕ) (p : Param) (whole : List Kind) → whole ≡ own_kinds ks ++ param_kinds (nparams_of (drop i ps)) → i < length ps → p ≡ get_or ps i p
     → pushed ≡ ks ++ k ∷ [] → kind_of k.kind.now ≡ kind_of p.kind → whole ≡ own_kinds pushed ++ param_kinds (nparams_of (drop (i + 1) ps))
 params_more ks pushed k ps i p whole so_far low is e same =
     let rest = param_kinds (nparams_of (drop (i + 1) ps)) in
@@ -37,12 +38,12 @@ kinds_length [] = refl
 kinds_length (NParamOf k r ∷ ps) = ap suc (kinds_length ps)
 
 -- as many kinds as parameters
-pub kinds_count : (ls : List LocalKind) (ps : List NParam) → own_kinds ls ≡ param_kinds ps → length ls ≡ length ps
-kinds_count ls ps e = sym (length-map ls (λ (x : LocalKind). kind_of x.kind.now)) ∙ ap length e ∙ kinds_length ps
+pub kinds_count : (ls : List NumberedKind) (ps : List NParam) → own_kinds ls ≡ param_kinds ps → length ls ≡ length ps
+kinds_count ls ps e = sym (length-map ls (λ (x : NumberedKind). kind_of x.kind.now)) ∙ ap length e ∙ kinds_length ps
 
 pub ruleset param_rules = (params_more)
 
-pub plains_more : (ks pushed : List LocalKind) (k : LocalKind) (ps : List Plain) (i : ℕ) (p : Plain) (whole : List Kind) → whole ≡ own_kinds ks ++ nplains_of (drop i ps) → i < length ps → p ≡ get_or ps i p
+pub plains_more : (ks pushed : List NumberedKind) (k : NumberedKind) (ps : List Plain) (i : ℕ) (p : Plain) (whole : List Kind) → whole ≡ own_kinds ks ++ nplains_of (drop i ps) → i < length ps → p ≡ get_or ps i p
     → pushed ≡ ks ++ k ∷ [] → kind_of k.kind.now ≡ kind_of p.kind → whole ≡ own_kinds pushed ++ nplains_of (drop (i + 1) ps)
 plains_more ks pushed k ps i p whole so_far low is e same =
     let rest = nplains_of (drop (i + 1) ps) in
@@ -61,13 +62,13 @@ group_more : (xs : List Kind) (k : Kind) → behind_group (xs ++ k ∷ []) [] �
 group_more xs k = ap (λ ys. ys ++ []) (reverse-append xs (k ∷ []))
 
 -- the `forall` over the last of some variables, below those over the others
-pub forall_more : (ls : List LocalKind) (i : ℕ) (d : LocalKind) (old new : List Node) (id made : ℕ) (whole : NTy) → 0 < i → i ≤ length ls
+pub forall_more : (ls : List NumberedKind) (i : ℕ) (d : NumberedKind) (old new : List Node) (id made : ℕ) (whole : NTy) → 0 < i → i ≤ length ls
     → over_binders (map NBType (own_kinds (take i ls))) (shown_at old (behind_group (own_kinds (take i ls)) []) id) ≡ whole
     → shown_at new (behind_group (own_kinds (take (i - 1) ls)) []) made ≡ NTForall (kind_of (get_or ls (i - 1) d).kind.now) (shown_at old (kind_of (get_or ls (i - 1) d).kind.now ∷ behind_group (own_kinds (take (i - 1) ls)) []) id)
     → over_binders (map NBType (own_kinds (take (i - 1) ls))) (shown_at new (behind_group (own_kinds (take (i - 1) ls)) []) made) ≡ whole
 forall_more ls i d old new id made whole low high so_far here =
     let n : ℕ = i - 1 in
-    let k : LocalKind = get_or ls n d in
+    let k : NumberedKind = get_or ls n d in
     let xs : List Kind = own_kinds (take n ls) in
     let kind : Kind = kind_of k.kind.now in
     let next : n + 1 ≡ i = omega arith in
@@ -87,11 +88,11 @@ params_length : (ps : List Param) → length (nparams_of ps) ≡ length ps
 params_length [] = refl
 params_length (p ∷ ps) = ap suc (params_length ps)
 
-types_length : (ls : List LocalKind) (bs : List NBinder) → own_kinds ls ≡ binder_kinds bs → length ls ≡ type_count bs
-types_length ls bs e = sym (length-map ls (λ (x : LocalKind). kind_of x.kind.now)) ∙ ap length e ∙ length-binder_kinds bs
+types_length : (ls : List NumberedKind) (bs : List NBinder) → own_kinds ls ≡ binder_kinds bs → length ls ≡ type_count bs
+types_length ls bs e = sym (length-map ls (λ (x : NumberedKind). kind_of x.kind.now)) ∙ ap length e ∙ length-binder_kinds bs
 
 -- the data type at the parameters, behind the constructor's own binders
-pub made_behind : (ls : List LocalKind) (bs : List NBinder) (ps : List Param) (m w : Word) (head answer : NTy) (count outer : ℕ) → own_kinds ls ≡ binder_kinds bs → count ≡ length ps → outer ≡ length ls
+pub made_behind : (ls : List NumberedKind) (bs : List NBinder) (ps : List Param) (m w : Word) (head answer : NTy) (count outer : ℕ) → own_kinds ls ≡ binder_kinds bs → count ≡ length ps → outer ≡ length ls
     → head ≡ NTCon (name_in m w) → answer ≡ applied_to_variables head count outer → answer ≡ applied_to_variables (NTCon (name_in m w)) (length (nparams_of ps)) (type_count bs)
 made_behind ls bs ps m w head answer count outer kinds n o h e =
     e ∙ ap (λ t. applied_to_variables t count outer) h ∙ ap (λ c. applied_to_variables (NTCon (name_in m w)) c outer) (n ∙ sym (params_length ps))
@@ -109,12 +110,12 @@ pub all_over : (params : List Kind) (own : List NBinder) (fields : List NTy) (t 
 all_over params own fields t =
     over_append (map NBType params) (own ++ map NBValue fields) t ∙ ap (over_binders (map NBType params)) (over_append own (map NBValue fields) t)
 
-pub whole_over : {E : Type 0} (r : Result TypeId E) (new old : List Node) (two three : List LocalKind) (params : List Kind) (body : TypeId) (own : List NBinder) (fields : List NTy) (t : NTy) → two ≡ three → own_kinds three ≡ params
+pub whole_over : {E : Type 0} (r : Result TypeId E) (new old : List Node) (two three : List NumberedKind) (params : List Kind) (body : TypeId) (own : List NBinder) (fields : List NTy) (t : NTy) → two ≡ three → own_kinds three ≡ params
     → shown_at old (behind_group (own_kinds two) []) body.0 ≡ over_binders own (over_binders (map NBValue fields) t)
     → IfOk r (λ id. shown_at new [] id.0 ≡ over_binders (map NBType (own_kinds three)) (shown_at old (behind_group (own_kinds three) []) body.0))
     → IfOk r (λ id. shown_at new [] id.0 ≡ over_binders (map NBType params ++ (own ++ map NBValue fields)) t)
 whole_over (Ok id) new old two three params body own fields t same kinds e h =
     let inner : NTy = over_binders own (over_binders (map NBValue fields) t) in
-    h ∙ ap (λ (ls : List LocalKind). over_binders (map NBType (own_kinds three)) (shown_at old (behind_group (own_kinds ls) []) body.0)) (sym same) ∙ ap (over_binders (map NBType (own_kinds three))) e
+    h ∙ ap (λ (ls : List NumberedKind). over_binders (map NBType (own_kinds three)) (shown_at old (behind_group (own_kinds ls) []) body.0)) (sym same) ∙ ap (over_binders (map NBType (own_kinds three))) e
     ∙ ap (λ ks. over_binders (map NBType ks) inner) kinds ∙ sym (all_over params own fields t)
 whole_over (Err x) new old two three params body own fields t same kinds e h = tt

@@ -4,6 +4,7 @@ use Rattle.fc_model.specs.Kinding.{Modules}
 use Rattle.fc_model.specs.Typing.{Context}
 use Rattle.fc_type_scope.specs.EndViews.{AreEndsAt, shown_all_ends_at}
 use Rattle.fc_type_scope.specs.Scopes.{AreTypesAt, scope_in, shown_all_at}
+use Rattle.fc_type_table.specs.InScope.{IsScopeAt}
 use Rattle.fc_type_table.specs.TypeTables.{nodes_of}
 use Rattle.fc_type_table.specs.declared.node.Node.{Node}
 use Rattle.fc_type_table.specs.declared.table.TypeTable.{TypeTable}
@@ -17,10 +18,11 @@ use Rattle.fc_lint_context.specs.declared.context.Context as code
 abbrev pub modules_of_context : code.Context → Modules
 modules_of_context c = modules_read c.declared.now
 
--- the numbers of the table show the types of what is declared, of what the coercion variables prove, of the local variables and of the
+-- the numbers of the table show the types of what is declared, the kinds of the type variables in scope, the types of what the coercion variables prove, of the local variables and of the
 -- join points
 pub record IsContextAt (ns : List Node) (c : code.Context) : Type 0 where
   pub declared : AreRead ns c.declared.now
+  pub scope : IsScopeAt ns c.scope.kinds.now
   pub coercions : AreEndsAt ns (scope_in c.scope) (proven_of c.coercions)
   pub locals : AreTypesAt ns (scope_in c.scope) (numbers_of c.locals)
   pub joins : AreJoinsAt ns (scope_in c.scope) (points_of c.joins)

@@ -4,16 +4,16 @@ ghost use Rattle.fc_model.specs.Calling.{applied_to_variables};
 ghost use Rattle.fc_model.specs.Kinding as words;
 ghost use Rattle.fc_model.specs.Nameless.{NTCon, NTInt};
 ghost use Rattle.fc_model.specs.NamelessView.{nparams_of, nplains_of, nty_of};
-ghost use Rattle.fc_type_table.specs.TypeTables.{Grows, IsType, shown};
-ghost use Rattle.fc_types.specs.KindViews.{own_kinds};
+ghost use Rattle.fc_type_table.specs.InScope.{AreNumbered, own_kinds};
+ghost use Rattle.fc_type_table.specs.TypeTables.{Grows, IsType, nodes_of, shown};
 ghost use Rattle.fc_types.specs.Listed.{own_axiom};
 ghost use Rattle.fc_lint_context.specs.DeclaredViews.{axiom_left, axiom_right, name_in, over_kinds};
 
 use crate::constructors::{applied_to_params, over_params, param_kinds};
 use fc_syntax::{Memory, NDecl, NTy, Param, Plain, Seq, Text};
 use fc_type_scope::TypeScope;
-use fc_type_table::{TypeId, TypeTable};
-use fc_types::{DeclaredAxiom, Kinds, LocalKind};
+use fc_type_table::{NumberedKind, NumberedKinds, TypeId, TypeTable};
+use fc_types::DeclaredAxiom;
 use std::alloc::Global;
 
 /// The sides of an axiom.
@@ -27,12 +27,20 @@ pub(crate) struct Sides {
 
 /// The kinds of the parameters of an equation, in their order. Fails only where memory runs out.
 #[tactic(auto, using(crate::proofs::Foralls::plain_rules))]
-pub fn plain_kinds<'a>(alloc: Global, params: &'a [Plain]) -> Result<Seq<LocalKind<'a>>, Memory>
-    ensures { IfOk result (λ kinds. own_kinds kinds ≡ nplains_of params.now) }
+pub fn plain_kinds<'p, 'a>(
+    alloc: Global,
+    params: &'p [Plain],
+    types: &mut TypeTable<'a>,
+) -> Result<Seq<NumberedKind<'p>>, Memory>
+    ensures kinds { IfOk result (λ kinds. own_kinds kinds ≡ nplains_of params.now) }
+    ensures numbered { IfOk result (λ kinds. AreNumbered (nodes_of types.new) kinds) }
+    ensures grows { OnOk result (Grows types.old types.new) }
 {
     let mut kinds = Seq::new(alloc);
     for param in params {
-        kinds.push(LocalKind { kind: &param.kind })?;
+        let kind = &param.kind;
+        let id = types.read_kind(kind)?;
+        kinds.push(NumberedKind { kind, id })?;
     }
     Ok(kinds)
 }
@@ -41,15 +49,16 @@ pub fn plain_kinds<'a>(alloc: Global, params: &'a [Plain]) -> Result<Seq<LocalKi
 #[tactic(auto, using(crate::proofs::Contexts::context_rules), unfolding(fc_type_scope::specs::Scopes::scope_in))]
 fn closed_over<'a>(
     alloc: Global,
-    kinds: &[LocalKind<'a>],
+    kinds: &[NumberedKind<'a>],
     t: &'a NTy,
     types: &mut TypeTable<'a>,
 ) -> Result<TypeId, Memory>
+    requires { AreNumbered (nodes_of types.old) kinds.now }
     ensures valid { IfOk result (λ id. IsType types.new [] id) }
     ensures view { IfOk result (λ id. shown types.new [] id ≡ over_kinds (own_kinds kinds.now) (nty_of t.now)) }
     ensures grows { OnOk result (Grows types.old types.new) }
 {
-    let group = Kinds::Group(&*kinds, &Kinds::End);
+    let group = NumberedKinds::Group(&*kinds, &NumberedKinds::End);
     let scope = TypeScope { kinds: &group };
     let body = scope.read(t, types)?;
     over_params(alloc, kinds, body, types)
@@ -59,16 +68,17 @@ fn closed_over<'a>(
 #[tactic(auto, using(crate::proofs::Contexts::context_rules), unfolding(fc_type_scope::specs::Scopes::scope_in))]
 fn closed_newtype<'a>(
     alloc: Global,
-    kinds: &[LocalKind<'a>],
+    kinds: &[NumberedKind<'a>],
     word: &'a Text,
     own_word: &'a Text,
     types: &mut TypeTable<'a>,
 ) -> Result<TypeId, Memory>
+    requires { AreNumbered (nodes_of types.old) kinds.now }
     ensures valid { IfOk result (λ id. IsType types.new [] id) }
     ensures view { IfOk result (λ id. shown types.new [] id ≡ over_kinds (own_kinds kinds.now) (applied_to_variables (NTCon (name_in word.now own_word.now)) (length kinds.now) 0)) }
     ensures grows { OnOk result (Grows types.old types.new) }
 {
-    let group = Kinds::Group(&*kinds, &Kinds::End);
+    let group = NumberedKinds::Group(&*kinds, &NumberedKinds::End);
     let scope = TypeScope { kinds: &group };
     let head = scope.constructor(Some(word), own_word, types)?;
     let body = applied_to_params(&scope, head, kinds.len(), 0, types)?;
@@ -91,7 +101,7 @@ fn newtype_sides<'a>(
     ensures right { IfOk result (λ s. shown types.new [] s.right ≡ over_kinds (words.param_kinds (nparams_of params.now)) (nty_of t.now)) }
     ensures grows { OnOk result (Grows types.old types.new) }
 {
-    let kinds = param_kinds(alloc, params)?;
+    let kinds = param_kinds(alloc, params, types)?;
     let left = closed_newtype(alloc, kinds.as_slice(), word, own_word, types)?;
     let right = closed_over(alloc, kinds.as_slice(), t, types)?;
     Ok(Sides { left, right })
@@ -112,7 +122,7 @@ fn equation_sides<'a>(
     ensures right { IfOk result (λ s. shown types.new [] s.right ≡ over_kinds (nplains_of params.now) (nty_of right.now)) }
     ensures grows { OnOk result (Grows types.old types.new) }
 {
-    let kinds = plain_kinds(alloc, params)?;
+    let kinds = plain_kinds(alloc, params, types)?;
     let left = closed_over(alloc, kinds.as_slice(), left, types)?;
     let right = closed_over(alloc, kinds.as_slice(), right, types)?;
     Ok(Sides { left, right })
@@ -127,7 +137,9 @@ fn no_sides<'a>(types: &mut TypeTable<'a>) -> Result<Sides, Memory>
     ensures right { IfOk result (λ s. shown types.new [] s.right ≡ NTInt) }
     ensures grows { OnOk result (Grows types.old types.new) }
 {
-    let scope = TypeScope { kinds: &Kinds::End };
+    let scope = TypeScope {
+        kinds: &NumberedKinds::End,
+    };
     let int = scope.int_hash(types)?;
     Ok(Sides {
         left: int,

@@ -6,26 +6,35 @@ ghost use Rattle.fc_model.specs.Kinding as words;
 ghost use Rattle.fc_model.specs.Nameless.{NBType, NBValue, NTApp, NTForall, NTFun, NTVar};
 ghost use Rattle.fc_model.specs.NamelessView.{nparams_of, nty_of, ntys_of};
 ghost use Rattle.fc_type_scope.specs.Behind.{binder_kinds, kinds_past};
-ghost use Rattle.fc_type_scope.specs.Scopes.{scope_in};
-ghost use Rattle.fc_type_table.specs.TypeTables.{Grows, IsType, shown};
-ghost use Rattle.fc_types.specs.KindViews.{behind_group, own_kinds};
+ghost use Rattle.fc_type_scope.specs.Scopes.{IsScope, scope_in};
+ghost use Rattle.fc_type_table.specs.InScope.{AreNumbered, own_kinds};
+ghost use Rattle.fc_type_table.specs.TypeTables.{Grows, IsType, nodes_of, shown};
+ghost use Rattle.fc_types.specs.KindViews.{behind_group};
 ghost use Rattle.fc_types.specs.TableViews.{constructor_of};
 ghost use Rattle.fc_lint_context.specs.DeclaredViews.{name_in, own_constructor_type};
 
 use fc_syntax::{Kind, Memory, NTy, Param, Seq};
 use fc_type_scope::{Entered, TypeScope};
-use fc_type_table::{TypeId, TypeTable};
-use fc_types::{DeclaredCon, Kinds, LocalKind};
+use fc_type_table::{NumberedKind, NumberedKinds, TypeId, TypeTable};
+use fc_types::DeclaredCon;
 use std::alloc::Global;
 
 /// The kinds of parameters, in their order. Fails only where memory runs out.
 #[tactic(auto, using(crate::proofs::Foralls::param_rules))]
-pub fn param_kinds<'a>(alloc: Global, params: &'a [Param]) -> Result<Seq<LocalKind<'a>>, Memory>
-    ensures { IfOk result (λ kinds. own_kinds kinds ≡ words.param_kinds (nparams_of params.now)) }
+pub fn param_kinds<'p, 'a>(
+    alloc: Global,
+    params: &'p [Param],
+    types: &mut TypeTable<'a>,
+) -> Result<Seq<NumberedKind<'p>>, Memory>
+    ensures kinds { IfOk result (λ kinds. own_kinds kinds ≡ words.param_kinds (nparams_of params.now)) }
+    ensures numbered { IfOk result (λ kinds. AreNumbered (nodes_of types.new) kinds) }
+    ensures grows { OnOk result (Grows types.old types.new) }
 {
     let mut kinds = Seq::new(alloc);
     for param in params {
-        kinds.push(LocalKind { kind: &param.kind })?;
+        let kind = &param.kind;
+        let id = types.read_kind(kind)?;
+        kinds.push(NumberedKind { kind, id })?;
     }
     Ok(kinds)
 }
@@ -39,7 +48,8 @@ fn applied_to_variable<'a>(
     outer: usize,
     types: &mut TypeTable<'a>,
 ) -> Result<TypeId, Memory>
-    requires { IsType types.old (scope_in scope.now) head }
+    requires scope { IsScope types.old scope.now }
+    requires head_in { IsType types.old (scope_in scope.now) head }
     ensures valid { IfOk result (λ id. IsType types.new (scope_in scope.now) id) }
     ensures view { IfOk result (λ id. shown types.new (scope_in scope.now) id ≡ NTApp (shown types.old (scope_in scope.now) head) (NTVar (place + outer))) }
     ensures grows { OnOk result (Grows types.old types.new) }
@@ -63,7 +73,8 @@ pub(crate) fn applied_to_params<'a>(
     outer: usize,
     types: &mut TypeTable<'a>,
 ) -> Result<TypeId, Memory>
-    requires { IsType types.old (scope_in scope.now) head }
+    requires scope { IsScope types.old scope.now }
+    requires head_in { IsType types.old (scope_in scope.now) head }
     ensures valid { IfOk result (λ id. IsType types.new (scope_in scope.now) id) }
     ensures view { IfOk result (λ id. shown types.new (scope_in scope.now) id ≡ applied_to_variables (shown types.old (scope_in scope.now) head) count outer) }
     ensures grows { OnOk result (Grows types.old types.new) }
@@ -85,7 +96,8 @@ fn over_field<'a>(
     answer: TypeId,
     types: &mut TypeTable<'a>,
 ) -> Result<TypeId, Memory>
-    requires { IsType types.old (scope_in scope.now) answer }
+    requires scope { IsScope types.old scope.now }
+    requires answer_in { IsType types.old (scope_in scope.now) answer }
     ensures valid { IfOk result (λ id. IsType types.new (scope_in scope.now) id) }
     ensures view { IfOk result (λ id. shown types.new (scope_in scope.now) id ≡ NTFun (nty_of field.now) (shown types.old (scope_in scope.now) answer)) }
     ensures grows { OnOk result (Grows types.old types.new) }
@@ -101,7 +113,8 @@ fn over_fields<'a>(
     answer: TypeId,
     types: &mut TypeTable<'a>,
 ) -> Result<TypeId, Memory>
-    requires { IsType types.old (scope_in scope.now) answer }
+    requires scope { IsScope types.old scope.now }
+    requires answer_in { IsType types.old (scope_in scope.now) answer }
     ensures valid { IfOk result (λ id. IsType types.new (scope_in scope.now) id) }
     ensures view { IfOk result (λ id. shown types.new (scope_in scope.now) id ≡ over_binders (map NBValue (ntys_of fields.now)) (shown types.old (scope_in scope.now) answer)) }
     ensures grows { OnOk result (Grows types.old types.new) }
@@ -122,7 +135,9 @@ fn over_own_fields<'x, 'a>(
     scope: &'x TypeScope<'x>,
     types: &mut TypeTable<'a>,
 ) -> Result<TypeId, Memory>
-    requires { own_kinds entered.now.kinds ≡ binder_kinds (constructor_of con.now).binders }
+    requires scope { IsScope types.old scope.now }
+    requires numbered { AreNumbered (nodes_of types.old) entered.now.kinds }
+    requires entered { own_kinds entered.now.kinds ≡ binder_kinds (constructor_of con.now).binders }
     ensures valid { IfOk result (λ id. IsType types.new (kinds_past (constructor_of con.now).binders (scope_in scope.now)) id) }
     ensures view { IfOk result (λ id. shown types.new (kinds_past (constructor_of con.now).binders (scope_in scope.now)) id ≡ over_binders (map NBValue (constructor_of con.now).fields) (constructed_type (name_in con.now.module.now con.now.data_word.now) (constructor_of con.now))) }
     ensures grows { OnOk result (Grows types.old types.new) }
@@ -142,6 +157,7 @@ fn over_own_binders<'x, 'a>(
     scope: &'x TypeScope<'x>,
     types: &mut TypeTable<'a>,
 ) -> Result<TypeId, Memory>
+    requires { IsScope types.old scope.now }
     ensures valid { IfOk result (λ id. IsType types.new (scope_in scope.now) id) }
     ensures view { IfOk result (λ id. shown types.new (scope_in scope.now) id ≡ over_binders (constructor_of con.now).binders (over_binders (map NBValue (constructor_of con.now).fields) (constructed_type (name_in con.now.module.now con.now.data_word.now) (constructor_of con.now)))) }
     ensures grows { OnOk result (Grows types.old types.new) }
@@ -157,7 +173,7 @@ fn over_own_binders<'x, 'a>(
 #[tactic(auto, unfolding(fc_type_scope::specs::Scopes::scope_in))]
 fn forall_behind<'a>(
     alloc: Global,
-    outer: &[LocalKind],
+    outer: &[NumberedKind],
     kind: &Kind,
     body: TypeId,
     types: &mut TypeTable<'a>,
@@ -167,7 +183,7 @@ fn forall_behind<'a>(
     ensures view { IfOk result (λ id. shown types.new (behind_group (own_kinds outer.now) []) id ≡ NTForall (kind_of kind.now) (shown types.old (kind_of kind.now ∷ behind_group (own_kinds outer.now) []) body)) }
     ensures grows { OnOk result (Grows types.old types.new) }
 {
-    let kinds = Kinds::Group(outer, &Kinds::End);
+    let kinds = NumberedKinds::Group(outer, &NumberedKinds::End);
     let scope = TypeScope { kinds: &kinds };
     scope.forall(alloc, kind, body, types)
 }
@@ -175,7 +191,7 @@ fn forall_behind<'a>(
 /// The `forall`s over variables of these kinds, the last one the innermost.
 pub(crate) fn over_params<'a>(
     alloc: Global,
-    kinds: &[LocalKind],
+    kinds: &[NumberedKind],
     body: TypeId,
     types: &mut TypeTable<'a>,
 ) -> Result<TypeId, Memory>
@@ -204,8 +220,8 @@ pub(crate) fn constructor_type<'a>(
     ensures view { IfOk result (λ id. shown types.new [] id ≡ own_constructor_type con.now.module.now (constructor_of con.now)) }
     ensures grows { OnOk result (Grows types.old types.new) }
 {
-    let kinds = param_kinds(alloc, con.params.as_slice())?;
-    let group = Kinds::Group(kinds.as_slice(), &Kinds::End);
+    let kinds = param_kinds(alloc, con.params.as_slice(), types)?;
+    let group = NumberedKinds::Group(kinds.as_slice(), &NumberedKinds::End);
     let scope = TypeScope { kinds: &group };
     let body = over_own_binders(alloc, con, &scope, types)?;
     over_params(alloc, kinds.as_slice(), body, types)

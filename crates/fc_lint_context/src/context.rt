@@ -14,9 +14,9 @@ ghost use Rattle.fc_model.specs.Typing.{answered, value_type};
 ghost use Rattle.fc_type_scope.specs.EndViews.{IsEndsAt, shown_ends_at};
 ghost use Rattle.fc_type_scope.specs.Behind.{IsEntered, kinds_past};
 ghost use Rattle.fc_type_scope.specs.Scopes.{AreTypesAt, scope_in, shown_all_at};
+ghost use Rattle.fc_type_table.specs.InScope.{IsScopeAt, kinds_of, numbered_of, own_kinds};
 ghost use Rattle.fc_type_table.specs.Scopes.{IsTypeAt, shown_at};
 ghost use Rattle.fc_type_table.specs.declared.node.Node as nodes;
-ghost use Rattle.fc_types.specs.KindViews.{kinds_of, own_kinds};
 ghost use Rattle.fc_types.specs.TableViews.{axiom_of, constructor_of};
 ghost use Rattle.fc_lint_context.specs.DeclaredViews.{AreRead, AreSidesAt, ShowSides, modules_read};
 ghost use Rattle.fc_lint_context.specs.ContextViews.{IsContextAt, context_at, modules_of_context};
@@ -30,8 +30,7 @@ use crate::locals::{Locals, local_type};
 use fc_model::{Flawed, flaw_here};
 use fc_syntax::{FaultKind, Name};
 use fc_type_scope::{Ends, Entered, TypeScope};
-use fc_type_table::TypeId;
-use fc_types::Kinds;
+use fc_type_table::{NumberedKinds, TypeId};
 use std::alloc::Global;
 
 /// What is in scope where an expression is judged.
@@ -51,8 +50,12 @@ pub struct Context<'x, 'd, 'a> {
 
 impl<'x, 'd, 'a> Context<'x, 'd, 'a> {
     /// Where nothing is in scope but what the modules declare; `kinds` has no type variable.
-    pub fn closed(declared: &'x DeclaredTypes<'d, 'a>, kinds: &'x Kinds<'x>) -> Context<'x, 'd, 'a>
-        requires { kinds_of kinds.now ≡ [] }
+    pub fn closed(
+        declared: &'x DeclaredTypes<'d, 'a>,
+        kinds: &'x NumberedKinds<'x>,
+    ) -> Context<'x, 'd, 'a>
+        requires kinds { kinds_of kinds.now ≡ [] }
+        requires numbered { numbered_of kinds.now ≡ [] }
         ensures declared { modules_of_context result ≡ modules_read declared.now }
         ensures scope { scope_in result.scope ≡ [] }
         ensures valid { (ns : List nodes.Node) → AreRead ns declared.now → IsContextAt ns result }
@@ -185,10 +188,10 @@ impl<'x, 'd, 'a> Context<'x, 'd, 'a> {
     }
 
     /// Behind a type variable, with the kinds of the type variables in scope there.
-    pub fn behind_type(&'x self, kinds: &'x Kinds<'x>) -> Context<'x, 'd, 'a>
+    pub fn behind_type(&'x self, kinds: &'x NumberedKinds<'x>) -> Context<'x, 'd, 'a>
         ensures declared { modules_of_context result ≡ modules_of_context self.now }
         ensures scope { scope_in result.scope ≡ kinds_of kinds.now }
-        ensures valid { (ns : List nodes.Node) (k : trees.Kind) → kinds_of kinds.now ≡ k ∷ scope_in self.now.scope → IsContextAt ns self.now → IsContextAt ns result }
+        ensures valid { (ns : List nodes.Node) (k : trees.Kind) → kinds_of kinds.now ≡ k ∷ scope_in self.now.scope → IsScopeAt ns kinds.now → IsContextAt ns self.now → IsContextAt ns result }
         ensures view { (ns : List nodes.Node) (k : trees.Kind) → kinds_of kinds.now ≡ k ∷ scope_in self.now.scope → IsContextAt ns self.now → context_at ns result ≡ words.with_type k (context_at ns self.now) }
     {
         Context {
@@ -204,9 +207,10 @@ impl<'x, 'd, 'a> Context<'x, 'd, 'a> {
     pub fn behind_binders(
         &'x self,
         entered: &'x Entered<'a>,
-        kinds: &'x Kinds<'x>,
+        kinds: &'x NumberedKinds<'x>,
     ) -> Context<'x, 'd, 'a>
-        requires { kinds_of kinds.now ≡ reverse (own_kinds entered.now.kinds) ++ kinds_of self.now.scope.kinds.now }
+        requires kinds { kinds_of kinds.now ≡ reverse (own_kinds entered.now.kinds) ++ kinds_of self.now.scope.kinds.now }
+        requires numbered { numbered_of kinds.now ≡ reverse entered.now.kinds ++ numbered_of self.now.scope.kinds.now }
         ensures declared { modules_of_context result ≡ modules_of_context self.now }
         ensures scope { (ns : List nodes.Node) (bs : List pure.NBinder) → IsEntered ns (scope_in self.now.scope) bs entered.now → scope_in result.scope ≡ kinds_past bs (scope_in self.now.scope) }
         ensures valid { (ns : List nodes.Node) (bs : List pure.NBinder) → IsEntered ns (scope_in self.now.scope) bs entered.now → IsContextAt ns self.now → IsContextAt ns result }

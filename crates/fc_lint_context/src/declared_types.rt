@@ -22,8 +22,8 @@ use crate::axioms::axiom_sides;
 use crate::constructors::constructor_type;
 use fc_syntax::{Memory, NDecl, NTy, Name, Seq};
 use fc_type_scope::TypeScope;
-use fc_type_table::{TypeId, TypeTable};
-use fc_types::{Declarations, DeclaredCon, Kinds};
+use fc_type_table::{NumberedKinds, TypeId, TypeTable};
+use fc_types::{Declarations, DeclaredCon};
 use std::alloc::Global;
 
 /// What modules declare, with the types of their definitions, of their constructors and of the sides of their axioms in a table. Each is put there once, however often
@@ -74,7 +74,9 @@ fn add_closed<'a>(
     ensures added { OnOk result (shown_all_at (nodes_of types.new) [] ids.new ≡ shown_all_at (nodes_of types.old) [] ids.old ++ nty_of t.now ∷ []) }
     ensures grows { OnOk result (Grows types.old types.new) }
 {
-    let scope = TypeScope { kinds: &Kinds::End };
+    let scope = TypeScope {
+        kinds: &NumberedKinds::End,
+    };
     scope.add(ids, t, types)
 }
 

@@ -2,7 +2,7 @@
 ghost use Rattle.std.specs.Prelude.{◌≡◌, IfOk, OnOk};
 ghost use Rattle.fc_model.specs.NamelessView.{nbinders_of, nbinds_of, njoins_of};
 ghost use Rattle.fc_model.specs.Typing as words;
-ghost use Rattle.fc_type_scope.specs.Scopes.{AreTypes, scope_in, shown_all};
+ghost use Rattle.fc_type_scope.specs.Scopes.{AreTypes, IsScope, scope_in, shown_all};
 ghost use Rattle.fc_type_table.specs.TypeTables.{Grows, IsType, nodes_of, shown};
 ghost use Rattle.fc_lint_context.specs.JoinViews as views;
 ghost use Rattle.fc_lint_context.specs.JoinViews.{AreJoinsAt, IsJoinAt, shown_join, shown_joins_at};
@@ -23,6 +23,7 @@ impl<'x, 'd, 'a> Context<'x, 'd, 'a> {
         binds: &'a [NBind],
         types: &mut TypeTable<'a>,
     ) -> Result<Seq<TypeId>, Memory>
+        requires { IsScope types.old self.now.scope }
         ensures valid { IfOk result (λ ids. AreTypes types.new (scope_in self.now.scope) ids) }
         ensures all { IfOk result (λ ids. shown_all types.new (scope_in self.now.scope) ids ≡ bind_types (nbinds_of binds.now)) }
         ensures grows { OnOk result (Grows types.old types.new) }
@@ -43,7 +44,8 @@ impl<'x, 'd, 'a> Context<'x, 'd, 'a> {
         answer: TypeId,
         types: &mut TypeTable<'a>,
     ) -> Result<JoinPoint, Memory>
-        requires { IsType types.old (scope_in self.now.scope) answer }
+        requires scope { IsScope types.old self.now.scope }
+        requires answer_in { IsType types.old (scope_in self.now.scope) answer }
         ensures valid { IfOk result (λ j. IsJoinAt (nodes_of types.new) (scope_in self.now.scope) j) }
         ensures view { IfOk result (λ j. shown_join (nodes_of types.new) (scope_in self.now.scope) j ≡ words.join_point (shown types.old (scope_in self.now.scope) answer) (nbinders_of params.now)) }
         ensures grows { OnOk result (Grows types.old types.new) }
@@ -63,7 +65,8 @@ impl<'x, 'd, 'a> Context<'x, 'd, 'a> {
         answer: TypeId,
         types: &mut TypeTable<'a>,
     ) -> Result<Seq<JoinPoint>, Memory>
-        requires { IsType types.old (scope_in self.now.scope) answer }
+        requires scope { IsScope types.old self.now.scope }
+        requires answer_in { IsType types.old (scope_in self.now.scope) answer }
         ensures valid { IfOk result (λ points. AreJoinsAt (nodes_of types.new) (scope_in self.now.scope) points) }
         ensures all { IfOk result (λ points. shown_joins_at (nodes_of types.new) (scope_in self.now.scope) points ≡ views.join_points (shown types.old (scope_in self.now.scope) answer) (njoins_of joins.now)) }
         ensures grows { OnOk result (Grows types.old types.new) }

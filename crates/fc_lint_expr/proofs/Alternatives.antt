@@ -13,7 +13,6 @@ use Rattle.fc_model.specs.Says.{Refuses, Says, fault_of}
 use Rattle.fc_model.specs.Typing.{Before, Context, Start, alt_judged, alts_judged, binders_judged, head_goes, join_judged, joins_judged, leaves_as, paid, type_or_fault, with_binders, with_joins, with_value}
 use Rattle.fc_model.specs.declared.flaw.Flawed.{Flawed}
 use Rattle.fc_model.specs.declared.flaw.Flawed.TheVariants.{Memory, Flaw as OfFlaw}
-use Rattle.fc_types.specs.KindViews.{kinds_of}
 use Rattle.fc_type_table.proofs.BinderKinds.{length-binder_kinds}
 use Rattle.fc_type_scope.proofs.Growing.{IsType-grows, shown-grows}
 use Rattle.fc_type_scope.specs.Behind.{binder_kinds, kinds_past}
@@ -23,7 +22,7 @@ use Rattle.fc_type_table.specs.TypeTables.{Grows, IsType, nodes_of, shown}
 use Rattle.fc_type_table.specs.declared.node.TypeId.{TypeId}
 use Rattle.fc_type_table.specs.declared.table.TypeTable.{TypeTable}
 use Rattle.fc_lint_calls.proofs.Asked.{leaves_as-fails, leaves_as-holds, paid-fails, paid-holds}
-use Rattle.fc_lint_context.proofs.Contexts.{IsContextAt-grows, context_at-grows, context_kinds, scope_is}
+use Rattle.fc_lint_context.proofs.Contexts.{IsContextAt-grows, context_at-grows, context_kinds}
 use Rattle.fc_lint_context.specs.ContextViews.{IsContext, context_in}
 use Rattle.fc_lint_context.specs.declared.context.Context as code
 use Rattle.fc_lint_expr.specs.Cases.{case_judged}
@@ -88,8 +87,8 @@ over_is k0 k2 k3 bs ks over s g2 g3 valid view = view ∙ ap (binders_to bs) (sy
 
 -- ---- the kinds of a context
 
-pub kinds_in_context : (table : TypeTable) (ctx : code.Context) → (context_in table ctx).kinds ≡ kinds_of ctx.scope.kinds.now
-kinds_in_context table ctx = context_kinds (nodes_of table) ctx ∙ scope_is ctx.scope
+pub kinds_in_context : (table : TypeTable) (ctx : code.Context) → (context_in table ctx).kinds ≡ scope_in ctx.scope
+kinds_in_context table ctx = context_kinds (nodes_of table) ctx
 
 -- ---- alternatives
 
@@ -227,17 +226,17 @@ module _ (ms : Modules) (k0 : TypeTable) (ctx : code.Context) (t : TypeId) where
 -- ---- cases
 
 module _ (ms : Modules) (k0 : TypeTable) (ctx : code.Context) (s : TypeId) (xt rt : NTy) (alts : NAlts) where
-  pub case_kind_refused : (f : Flawed) → Refuses f (under 1 (kind_or_fault ms (kinds_of ctx.scope.kinds.now) xt)) → Refuses f (case_judged ms (context_in k0 ctx) (shown k0 (scope_in ctx.scope) s) xt rt alts)
+  pub case_kind_refused : (f : Flawed) → Refuses f (under 1 (kind_or_fault ms (scope_in ctx.scope) xt)) → Refuses f (case_judged ms (context_in k0 ctx) (shown k0 (scope_in ctx.scope) s) xt rt alts)
   case_kind_refused f refused =
       let d = context_in k0 ctx in
       let t = shown k0 (scope_in ctx.scope) s in
       let go : Kind → Result NTy F = λ j. and_then (under 2 (kind_or_fault ms d.kinds rt)) (λ k. and_then (alts_judged ms (with_value xt d) t rt 3 Start alts) (λ b. need (same_type xt t) ScrutineeType (need (is_value_kind k) NotAType (Ok rt)))) in
       refuses_then f (under 1 (kind_or_fault ms d.kinds xt)) go
-      (refuses_is f (under 1 (kind_or_fault ms (kinds_of ctx.scope.kinds.now) xt)) (under 1 (kind_or_fault ms d.kinds xt)) (ap (λ ks. under 1 (kind_or_fault ms ks xt)) (kinds_in_context k0 ctx)) refused)
+      (refuses_is f (under 1 (kind_or_fault ms (scope_in ctx.scope) xt)) (under 1 (kind_or_fault ms d.kinds xt)) (ap (λ ks. under 1 (kind_or_fault ms ks xt)) (kinds_in_context k0 ctx)) refused)
 
-  module _ (j : Kind) (of_kind : under 1 (kind_or_fault ms (kinds_of ctx.scope.kinds.now) xt) ≡ Ok j) where
+  module _ (j : Kind) (of_kind : under 1 (kind_or_fault ms (scope_in ctx.scope) xt) ≡ Ok j) where
     case_behind : case_judged ms (context_in k0 ctx) (shown k0 (scope_in ctx.scope) s) xt rt alts
-        ≡ and_then (under 2 (kind_or_fault ms (kinds_of ctx.scope.kinds.now) rt)) (λ k. and_then (alts_judged ms (with_value xt (context_in k0 ctx)) (shown k0 (scope_in ctx.scope) s) rt 3 Start alts)
+        ≡ and_then (under 2 (kind_or_fault ms (scope_in ctx.scope) rt)) (λ k. and_then (alts_judged ms (with_value xt (context_in k0 ctx)) (shown k0 (scope_in ctx.scope) s) rt 3 Start alts)
         (λ b. need (same_type xt (shown k0 (scope_in ctx.scope) s)) ScrutineeType (need (is_value_kind k) NotAType (Ok rt))))
     case_behind =
         let d = context_in k0 ctx in
@@ -246,14 +245,14 @@ module _ (ms : Modules) (k0 : TypeTable) (ctx : code.Context) (s : TypeId) (xt r
         then_is (under 1 (kind_or_fault ms d.kinds xt)) j (λ i. and_then (under 2 (kind_or_fault ms d.kinds rt)) rest) (ap (λ ks. under 1 (kind_or_fault ms ks xt)) (kinds_in_context k0 ctx) ∙ of_kind)
         ∙ ap (λ ks. and_then (under 2 (kind_or_fault ms ks rt)) rest) (kinds_in_context k0 ctx)
 
-    pub case_answer_refused : (f : Flawed) → Refuses f (under 2 (kind_or_fault ms (kinds_of ctx.scope.kinds.now) rt)) → Refuses f (case_judged ms (context_in k0 ctx) (shown k0 (scope_in ctx.scope) s) xt rt alts)
+    pub case_answer_refused : (f : Flawed) → Refuses f (under 2 (kind_or_fault ms (scope_in ctx.scope) rt)) → Refuses f (case_judged ms (context_in k0 ctx) (shown k0 (scope_in ctx.scope) s) xt rt alts)
     case_answer_refused f refused =
         let d = context_in k0 ctx in
         let t = shown k0 (scope_in ctx.scope) s in
         let rest : Kind → Result NTy F = λ k. and_then (alts_judged ms (with_value xt d) t rt 3 Start alts) (λ b. need (same_type xt t) ScrutineeType (need (is_value_kind k) NotAType (Ok rt))) in
-        refuses_is f (and_then (under 2 (kind_or_fault ms (kinds_of ctx.scope.kinds.now) rt)) rest) _ case_behind (refuses_then f (under 2 (kind_or_fault ms (kinds_of ctx.scope.kinds.now) rt)) rest refused)
+        refuses_is f (and_then (under 2 (kind_or_fault ms (scope_in ctx.scope) rt)) rest) _ case_behind (refuses_then f (under 2 (kind_or_fault ms (scope_in ctx.scope) rt)) rest refused)
 
-    module _ (k : Kind) (answer_kind : under 2 (kind_or_fault ms (kinds_of ctx.scope.kinds.now) rt) ≡ Ok k) (context : IsContext k0 ctx) (scrutinee : IsType k0 (scope_in ctx.scope) s) (k1 k2 : TypeTable) (g1 : Grows k0 k1) (g2 : Grows k1 k2)
+    module _ (k : Kind) (answer_kind : under 2 (kind_or_fault ms (scope_in ctx.scope) rt) ≡ Ok k) (context : IsContext k0 ctx) (scrutinee : IsType k0 (scope_in ctx.scope) s) (k1 k2 : TypeTable) (g1 : Grows k0 k1) (g2 : Grows k1 k2)
         (x a : TypeId) (x_in : IsType k1 (scope_in ctx.scope) x) (x_is : shown k1 (scope_in ctx.scope) x ≡ xt) (a_is : shown k2 (scope_in ctx.scope) a ≡ rt) where
       case_alternatives : case_judged ms (context_in k0 ctx) (shown k0 (scope_in ctx.scope) s) xt rt alts
           ≡ and_then (alts_judged ms (with_value (shown k2 (scope_in ctx.scope) x) (context_in k2 ctx)) (shown k2 (scope_in ctx.scope) s) (shown k2 (scope_in ctx.scope) a) 3 Start alts)
@@ -265,7 +264,7 @@ module _ (ms : Modules) (k0 : TypeTable) (ctx : code.Context) (s : TypeId) (xt r
           let far = Grows-further k0 k1 k2 g1 g2 in
           let last : Before → Result NTy F = λ b. need (same_type xt t) ScrutineeType (need (is_value_kind k) NotAType (Ok rt)) in
           let rest : Kind → Result NTy F = λ l. and_then (alts_judged ms (with_value xt d) t rt 3 Start alts) (λ b. need (same_type xt t) ScrutineeType (need (is_value_kind l) NotAType (Ok rt))) in
-          case_behind ∙ then_is (under 2 (kind_or_fault ms (kinds_of ctx.scope.kinds.now) rt)) k rest answer_kind
+          case_behind ∙ then_is (under 2 (kind_or_fault ms (scope_in ctx.scope) rt)) k rest answer_kind
           ∙ ap (λ (y : Context). and_then (alts_judged ms (with_value xt y) t rt 3 Start alts) last) (sym (context_at-grows (nodes_of k0) (nodes_of k2) ctx far.nodes context))
           ∙ ap (λ (y : NTy). and_then (alts_judged ms (with_value y (context_in k2 ctx)) t rt 3 Start alts) last) (sym (shown-grows k1 k2 ks x g2 x_in ∙ x_is))
           ∙ ap (λ (y : NTy). and_then (alts_judged ms (with_value (shown k2 ks x) (context_in k2 ctx)) y rt 3 Start alts) last) (sym (shown-grows k0 k2 ks s far scrutinee))
@@ -279,33 +278,34 @@ module _ (ms : Modules) (k0 : TypeTable) (ctx : code.Context) (s : TypeId) (xt r
           let judged = alts_judged ms (with_value (shown k2 ks x) (context_in k2 ctx)) (shown k2 ks s) (shown k2 ks a) 3 Start alts in
           refuses_is f (and_then judged last) _ case_alternatives (refuses_then f judged last refused)
 
-      pub case_says : (k3 : TypeTable) (b : Before) → Grows k2 k3 → IsType k2 (scope_in ctx.scope) a
+      pub case_says : (v : Bool) → v ≡ is_value_kind k → (k3 : TypeTable) (b : Before) → Grows k2 k3 → IsType k2 (scope_in ctx.scope) a
           → alts_judged ms (with_value (shown k2 (scope_in ctx.scope) x) (context_in k2 ctx)) (shown k2 (scope_in ctx.scope) s) (shown k2 (scope_in ctx.scope) a) 3 Start alts ≡ Ok b
           → (r : Result TypeId Flawed) → Says {X = TypeId} {Y = NTy} (λ id. shown k3 (scope_in ctx.scope) id) r
-          (need (same_type (shown k3 (scope_in ctx.scope) x) (shown k3 (scope_in ctx.scope) s)) ScrutineeType (need (is_value_kind k) NotAType (Ok (shown k3 (scope_in ctx.scope) a))))
+          (need (same_type (shown k3 (scope_in ctx.scope) x) (shown k3 (scope_in ctx.scope) s)) ScrutineeType (need v NotAType (Ok (shown k3 (scope_in ctx.scope) a))))
           → Says {X = TypeId} {Y = NTy} (λ id. shown k3 (scope_in ctx.scope) id) r (case_judged ms (context_in k0 ctx) (shown k0 (scope_in ctx.scope) s) xt rt alts)
-      case_says k3 b g3 a_in judged r h =
+      case_says v valued k3 b g3 a_in judged r h =
           let ks = scope_in ctx.scope in
           let far = Grows-further k0 k2 k3 (Grows-further k0 k1 k2 g1 g2) g3 in
           let last : NTy → NTy → NTy → Result NTy F = λ y z v. need (same_type y z) ScrutineeType (need (is_value_kind k) NotAType (Ok v)) in
           let x_last : shown k3 ks x ≡ xt = shown-grows k1 k3 ks x (Grows-further k1 k2 k3 g2 g3) x_in ∙ x_is in
           let a_last : shown k3 ks a ≡ rt = shown-grows k2 k3 ks a g3 a_in ∙ a_is in
-          says_is (λ (id : TypeId). shown k3 ks id) r _ (last (shown k3 ks x) (shown k3 ks s) (shown k3 ks a))
+          says_is (λ (id : TypeId). shown k3 ks id) r _ (need (same_type (shown k3 ks x) (shown k3 ks s)) ScrutineeType (need v NotAType (Ok (shown k3 ks a))))
           (case_alternatives
           ∙ then_is (alts_judged ms (with_value (shown k2 ks x) (context_in k2 ctx)) (shown k2 ks s) (shown k2 ks a) 3 Start alts) b (λ n. last xt (shown k0 ks s) rt) judged
-          ∙ ap (λ (y : NTy). last y (shown k0 ks s) rt) (sym x_last) ∙ ap (λ (y : NTy). last (shown k3 ks x) y rt) (sym (shown-grows k0 k3 ks s far scrutinee)) ∙ ap (λ (y : NTy). last (shown k3 ks x) (shown k3 ks s) y) (sym a_last)) h
+          ∙ ap (λ (y : NTy). last y (shown k0 ks s) rt) (sym x_last) ∙ ap (λ (y : NTy). last (shown k3 ks x) y rt) (sym (shown-grows k0 k3 ks s far scrutinee)) ∙ ap (λ (y : NTy). last (shown k3 ks x) (shown k3 ks s) y) (sym a_last)
+          ∙ ap (λ w. need (same_type (shown k3 ks x) (shown k3 ks s)) ScrutineeType (need w NotAType (Ok (shown k3 ks a)))) (sym valued)) h
 
 -- ---- joins
 
 module _ (ms : Modules) (k0 : TypeTable) (ctx : code.Context) (recursive : Bool) (t : NTy) (js : NJoins) (e : NExpr) where
-  pub joined_kind_refused : (f : Flawed) → Refuses f (under 0 (kind_or_fault ms (kinds_of ctx.scope.kinds.now) t)) → Refuses f (type_or_fault ms (context_in k0 ctx) (NJoin recursive t js e))
+  pub joined_kind_refused : (f : Flawed) → Refuses f (under 0 (kind_or_fault ms (scope_in ctx.scope) t)) → Refuses f (type_or_fault ms (context_in k0 ctx) (NJoin recursive t js e))
   joined_kind_refused f refused =
       let d = context_in k0 ctx in
       let go : Kind → Result NTy F = λ k. and_then (joins_judged ms (if recursive then with_joins t js d else d) t 1 js) (λ i. and_then (under i (type_or_fault ms (with_joins t js d) e)) (λ u. need (same_type u t) LetType (need (is_value_kind k) NotAType (Ok t)))) in
       refuses_then f (under 0 (kind_or_fault ms d.kinds t)) go
-      (refuses_is f (under 0 (kind_or_fault ms (kinds_of ctx.scope.kinds.now) t)) (under 0 (kind_or_fault ms d.kinds t)) (ap (λ ks. under 0 (kind_or_fault ms ks t)) (kinds_in_context k0 ctx)) refused)
+      (refuses_is f (under 0 (kind_or_fault ms (scope_in ctx.scope) t)) (under 0 (kind_or_fault ms d.kinds t)) (ap (λ ks. under 0 (kind_or_fault ms ks t)) (kinds_in_context k0 ctx)) refused)
 
-  module _ (k : Kind) (t_kind : under 0 (kind_or_fault ms (kinds_of ctx.scope.kinds.now) t) ≡ Ok k) (context : IsContext k0 ctx) (k2 : TypeTable) (g2 : Grows k0 k2) (a : TypeId) (a_in : IsType k2 (scope_in ctx.scope) a) (a_is : shown k2 (scope_in ctx.scope) a ≡ t) where
+  module _ (k : Kind) (t_kind : under 0 (kind_or_fault ms (scope_in ctx.scope) t) ≡ Ok k) (context : IsContext k0 ctx) (k2 : TypeTable) (g2 : Grows k0 k2) (a : TypeId) (a_in : IsType k2 (scope_in ctx.scope) a) (a_is : shown k2 (scope_in ctx.scope) a ≡ t) where
     joined_points : type_or_fault ms (context_in k0 ctx) (NJoin recursive t js e)
         ≡ and_then (joins_judged ms (if recursive then with_joins (shown k2 (scope_in ctx.scope) a) js (context_in k2 ctx) else (context_in k2 ctx)) (shown k2 (scope_in ctx.scope) a) 1 js)
         (λ i. and_then (under i (type_or_fault ms (with_joins t js (context_in k0 ctx)) e)) (λ u. need (same_type u t) LetType (need (is_value_kind k) NotAType (Ok t))))
@@ -345,15 +345,15 @@ module _ (ms : Modules) (k0 : TypeTable) (ctx : code.Context) (recursive : Bool)
           let typed = under i (type_or_fault ms (with_joins (shown k3 (scope_in ctx.scope) a) js (context_in k3 ctx)) e) in
           refuses_is f (and_then typed last) _ joined_body (refuses_then f typed last refused)
 
-      pub joined_says : (k4 : TypeTable) (u : TypeId) → Grows k3 k4
+      pub joined_says : (w : Bool) → w ≡ is_value_kind k → (k4 : TypeTable) (u : TypeId) → Grows k3 k4
           → under i (type_or_fault ms (with_joins (shown k3 (scope_in ctx.scope) a) js (context_in k3 ctx)) e) ≡ Ok (shown k4 (scope_in ctx.scope) u)
           → (r : Result TypeId Flawed) → Says {X = TypeId} {Y = NTy} (λ id. shown k4 (scope_in ctx.scope) id) r
-          (need (same_type (shown k4 (scope_in ctx.scope) u) (shown k4 (scope_in ctx.scope) a)) LetType (need (is_value_kind k) NotAType (Ok (shown k4 (scope_in ctx.scope) a))))
+          (need (same_type (shown k4 (scope_in ctx.scope) u) (shown k4 (scope_in ctx.scope) a)) LetType (need w NotAType (Ok (shown k4 (scope_in ctx.scope) a))))
           → Says {X = TypeId} {Y = NTy} (λ id. shown k4 (scope_in ctx.scope) id) r (type_or_fault ms (context_in k0 ctx) (NJoin recursive t js e))
-      joined_says k4 u g4 typed r h =
+      joined_says w valued k4 u g4 typed r h =
           let ks = scope_in ctx.scope in
           let last : NTy → NTy → Result NTy F = λ v y. need (same_type v y) LetType (need (is_value_kind k) NotAType (Ok y)) in
           let a_last : shown k4 ks a ≡ t = shown-grows k2 k4 ks a (Grows-further k2 k3 k4 g3 g4) a_in ∙ a_is in
-          says_is (λ (id : TypeId). shown k4 ks id) r _ (last (shown k4 ks u) (shown k4 ks a))
+          says_is (λ (id : TypeId). shown k4 ks id) r _ (need (same_type (shown k4 ks u) (shown k4 ks a)) LetType (need w NotAType (Ok (shown k4 ks a))))
           (joined_body ∙ then_is (under i (type_or_fault ms (with_joins (shown k3 ks a) js (context_in k3 ctx)) e)) (shown k4 ks u) (λ v. last v t) typed
-          ∙ ap (λ (y : NTy). last (shown k4 ks u) y) (sym a_last)) h
+          ∙ ap (λ (y : NTy). last (shown k4 ks u) y) (sym a_last) ∙ ap (λ b. need (same_type (shown k4 ks u) (shown k4 ks a)) LetType (need b NotAType (Ok (shown k4 ks a)))) (sym valued)) h

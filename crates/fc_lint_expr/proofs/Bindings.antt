@@ -134,9 +134,10 @@ module _ (ms : Modules) (c : Context) (r : Bool) (ks : List Kind) (t : NTy) (e :
   bind_untyped f k d kinds kinded same h =
       refuses_of f _ _ (bind_is k kinds kinded) (refuses_then f (under 1 (type_or_fault ms c e)) (λ u. bind_asks (not r && is_atom e) k t u) (subst (λ x. Refuses f (under 1 (type_or_fault ms x e))) same h))
 
-  pub bind_takes_it : (a : Result (Unit {0}) Flawed) (k : Kind) (d : Context) (s u : NTy) (atom : Bool) → c.kinds ≡ ks → under 0 (kind_or_fault ms ks t) ≡ Ok k → d ≡ c → under 1 (type_or_fault ms d e) ≡ Ok u → s ≡ t
-      → atom ≡ (not r && is_atom e) → Says (λ _. s) a (bind_asks atom k s u) → Says (λ _. t) a (bind_judged ms c r (NBound t e))
-  bind_takes_it a k d s u atom kinds kinded same typed is atomic h =
+  pub bind_takes_it : (a : Result (Unit {0}) Flawed) (k : Kind) (d : Context) (s u : NTy) (atom v : Bool) → c.kinds ≡ ks → under 0 (kind_or_fault ms ks t) ≡ Ok k → d ≡ c → under 1 (type_or_fault ms d e) ≡ Ok u → s ≡ t
+      → atom ≡ (not r && is_atom e) → v ≡ is_value_kind k → Says (λ _. s) a (need v NotAType (need (same_type s u) LetType (need (atom_fits s atom) UnliftedNotAtom (Ok s)))) → Says (λ _. t) a (bind_judged ms c r (NBound t e))
+  bind_takes_it a k d s u atom v kinds kinded same typed is atomic valued said =
+      let h : Says (λ _. s) a (bind_asks atom k s u) = subst (λ w. Says (λ _. s) a (need w NotAType (need (same_type s u) LetType (need (atom_fits s atom) UnliftedNotAtom (Ok s))))) valued said in
       let judged : bind_judged ms c r (NBound t e) ≡ bind_asks (not r && is_atom e) k t u =
       bind_is k kinds kinded ∙ then_is (under 1 (type_or_fault ms c e)) u (λ v. bind_asks (not r && is_atom e) k t v) (ap (λ x. under 1 (type_or_fault ms x e)) (sym same) ∙ typed) in
       says_of (λ _. t) a _ _ judged (subst (λ x. Says (λ _. t) a (bind_asks x k t u)) atomic (subst (λ x. Says (λ _. x) a (bind_asks atom k x u)) is h))

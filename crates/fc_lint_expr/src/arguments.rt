@@ -10,14 +10,14 @@ ghost use Rattle.fc_lint_calls.specs.GivenViews.{AreGiven, IsGiven, given_in, gi
 ghost use Rattle.fc_lint_expr.specs.Lists.{args_from, operand_given, operands_from};
 ghost use Rattle.fc_type_table.specs.TypeTables.{Grows, modules_in};
 
-use crate::expressions::type_of;
+use crate::expressions::judge;
+use crate::written::kinded;
 use fc_coercion::ends_of;
 use fc_lint_calls::{Given, is_atom};
 use fc_lint_context::Context;
 use fc_model::{Flawed, deeper, next_part};
 use fc_syntax::{NArg, NExpr, Seq};
 use fc_type_table::TypeTable;
-use fc_types::kind;
 use std::alloc::Global;
 
 /// What is given as an argument.
@@ -37,13 +37,12 @@ pub(crate) fn argument<'x, 'd, 'a>(
 {
     match arg {
         NArg::Term(e) => {
-            let ty = type_of(alloc, e, types, &*context)?;
+            let ty = judge(alloc, e, types, &*context)?;
             Ok(Given::Term(ty, is_atom(e)))
         }
         NArg::OfType(t) => {
-            let of = kind(alloc, t, context.declared.declared, context.scope.kinds)?;
-            let ty = context.scope.read(t, types)?;
-            Ok(Given::OfType(ty, of))
+            let read = kinded(alloc, t, types, &*context)?;
+            Ok(Given::OfType(read.ty, read.kind))
         }
         NArg::OfCo(g) => {
             let ends = ends_of(alloc, g, types, &*context)?;
@@ -115,7 +114,7 @@ pub(crate) fn operand_of_part<'x, 'd, 'a>(
     ensures grows { OnOk result (Grows types.old types.new) }
     ensures context { OnOk result (IsContext types.new context.now) }
 {
-    match type_of(alloc, e, types, &*context) {
+    match judge(alloc, e, types, &*context) {
         Ok(ty) => Ok(Given::Term(ty, is_atom(e))),
         Err(flawed) => Err(deeper(flawed, part)),
     }

@@ -80,14 +80,16 @@ pub(crate) fn type_below<'x, 'd, 'a>(
 fn binder_of_lambda<'x, 'd, 'a>(
     alloc: Global,
     binder: &'a NBinder,
+    types: &mut TypeTable<'a>,
     context: &'x Context<'x, 'd, 'a>,
 ) -> Result<Option<FaultKind>, Flawed>
-    ensures { Says (λ o. o) result (under 0 (binder_judged (modules_of_context context.now) (scope_in context.now.scope) (nbinder_of binder.now))) }
+    requires context { IsContext types.old context.now }
+    requires modules { modules_in types.old ≡ modules_of_context context.now }
+    ensures says { Says (λ o. o) result (under 0 (binder_judged (modules_of_context context.now) (scope_in context.now.scope) (nbinder_of binder.now))) }
+    ensures grows { OnOk result (Grows types.old types.new) }
+    ensures context { OnOk result (IsContext types.new context.now) }
 {
-    match context
-        .scope
-        .binder_owes(alloc, binder, context.declared.declared)
-    {
+    match context.scope.binder_owes(alloc, binder, types) {
         Ok(owed) => Ok(owed),
         Err(flawed) => Err(deeper(flawed, 0)),
     }
@@ -109,7 +111,7 @@ pub(crate) fn type_of_lambda<'x, 'd, 'a>(
     ensures grows { OnOk result (Grows types.old types.new) }
     ensures context { OnOk result (IsContext types.new context.now) }
 {
-    let owed = binder_of_lambda(alloc, binder, context)?;
+    let owed = binder_of_lambda(alloc, binder, types, context)?;
     let inner = context.without_joins();
     let entered = context.scope.enter_one(alloc, binder, types)?;
     let ty = type_below(alloc, body, binder, &entered, owed, types, &inner)?;

@@ -13,12 +13,12 @@ ghost use Rattle.fc_lint_expr.specs.Cases.{case_judged};
 ghost use Rattle.fc_type_table.specs.TypeTables.{Grows, IsType, modules_in, shown};
 
 use crate::binding::{part_behind, type_behind};
+use crate::written::{judged_binders, kinded_part};
 use fc_lint_calls::{Before, case_type, constructor_goes, default_goes, leaves_as, literal_goes};
 use fc_lint_context::Context;
 use fc_model::{Flawed, deeper, flaw_here, next_part};
 use fc_syntax::{FaultKind, Head, NAlt, NBinder, NTy};
 use fc_type_table::{TypeId, TypeTable};
-use fc_types::kind_of_part;
 use std::alloc::Global;
 
 /// What a case asks of its alternatives.
@@ -92,23 +92,20 @@ pub(crate) fn alternative_fits<'x, 'd, 'a>(
     ensures context { OnOk result (IsContext types.new context.now) }
 {
     let binders = alternative.binders.as_slice();
-    context
-        .scope
-        .binders_owe(alloc, binders, context.declared.declared)?;
+    let behind = judged_binders(alloc, binders, types, &*context)?;
     let part = part_behind(binders)?;
-    let entered = context.scope.enter(alloc, binders, types)?;
     let body = type_behind(
         alloc,
         &alternative.body,
         binders,
-        &entered,
+        &behind.entered,
         types,
         &*context,
         part,
     )?;
     let over = context
         .scope
-        .function_to(binders, &entered, wanted.scrutinee, types)?;
+        .function_to(binders, &behind.entered, wanted.scrutinee, types)?;
     let next = head_goes(
         alloc,
         &alternative.head,
@@ -223,25 +220,19 @@ pub(crate) fn type_of_case<'x, 'd, 'a>(
     ensures grows { OnOk result (Grows types.old types.new) }
     ensures context { OnOk result (IsContext types.new context.now) }
 {
-    kind_of_part(alloc, of, context.declared.declared, context.scope.kinds, 1)?;
-    let kind = kind_of_part(
-        alloc,
-        answer,
-        context.declared.declared,
-        context.scope.kinds,
-        2,
-    )?;
-    let binder = context.scope.read(of, types)?;
+    let binder = kinded_part(alloc, of, types, &*context, 1)?;
+    let answer = kinded_part(alloc, answer, types, &*context, 2)?;
+    let is_value = types.is_value_kind(answer.kind);
     let wanted = Expected {
         scrutinee: found,
-        answer: context.scope.read(answer, types)?,
+        answer: answer.ty,
     };
-    alternatives_fit(alloc, alternatives, binder, wanted, types, &*context)?;
+    alternatives_fit(alloc, alternatives, binder.ty, wanted, types, &*context)?;
     case_type(
         alloc,
-        binder,
+        binder.ty,
         found,
-        &kind,
+        is_value,
         wanted.answer,
         types,
         &context.scope,

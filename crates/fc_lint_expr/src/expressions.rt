@@ -18,14 +18,14 @@ use crate::binding::type_of_lambda;
 use crate::cases::type_of_case;
 use crate::joins::type_of_join;
 use crate::lets::type_of_let;
+use crate::written::kinded_part;
 use fc_coercion::ends_of_part;
 use fc_lint_calls::{applied, called, cast_type, fail_type, operated};
 use fc_lint_context::{Context, DeclaredTypes};
 use fc_model::{Flawed, deeper, flaw_here};
 use fc_syntax::{FaultKind, NArg, NCo, NExpr, NTy, Name, PrimOp, Ref};
 use fc_type_scope::TypeScope;
-use fc_type_table::{TypeId, TypeTable};
-use fc_types::{Kinds, kind_of_part};
+use fc_type_table::{NumberedKinds, TypeId, TypeTable};
 use std::alloc::Global;
 
 /// The type of the part of this number.
@@ -44,7 +44,7 @@ pub(crate) fn type_of_part<'x, 'd, 'a>(
     ensures grows { OnOk result (Grows types.old types.new) }
     ensures context { OnOk result (IsContext types.new context.now) }
 {
-    match type_of(alloc, e, types, &*context) {
+    match judge(alloc, e, types, &*context) {
         Ok(t) => Ok(t),
         Err(flawed) => Err(deeper(flawed, part)),
     }
@@ -218,13 +218,14 @@ fn type_of_fail<'x, 'd, 'a>(
     ensures grows { OnOk result (Grows types.old types.new) }
     ensures context { OnOk result (IsContext types.new context.now) }
 {
-    let kind = kind_of_part(alloc, t, context.declared.declared, context.scope.kinds, 0)?;
-    fail_type(alloc, &kind, t, types, &context.scope)
+    let read = kinded_part(alloc, t, types, &*context, 0)?;
+    let is_value = types.is_value_kind(read.kind);
+    fail_type(alloc, is_value, read.ty, types, &context.scope)
 }
 
 /// The type of an expression in a context, or the first premise that fails, as `lint` tells it.
 #[cycle(lint)]
-pub fn type_of<'x, 'd, 'a>(
+pub fn judge<'x, 'd, 'a>(
     alloc: Global,
     e: &'a NExpr,
     types: &mut TypeTable<'a>,
@@ -306,9 +307,9 @@ pub fn lint<'x, 'd, 'a>(
     ensures grows { OnOk result (Grows types.old types.new) }
     ensures read { OnOk result (AreRead (nodes_of types.new) declared.now) }
 {
-    let kinds = Kinds::End;
+    let kinds = NumberedKinds::End;
     let context = Context::closed(declared, &kinds);
-    type_of(alloc, e, types, &context)
+    judge(alloc, e, types, &context)
 }
 
 /// Whether a closed expression is of a type, or the first premise that fails, as `lint` tells it.
@@ -326,7 +327,7 @@ pub fn has_type<'x, 'd, 'a>(
     ensures grows { OnOk result (Grows types.old types.new) }
     ensures read { OnOk result (AreRead (nodes_of types.new) declared.now) }
 {
-    let kinds = Kinds::End;
+    let kinds = NumberedKinds::End;
     let scope = TypeScope { kinds: &kinds };
     let found = lint(alloc, e, types, declared)?;
     let wanted = scope.read(t, types)?;

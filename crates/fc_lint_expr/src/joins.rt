@@ -14,12 +14,12 @@ ghost use Rattle.fc_type_table.specs.TypeTables.{Grows, IsType, modules_in, node
 
 use crate::binding::{part_behind, type_behind};
 use crate::expressions::type_of_part;
+use crate::written::{judged_binders, kinded_part};
 use fc_lint_calls::{join_type, leaves_as, pays};
 use fc_lint_context::{Context, JoinPoint};
 use fc_model::{Flawed, deeper, next_part};
 use fc_syntax::{FaultKind, NExpr, NJoinBind, NTy};
 use fc_type_table::{TypeId, TypeTable};
-use fc_types::kind_of_part;
 use std::alloc::Global;
 
 /// Whether the right side of a join point is of the type of its join.
@@ -39,13 +39,18 @@ pub(crate) fn join_fits<'x, 'd, 'a>(
     ensures context { OnOk result (IsContext types.new context.now) }
 {
     let params = bind.params.as_slice();
-    let owed = context
-        .scope
-        .binders_owe(alloc, params, context.declared.declared)?;
+    let behind = judged_binders(alloc, params, types, &*context)?;
     let part = part_behind(params)?;
-    let entered = context.scope.enter(alloc, params, types)?;
-    let ty = type_behind(alloc, &bind.rhs, params, &entered, types, &*context, part)?;
-    pays(alloc, owed)?;
+    let ty = type_behind(
+        alloc,
+        &bind.rhs,
+        params,
+        &behind.entered,
+        types,
+        &*context,
+        part,
+    )?;
+    pays(alloc, behind.owed)?;
     leaves_as(alloc, ty, answer, FaultKind::LetType, types, &context.scope)
 }
 
@@ -168,11 +173,12 @@ pub(crate) fn type_of_join<'x, 'd, 'a>(
     ensures grows { OnOk result (Grows types.old types.new) }
     ensures context { OnOk result (IsContext types.new context.now) }
 {
-    let kind = kind_of_part(alloc, t, context.declared.declared, context.scope.kinds, 0)?;
-    let answer = context.scope.read(t, types)?;
+    let read = kinded_part(alloc, t, types, &*context, 0)?;
+    let is_value = types.is_value_kind(read.kind);
+    let answer = read.ty;
     let points = context.join_points(alloc, binds, answer, types)?;
     let group = points.as_slice();
     let part = joins_fit(alloc, binds, group, answer, recursive, types, &*context)?;
     let found = type_behind_joins(alloc, body, binds, group, answer, types, &*context, part)?;
-    join_type(alloc, found, &kind, answer, types, &context.scope)
+    join_type(alloc, found, is_value, answer, types, &context.scope)
 }

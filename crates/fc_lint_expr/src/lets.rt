@@ -12,12 +12,12 @@ ghost use Rattle.fc_type_scope.specs.Scopes.{AreTypes, shown_all};
 ghost use Rattle.fc_type_table.specs.TypeTables.{Grows, IsType, modules_in, shown};
 
 use crate::expressions::type_of_part;
+use crate::written::kinded_part;
 use fc_lint_calls::{bind_takes, is_atom};
 use fc_lint_context::Context;
 use fc_model::{Flawed, deeper, next_part};
 use fc_syntax::{NBind, NExpr};
 use fc_type_table::{TypeId, TypeTable};
-use fc_types::kind_of_part;
 use std::alloc::Global;
 
 /// Whether a bind of a let, of a recursive one or not, has its type.
@@ -35,17 +35,11 @@ pub(crate) fn bind_fits<'x, 'd, 'a>(
     ensures grows { OnOk result (Grows types.old types.new) }
     ensures context { OnOk result (IsContext types.new context.now) }
 {
-    let k = kind_of_part(
-        alloc,
-        &bind.ty,
-        context.declared.declared,
-        context.scope.kinds,
-        0,
-    )?;
-    let t = context.scope.read(&bind.ty, types)?;
+    let read = kinded_part(alloc, &bind.ty, types, &*context, 0)?;
+    let is_value = types.is_value_kind(read.kind);
     let right = type_of_part(alloc, &bind.rhs, types, &*context, 1)?;
     let atom = !recursive && is_atom(&bind.rhs);
-    bind_takes(alloc, &k, t, right, atom, types, &context.scope)
+    bind_takes(alloc, is_value, read.ty, right, atom, types, &context.scope)
 }
 
 /// The same of the bind that is the part of this number of its let.

@@ -8,5 +8,6 @@ mod cases;
 mod expressions;
 mod joins;
 mod lets;
+mod written;
 
-pub use expressions::{has_type, lint, type_of};
+pub use expressions::{has_type, judge, lint};

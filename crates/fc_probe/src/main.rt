@@ -23,6 +23,7 @@ mod texts;
 use crate::answers::{NoAnswer, tell};
 use crate::changing::Change;
 use crate::named::By;
+use crate::pieces::Asked;
 use crate::reading::{File, number_in, read_all};
 use crate::texts::Form;
 use fc_files::{Files, HostFiles, HostSink};
@@ -37,7 +38,7 @@ use std::{env, io};
 fn words_before_files(call: &str) -> usize {
     match call {
         "read_module_in_room" | "read_interface_in_room" | "interface" | "name_back" => 2,
-        "recursive" | "piece" | "mentions" | "count" => 2,
+        "recursive" | "piece" | "read_off" | "mentions" | "count" => 2,
         "written" | "exchange" | "substitute" | "leave_binders" | "occurs" => 2,
         "reaches" | "subst_expr" | "subst_type" | "subst_co" | "freshen" => 3,
         _ => 1,
@@ -100,7 +101,12 @@ fn answer_of(alloc: Global, words: &[&str], files: &[File]) -> Result<Vec<u8>, N
         (["name_back_body"], [file]) => names::named_body(alloc, file),
         (["reaches", word, rename], [file]) => reaching::reached(alloc, word, rename, file),
         (["recursive", rename], [file]) => reaching::marked(alloc, rename, file),
-        (["piece", number], [files @ .., piece]) => pieces::told(alloc, number, files, piece),
+        (["piece", number], [files @ .., piece]) => {
+            pieces::told(alloc, Asked::Judged, number, files, piece)
+        }
+        (["read_off", number], [files @ .., piece]) => {
+            pieces::told(alloc, Asked::ReadOff, number, files, piece)
+        }
         (["same_types"], [file]) => pieces::compared(alloc, file),
         (["free"], [file]) => occurring::free_names(alloc, file),
         (["mentions", name], [file]) => occurring::mentioned(alloc, name, file),

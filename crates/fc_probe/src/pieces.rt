@@ -4,8 +4,17 @@ use crate::reading::{File, form_in, module_in, number_in};
 use fc_model::Flawed;
 use fc_printer::put_type;
 use fc_syntax::{Arg, Decl, Expr, Kind, Memory, Module, NModule, Role, Seq, Ty};
-use fc_typing::{Ends, TypeEnv, ends, equal, instantiate, kind_of, lint};
+use fc_typing::{Ends, TypeEnv, ends, equal, instantiate, kind_of, lint, type_of};
 use std::alloc::Global;
+
+/// What is asked of a piece.
+#[derive(Clone, Copy)]
+pub(crate) enum Asked {
+    /// What it is.
+    Judged,
+    /// The type that is read off of it.
+    ReadOff,
+}
 
 /// The right side of the first definition of a module, where there is one.
 pub(crate) fn piece_of(m: &Module) -> Option<&Expr> {
@@ -105,16 +114,25 @@ fn told_instance(alloc: Global, t: &Ty, by: &Ty, env: &TypeEnv) -> Result<Vec<u8
     }
 }
 
-/// What the piece below the binders of lambdas is.
-fn told_below(alloc: Global, e: &Expr, env: &mut TypeEnv) -> Result<Vec<u8>, Flawed> {
-    match e {
-        Expr::Lam(binder, body) => {
+/// The type that is read off of a piece.
+fn told_type(alloc: Global, e: &Expr, env: &TypeEnv) -> Result<Vec<u8>, Flawed> {
+    match type_of(alloc, e, env)? {
+        Some(t) => Ok(type_line(alloc, &t)?),
+        None => Ok(line(alloc, "none")?),
+    }
+}
+
+/// What is asked of the piece below the binders of lambdas.
+fn told_below(alloc: Global, e: &Expr, asked: Asked, env: &mut TypeEnv) -> Result<Vec<u8>, Flawed> {
+    match (e, asked) {
+        (Expr::Lam(binder, body), _) => {
             env.enter(alloc, binder)?;
-            let told = told_below(alloc, body, env)?;
+            let told = told_below(alloc, body, asked, env)?;
             env.leave();
             Ok(told)
         }
-        _ => told_piece(alloc, e, env),
+        (_, Asked::Judged) => told_piece(alloc, e, env),
+        (_, Asked::ReadOff) => told_type(alloc, e, env),
     }
 }
 
@@ -129,21 +147,28 @@ fn forms_in(alloc: Global, files: &[File]) -> Result<Seq<NModule>, NoAnswer> {
     Ok(forms)
 }
 
-/// What a piece is in the module of this number. A fault of it stands in no module.
-fn told_at(alloc: Global, forms: &[NModule], at: usize, e: &Expr) -> Result<Vec<u8>, NoAnswer> {
+/// What is asked of a piece in the module of this number. A fault of it stands in no module.
+fn told_at(
+    alloc: Global,
+    forms: &[NModule],
+    at: usize,
+    e: &Expr,
+    asked: Asked,
+) -> Result<Vec<u8>, NoAnswer> {
     if at >= forms.len() {
         return Err(NoAnswer::Usage);
     }
     let mut env = TypeEnv::new(alloc, forms, at)?;
-    match told_below(alloc, e, &mut env) {
+    match told_below(alloc, e, asked, &mut env) {
         Ok(told) => Ok(told),
         Err(flawed) => Err(flawed_in(alloc, "-", flawed)),
     }
 }
 
-/// What the piece in a file is in the module of a number among those of other files.
+/// What is asked of the piece in a file, in the module of a number among those of other files.
 pub(crate) fn told(
     alloc: Global,
+    asked: Asked,
     number: &str,
     files: &[File],
     piece: &File,
@@ -152,7 +177,7 @@ pub(crate) fn told(
     let forms = forms_in(alloc, files)?;
     let m = module_in(alloc, piece)?;
     match piece_of(&m) {
-        Some(e) => told_at(alloc, forms.as_slice(), at, e),
+        Some(e) => told_at(alloc, forms.as_slice(), at, e, asked),
         None => Err(NoAnswer::Usage),
     }
 }

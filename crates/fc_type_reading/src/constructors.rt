@@ -6,7 +6,7 @@ ghost use Rattle.fc_model.specs.NamelessView.{nargs_of};
 ghost use Rattle.fc_model.specs.Typing.{constructed_at};
 ghost use Rattle.fc_types.specs.TableViews.{constructor_of};
 ghost use Rattle.fc_lint_context.specs.ContextViews.{IsContext, modules_of_context};
-ghost use Rattle.fc_type_scope.specs.Scopes.{scope_in};
+ghost use Rattle.fc_type_scope.specs.Scopes.{IsScope, scope_in};
 ghost use Rattle.fc_type_table.specs.TypeTables.{Grows, IsType, shown};
 ghost use Rattle.fc_type_reading.specs.Readings.{applied_to_first, type_of_argument};
 
@@ -37,7 +37,8 @@ fn applied_at<'a>(
     types: &mut TypeTable<'a>,
     scope: &TypeScope<'_>,
 ) -> Result<Option<TypeId>, Memory>
-    requires { IsType types.old (scope_in scope.now) whole }
+    requires scope { IsScope types.old scope.now }
+    requires whole_in { IsType types.old (scope_in scope.now) whole }
     ensures valid { IfOk result (λ r. IfSome r (λ id. IsType types.new (scope_in scope.now) id)) }
     ensures view { IfOk result (λ r. option_map (λ id. shown types.new (scope_in scope.now) id) r ≡ applied_to_first 1 (shown types.old (scope_in scope.now) whole) (nargs_of (drop place args.now))) }
     ensures grows { OnOk result (Grows types.old types.new) }
@@ -61,7 +62,8 @@ fn applied_to<'a>(
     types: &mut TypeTable<'a>,
     scope: &TypeScope<'_>,
 ) -> Result<Option<TypeId>, Memory>
-    requires { IsType types.old (scope_in scope.now) head }
+    requires scope { IsScope types.old scope.now }
+    requires head_in { IsType types.old (scope_in scope.now) head }
     ensures valid { IfOk result (λ r. IfSome r (λ id. IsType types.new (scope_in scope.now) id)) }
     ensures view { IfOk result (λ r. option_map (λ id. shown types.new (scope_in scope.now) id) r ≡ applied_to_first count (shown types.old (scope_in scope.now) head) (nargs_of args.now)) }
     ensures grows { OnOk result (Grows types.old types.new) }
@@ -86,6 +88,7 @@ fn data_type_at<'a>(
     types: &mut TypeTable<'a>,
     scope: &TypeScope<'_>,
 ) -> Result<Option<TypeId>, Memory>
+    requires { IsScope types.old scope.now }
     ensures valid { IfOk result (λ r. IfSome r (λ id. IsType types.new (scope_in scope.now) id)) }
     ensures view { IfOk result (λ r. option_map (λ id. shown types.new (scope_in scope.now) id) r ≡ constructed_at name.now (nargs_of args.now) (constructor_of con.now)) }
     ensures grows { OnOk result (Grows types.old types.new) }

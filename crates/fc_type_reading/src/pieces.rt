@@ -8,7 +8,7 @@ ghost use Rattle.fc_model.specs.NamelessView.{narg_of, nco_of};
 ghost use Rattle.fc_model.specs.Typing as words;
 ghost use Rattle.fc_model.specs.Typing.{answered, right_end};
 ghost use Rattle.fc_lint_context.specs.ContextViews.{IsContextAt, context_at, context_in, modules_of_context};
-ghost use Rattle.fc_type_scope.specs.Scopes.{scope_in};
+ghost use Rattle.fc_type_scope.specs.Scopes.{IsScope, scope_in};
 ghost use Rattle.fc_type_table.specs.Scopes.{IsTypeAt, shown_at};
 ghost use Rattle.fc_type_table.specs.TypeTables.{Grows, IsType, shown};
 ghost use Rattle.fc_type_table.specs.declared.node.Node as nodes;
@@ -54,7 +54,8 @@ pub(crate) fn applied_type<'a>(
     types: &mut TypeTable<'a>,
     scope: &TypeScope<'_>,
 ) -> Result<Option<TypeId>, Memory>
-    requires { IsType types.old (scope_in scope.now) head }
+    requires scope { IsScope types.old scope.now }
+    requires head_in { IsType types.old (scope_in scope.now) head }
     ensures valid { IfOk result (λ r. IfSome r (λ id. IsType types.new (scope_in scope.now) id)) }
     ensures view { IfOk result (λ r. option_map (λ id. shown types.new (scope_in scope.now) id) r ≡ type_applied (shown types.old (scope_in scope.now) head) (narg_of arg.now)) }
     ensures grows { OnOk result (Grows types.old types.new) }

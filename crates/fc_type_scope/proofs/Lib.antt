@@ -11,3 +11,4 @@ pub mod PastBinders
 pub mod Proven
 pub mod Raising
 pub mod EnteredScoped
+pub mod ScopeKinds

@@ -5,7 +5,7 @@ use Rattle.fc_syntax.specs.declared.ty.Role.{Role}
 use Rattle.fc_model.specs.Coercing.{Ends, ends}
 use Rattle.fc_model.specs.Nameless.{NTy, NBinder, NBValue, NBType, NBCo}
 use Rattle.fc_model.specs.Substituting.{raised_type}
-use Rattle.fc_types.specs.KindViews.{own_kinds}
+use Rattle.fc_type_table.specs.InScope.{AreNumbered, own_kinds}
 use Rattle.fc_type_table.specs.Nodes.{Extends}
 use Rattle.fc_type_table.specs.Scopes.{IsTypeAt, shown_at}
 use Rattle.fc_type_table.specs.declared.node.Node.{Node}
@@ -16,6 +16,7 @@ use Rattle.fc_type_scope.specs.Scopes.{AreTypesAt, shown_all_at}
 use Rattle.fc_type_scope.specs.declared.ends.Ends as proven
 use Rattle.fc_type_scope.specs.declared.entering.Entered as code
 use Rattle.fc_type_table.proofs.BinderKinds.{binder_kinds-append, kinds_past-last}
+use Rattle.fc_type_table.proofs.KindsInScope.{AreNumbered-grows, AreNumbered-none}
 use Rattle.fc_type_scope.proofs.BinderLists.{binder_coercions-one, binder_coercions-type, binder_coercions-value, binder_values-coercion, binder_values-type, binder_values-value}
 use Rattle.fc_type_scope.proofs.Numbers.{AreTypesAt-grows, AreTypesAt-none, AreTypesAt-past, AreTypesAt-push, shown_all-grows, shown_all-none, shown_all-past, shown_all-push}
 use Rattle.fc_type_scope.proofs.Proven.{AreEndsAt-grows, AreEndsAt-none, AreEndsAt-past, AreEndsAt-push, shown_all_ends-grows, shown_all_ends-none, shown_all_ends-past, shown_all_ends-push}
@@ -34,11 +35,23 @@ pub behind_entered : (ns : List Node) (ks behind : List Kind) (bs : List NBinder
 unfolding kinds_past
 behind_entered ns ks behind bs e en b = b ∙ ap (λ js. reverse js ++ ks) en.kinds
 
+-- a table that grows keeps what was entered
+pub entered_grows : (old new : List Node) (ks : List Kind) (bs : List NBinder) (e : code.Entered) → Extends old new → IsEntered old ks bs e → IsEntered new ks bs e
+entered_grows old new ks bs e x en = record {
+  kinds = en.kinds;
+  numbered = AreNumbered-grows old new e.kinds x en.numbered;
+  valid = AreTypesAt-grows old new (kinds_past bs ks) e.values x en.valid;
+  view = shown_all-grows old new (kinds_past bs ks) e.values x en.valid ∙ en.view;
+  coercions_valid = AreEndsAt-grows old new (kinds_past bs ks) e.coercions x en.coercions_valid;
+  coercions_view = shown_all_ends-grows old new (kinds_past bs ks) e.coercions x en.coercions_valid ∙ en.coercions_view;
+}
+
 -- none
 pub entered_none : (ns : List Node) (ks : List Kind) (e : code.Entered) → e.kinds ≡ [] → e.coercions ≡ [] → e.values ≡ [] → IsEntered ns ks [] e
 unfolding binder_kinds binder_values binder_coercions
 entered_none ns ks e k p v = record {
   kinds = ap own_kinds k;
+  numbered = subst (AreNumbered ns) (sym k) (AreNumbered-none ns);
   valid = subst (AreTypesAt ns (kinds_past [] ks)) (sym v) (AreTypesAt-none ns (kinds_past [] ks));
   view = ap (shown_all_at ns (kinds_past [] ks)) v ∙ shown_all-none ns (kinds_past [] ks);
   coercions_valid = subst (AreEndsAt ns (kinds_past [] ks)) (sym p) (AreEndsAt-none ns (kinds_past [] ks));
@@ -63,17 +76,19 @@ entered_value old new ks bs e more id t en x v s k p i =
     let proved = subst (λ es. Proven new (binder_coercions (bs ++ NBValue t ∷ [])) es (kinds_past (bs ++ NBValue t ∷ []) ks)) (sym p)
     (subst (Proven new (binder_coercions (bs ++ NBValue t ∷ [])) e.coercions) (sym here) same) in record {
       kinds = ap own_kinds k ∙ en.kinds ∙ sym (binder_kinds-append bs (NBValue t ∷ []) ∙ append-nil (binder_kinds bs));
+      numbered = subst (AreNumbered new) (sym k) (AreNumbered-grows old new e.kinds x en.numbered);
       valid = there.0;
       view = there.1;
       coercions_valid = proved.0;
       coercions_view = proved.1;
     }
 
--- a type variable, past which the types of the values are raised
-pub entered_type : (ns : List Node) (ks : List Kind) (bs : List NBinder) (e more : code.Entered) (k : Kind) → IsEntered ns ks bs e
+-- a type variable, whose kind was numbered while the table grew, and past which the types of the values are raised
+pub entered_type : (old ns : List Node) (ks : List Kind) (bs : List NBinder) (e more : code.Entered) (k : Kind) → IsEntered old ks bs e → Extends old ns → AreNumbered ns more.kinds
     → own_kinds more.kinds ≡ own_kinds e.kinds ++ binder_kinds (NBType k ∷ []) → more.coercions ≡ e.coercions → more.values ≡ e.values → IsEntered ns ks (bs ++ NBType k ∷ []) more
 unfolding binder_kinds
-entered_type ns ks bs e more k en j p i =
+entered_type old ns ks bs e more k was x numbered j p i =
+    let en = entered_grows old ns ks bs e x was in
     let here : kinds_past (bs ++ NBType k ∷ []) ks ≡ k ∷ kinds_past bs ks = kinds_past-last bs (NBType k) ks in
     let all : Typed ns (binder_values (bs ++ NBType k ∷ [])) e.values (k ∷ kinds_past bs ks) = (
       AreTypesAt-past ns (k ∷ []) (kinds_past bs ks) e.values en.valid,
@@ -88,6 +103,7 @@ entered_type ns ks bs e more k en j p i =
     let proved = subst (λ es. Proven ns (binder_coercions (bs ++ NBType k ∷ [])) es (kinds_past (bs ++ NBType k ∷ []) ks)) (sym p)
     (subst (Proven ns (binder_coercions (bs ++ NBType k ∷ [])) e.coercions) (sym here) moved) in record {
       kinds = j ∙ ap (λ js. js ++ k ∷ []) en.kinds ∙ sym (binder_kinds-append bs (NBType k ∷ []));
+      numbered = numbered;
       valid = there.0;
       view = there.1;
       coercions_valid = proved.0;
@@ -113,18 +129,9 @@ entered_coercion old new ks bs e more d r t u en x v s k p i =
     ) in
     let proved = subst (Proven new (binder_coercions (bs ++ b ∷ [])) more.coercions) (sym here) all in record {
       kinds = ap own_kinds k ∙ en.kinds ∙ sym (binder_kinds-append bs (b ∷ []) ∙ append-nil (binder_kinds bs));
+      numbered = subst (AreNumbered new) (sym k) (AreNumbered-grows old new e.kinds x en.numbered);
       valid = there.0;
       view = there.1;
       coercions_valid = proved.0;
       coercions_view = proved.1;
     }
-
--- a table that grows keeps what was entered
-pub entered_grows : (old new : List Node) (ks : List Kind) (bs : List NBinder) (e : code.Entered) → Extends old new → IsEntered old ks bs e → IsEntered new ks bs e
-entered_grows old new ks bs e x en = record {
-  kinds = en.kinds;
-  valid = AreTypesAt-grows old new (kinds_past bs ks) e.values x en.valid;
-  view = shown_all-grows old new (kinds_past bs ks) e.values x en.valid ∙ en.view;
-  coercions_valid = AreEndsAt-grows old new (kinds_past bs ks) e.coercions x en.coercions_valid;
-  coercions_view = shown_all_ends-grows old new (kinds_past bs ks) e.coercions x en.coercions_valid ∙ en.coercions_view;
-}

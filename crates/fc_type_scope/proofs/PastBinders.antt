@@ -8,7 +8,7 @@ use Rattle.fc_model.specs.Coercing.{Ends, ends, shifted_ends}
 use Rattle.fc_model.specs.Nameless.{NTy, NBinder, NBValue, NBType, NBCo}
 use Rattle.fc_model.specs.Substituting.{raised_type, shifted_type}
 use Rattle.fc_model.specs.Typing.{Context, JoinPoint, shifted_join, with_binders, with_coercion, with_type, with_value}
-use Rattle.fc_types.specs.KindViews.{kinds_of, own_kinds}
+use Rattle.fc_type_table.specs.InScope.{kinds_of, own_kinds}
 use Rattle.fc_type_table.specs.TypeTables.{IsType, shown}
 use Rattle.fc_type_table.specs.TypeTables.{nodes_of}
 use Rattle.fc_type_table.specs.declared.node.Node.{Node}

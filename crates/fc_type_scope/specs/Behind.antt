@@ -6,7 +6,7 @@ use Rattle.fc_model.specs.Coercing.{Ends}
 use Rattle.fc_model.specs.Nameless.{NTy, NBinder, NBValue, NBType, NBCo}
 use Rattle.fc_model.specs.Substituting.{raised_type}
 use Rattle.fc_model.specs.Typing.{Context, JoinPoint}
-use Rattle.fc_types.specs.KindViews.{own_kinds}
+use Rattle.fc_type_table.specs.InScope.{AreNumbered, own_kinds}
 unfoldable pub use Rattle.fc_type_table.specs.Binders.{binder_kinds, kinds_past}
 use Rattle.fc_type_table.specs.Scopes.{IsTypeAt, shown_at}
 use Rattle.fc_type_table.specs.declared.node.Node.{Node}
@@ -54,6 +54,7 @@ IsValueAt ns ks (NBCo r t u) ids i = Unit {0}
 -- variables of the kinds ks are in scope before the binders
 pub record IsEntered (ns : List Node) (ks : List Kind) (bs : List NBinder) (e : code.Entered) : Type 0 where
   pub kinds : own_kinds e.kinds ≡ binder_kinds bs
+  pub numbered : AreNumbered ns e.kinds
   pub valid : AreTypesAt ns (kinds_past bs ks) e.values
   pub view : shown_all_at ns (kinds_past bs ks) e.values ≡ binder_values bs
   pub coercions_valid : AreEndsAt ns (kinds_past bs ks) e.coercions

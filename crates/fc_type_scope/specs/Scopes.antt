@@ -7,12 +7,16 @@ use Rattle.fc_type_table.specs.TypeTables.{nodes_of}
 use Rattle.fc_type_table.specs.declared.node.Node.{Node}
 use Rattle.fc_type_table.specs.declared.node.TypeId.{TypeId}
 use Rattle.fc_type_table.specs.declared.table.TypeTable.{TypeTable}
-use Rattle.fc_types.specs.KindViews.{kinds_of}
+use Rattle.fc_type_table.specs.InScope.{IsScopeAt, kinds_of}
 use Rattle.fc_type_scope.specs.declared.scope.TypeScope as code
 
 -- the kinds of the type variables in scope, the innermost first
 unfoldable pub scope_in : code.TypeScope → List Kind
 scope_in s = kinds_of s.kinds.now
+
+-- the numbers of the kinds are right in a table
+abbrev pub IsScope : TypeTable → code.TypeScope → Type 0
+IsScope table s = IsScopeAt (nodes_of table) s.kinds.now
 
 -- each is the number of a type where type variables of these kinds are in scope
 pub record AreTypesAt (ns : List Node) (ks : List Kind) (ids : List TypeId) : Type 0 where

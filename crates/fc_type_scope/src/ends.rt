@@ -7,7 +7,7 @@ ghost use Rattle.fc_model.specs.Kinding as words;
 ghost use Rattle.fc_model.specs.Kinding.{same_type};
 ghost use Rattle.fc_model.specs.NamelessView.{nty_of};
 ghost use Rattle.fc_type_scope.specs.EndViews.{IsEnds, shown_ends};
-ghost use Rattle.fc_type_scope.specs.Scopes.{scope_in};
+ghost use Rattle.fc_type_scope.specs.Scopes.{IsScope, scope_in};
 ghost use Rattle.fc_type_table.specs.TypeTables.{Grows, IsType, shown};
 
 use crate::scope::TypeScope;
@@ -36,6 +36,7 @@ impl<'x> TypeScope<'x> {
         right: &'a NTy,
         types: &mut TypeTable<'a>,
     ) -> Result<Ends, Memory>
+        requires { IsScope types.old self.now }
         ensures valid { IfOk result (λ e. IsEnds types.new (scope_in self.now) e) }
         ensures view { IfOk result (λ e. shown_ends types.new (scope_in self.now) e ≡ ends role (nty_of left.now) (nty_of right.now)) }
         ensures grows { OnOk result (Grows types.old types.new) }

@@ -5,24 +5,23 @@ ghost use Rattle.fc_model.specs.Calling as words;
 ghost use Rattle.fc_model.specs.Calling.{binders_to, over_binders, type_count};
 ghost use Rattle.fc_model.specs.NamelessView.{nbinder_of, nbinders_of, nty_of};
 ghost use Rattle.fc_model.specs.Typing.{kinds_behind};
-ghost use Rattle.fc_types.specs.KindViews.{kinds_of, own_kinds};
 ghost use Rattle.fc_type_scope.specs.Behind.{IsEntered, IsValueAt, kinds_past, value_count};
-ghost use Rattle.fc_type_scope.specs.Scopes.{scope_in};
+ghost use Rattle.fc_type_scope.specs.Scopes.{IsScope, scope_in};
+ghost use Rattle.fc_type_table.specs.InScope.{AreNumbered, kinds_of, numbered_of, own_kinds};
 ghost use Rattle.fc_type_table.specs.TypeTables.{Grows, IsType, nodes_of, shown};
 
 use crate::binders::add_kind;
 use crate::ends::Ends;
 use crate::scope::TypeScope;
 use fc_syntax::{Memory, NBinder, NTy, Role, Seq};
-use fc_type_table::{TypeId, TypeTable};
-use fc_types::{Kinds, LocalKind};
+use fc_type_table::{NumberedKind, NumberedKinds, TypeId, TypeTable};
 use std::alloc::Global;
 
 /// What binders that stand together bind.
 #[derive(Drop)]
 pub struct Entered<'a> {
     /// The kinds of their type variables, in their order.
-    pub kinds: Seq<LocalKind<'a>>,
+    pub kinds: Seq<NumberedKind<'a>>,
     /// What their coercion variables prove, in their order.
     pub coercions: Seq<Ends>,
     /// The types of their values, in their order.
@@ -68,6 +67,9 @@ impl<'x> TypeScope<'x> {
         binder: &'a NBinder,
         types: &mut TypeTable<'a>,
     ) -> Result<(), Memory>
+        requires scope { IsScope types.old self.now }
+        requires numbered { AreNumbered (nodes_of types.old) entered.old.kinds }
+        ensures numbered { OnOk result (AreNumbered (nodes_of types.new) entered.new.kinds) }
         ensures entered { OnOk result ((bs : List trees.NBinder) → IsEntered (nodes_of types.old) (scope_in self.now) bs entered.old → IsEntered (nodes_of types.new) (scope_in self.now) (bs ++ nbinder_of binder.now ∷ []) entered.new) }
         ensures grows { OnOk result (Grows types.old types.new) }
     {
@@ -77,7 +79,7 @@ impl<'x> TypeScope<'x> {
                 let id = TypeScope { kinds: &kinds }.read(t, types)?;
                 entered.values.push(id)
             }
-            NBinder::OfType(_, _) => add_kind(&mut entered.kinds, binder),
+            NBinder::OfType(_, _) => add_kind(&mut entered.kinds, binder, types),
             NBinder::OfCo(_, role, left, right) => {
                 let kinds = entered.kinds_behind(self.kinds);
                 let ends = TypeScope { kinds: &kinds }.read_ends(*role, left, right, types)?;
@@ -93,6 +95,7 @@ impl<'x> TypeScope<'x> {
         binders: &'a [NBinder],
         types: &mut TypeTable<'a>,
     ) -> Result<Entered<'a>, Memory>
+        requires { IsScope types.old self.now }
         ensures entered { IfOk result (λ e. IsEntered (nodes_of types.new) (scope_in self.now) (nbinders_of binders.now) e) }
         ensures grows { OnOk result (Grows types.old types.new) }
     {
@@ -114,6 +117,7 @@ impl<'x> TypeScope<'x> {
         binder: &'a NBinder,
         types: &mut TypeTable<'a>,
     ) -> Result<Entered<'a>, Memory>
+        requires { IsScope types.old self.now }
         ensures entered { IfOk result (λ e. IsEntered (nodes_of types.new) (scope_in self.now) (nbinder_of binder.now ∷ []) e) }
         ensures grows { OnOk result (Grows types.old types.new) }
     {
@@ -136,7 +140,8 @@ impl<'x> TypeScope<'x> {
         answer: TypeId,
         types: &mut TypeTable<'a>,
     ) -> Result<TypeId, Memory>
-        requires { IsType types.old (scope_in self.now) answer }
+        requires scope { IsScope types.old self.now }
+        requires answer_in { IsType types.old (scope_in self.now) answer }
         ensures valid { IfOk result (λ id. IsType types.new (scope_in self.now) id) }
         ensures view { IfOk result (λ id. shown types.new (scope_in self.now) id ≡ trees.NTCoForall role (nty_of left.now) (nty_of right.now) (shown types.old (scope_in self.now) answer)) }
         ensures grows { OnOk result (Grows types.old types.new) }
@@ -157,6 +162,7 @@ impl<'x> TypeScope<'x> {
         answer: TypeId,
         types: &mut TypeTable<'a>,
     ) -> Result<TypeId, Memory>
+        requires scope { IsScope types.old self.now }
         requires value_in { IsValueAt (nodes_of types.old) (scope_in self.now) (nbinder_of binder.now) values.now place }
         requires answer_in { IsType types.old (kinds_behind (nbinder_of binder.now) (scope_in self.now)) answer }
         ensures valid { IfOk result (λ id. IsType types.new (scope_in self.now) id) }
@@ -181,6 +187,7 @@ impl<'x> TypeScope<'x> {
         answer: TypeId,
         types: &mut TypeTable<'a>,
     ) -> Result<TypeId, Memory>
+        requires scope { IsScope types.old self.now }
         requires entered_in { IsEntered (nodes_of types.old) (scope_in self.now) (nbinders_of binders.now) entered.now }
         requires answer_in { IsType types.old (kinds_past (nbinders_of binders.now) (scope_in self.now)) answer }
         ensures valid { IfOk result (λ id. IsType types.new (scope_in self.now) id) }
@@ -199,7 +206,7 @@ impl<'x> TypeScope<'x> {
             at -= 1;
             let binder = &binders[at];
             counts = counts.before(binder);
-            let kinds = Kinds::Group(&own[..counts.kinds], self.kinds);
+            let kinds = NumberedKinds::Group(&own[..counts.kinds], self.kinds);
             let scope = TypeScope { kinds: &kinds };
             whole = scope.over_binder(alloc, binder, values, counts.values, whole, types)?;
         }
@@ -216,6 +223,7 @@ impl<'x> TypeScope<'x> {
         answer: TypeId,
         types: &mut TypeTable<'a>,
     ) -> Result<TypeId, Memory>
+        requires scope { IsScope types.old self.now }
         requires entered_in { IsEntered (nodes_of types.old) (scope_in self.now) (nbinders_of binders.now) entered.now }
         requires answer_in { IsType types.old (scope_in self.now) answer }
         ensures valid { IfOk result (λ id. IsType types.new (scope_in self.now) id) }
@@ -236,6 +244,7 @@ impl<'x> TypeScope<'x> {
         answer: TypeId,
         types: &mut TypeTable<'a>,
     ) -> Result<TypeId, Memory>
+        requires scope { IsScope types.old self.now }
         requires entered_in { IsEntered (nodes_of types.old) (scope_in self.now) (nbinder_of binder.now ∷ []) entered.now }
         requires answer_in { IsType types.old (kinds_past (nbinder_of binder.now ∷ []) (scope_in self.now)) answer }
         ensures valid { IfOk result (λ id. IsType types.new (scope_in self.now) id) }
@@ -248,9 +257,10 @@ impl<'x> TypeScope<'x> {
 
 impl<'a> Entered<'a> {
     /// The kinds of the type variables in scope behind the binders.
-    pub fn kinds_behind<'x>(&'x self, outer: &'x Kinds<'x>) -> Kinds<'x>
-        ensures { kinds_of result ≡ reverse (own_kinds self.now.kinds) ++ kinds_of outer.now }
+    pub fn kinds_behind<'x>(&'x self, outer: &'x NumberedKinds<'x>) -> NumberedKinds<'x>
+        ensures kinds { kinds_of result ≡ reverse (own_kinds self.now.kinds) ++ kinds_of outer.now }
+        ensures numbered { numbered_of result ≡ reverse self.now.kinds ++ numbered_of outer.now }
     {
-        Kinds::Group(self.kinds.as_slice(), outer)
+        NumberedKinds::Group(self.kinds.as_slice(), outer)
     }
 }

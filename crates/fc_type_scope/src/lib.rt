@@ -9,4 +9,4 @@ mod scoped;
 
 pub use ends::Ends;
 pub use entering::Entered;
-pub use scope::TypeScope;
+pub use scope::{Kinded, TypeScope};

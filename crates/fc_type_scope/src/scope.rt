@@ -5,26 +5,37 @@ ghost use Rattle.fc_syntax.specs.Tree as trees;
 ghost use Rattle.fc_syntax.specs.View.{kind_of};
 ghost use Rattle.fc_model.specs.Calling as words;
 ghost use Rattle.fc_model.specs.Calling.{application_ends, at_type, forall_kind, function_ends, has_kind, is_int};
+ghost use Rattle.fc_model.specs.Faulting.{under};
 ghost use Rattle.fc_model.specs.Kinding.{kind_or_fault, same_type};
 ghost use Rattle.fc_model.specs.Nameless.{NTApp, NTCon, NTForall, NTFun, NTInt, NTVar};
 ghost use Rattle.fc_model.specs.NamelessView.{nty_of};
+ghost use Rattle.fc_model.specs.Says.{Says};
 ghost use Rattle.fc_model.specs.Substituting.{has_innermost};
 ghost use Rattle.fc_model.specs.Typing.{is_star_found};
-ghost use Rattle.fc_type_scope.specs.Scopes.{AreTypes, scope_in, shown_all};
+ghost use Rattle.fc_type_scope.specs.Scopes.{AreTypes, IsScope, scope_in, shown_all};
 ghost use Rattle.fc_type_table.specs.Names.{name_from};
-ghost use Rattle.fc_type_table.specs.TypeTables.{Grows, IsNumber, IsType, modules_in, shown};
+ghost use Rattle.fc_type_table.specs.TypeTables.{Grows, IsKindId, IsNumber, IsType, kind_shown, modules_in, shown};
 
 use crate::scoped::{is_scoped, variables};
+use fc_model::{Flawed, deeper};
 use fc_syntax::{Kind, Memory, NTy, Seq, Text};
-use fc_type_table::{TypeId, TypeTable};
-use fc_types::Kinds;
+use fc_type_table::{NumberedKinds, TypeId, TypeTable};
 use std::alloc::Global;
 
 /// The type variables in scope, by their kinds.
 #[derive(Clone, Copy)]
 pub struct TypeScope<'x> {
-    /// Their kinds, the innermost first.
-    pub kinds: &'x Kinds<'x>,
+    /// Their kinds, the innermost first, by numbers of a table.
+    pub kinds: &'x NumberedKinds<'x>,
+}
+
+/// A type with its kind.
+#[derive(Clone, Copy)]
+pub struct Kinded {
+    /// The type.
+    pub ty: TypeId,
+    /// Its kind.
+    pub kind: TypeId,
 }
 
 impl<'x> TypeScope<'x> {
@@ -39,6 +50,7 @@ impl<'x> TypeScope<'x> {
     /// A written type. A type that names a variable out of scope is answered as out of memory: no module that has its names has one.
     #[tactic(auto, unfolding(crate::specs::Scopes::scope_in))]
     pub fn read<'a>(&self, t: &'a NTy, types: &mut TypeTable<'a>) -> Result<TypeId, Memory>
+        requires { IsScope types.old self.now }
         ensures valid { IfOk result (λ id. IsType types.new (scope_in self.now) id) }
         ensures view { IfOk result (λ id. shown types.new (scope_in self.now) id ≡ nty_of t.now) }
         ensures grows { OnOk result (Grows types.old types.new) }
@@ -50,6 +62,48 @@ impl<'x> TypeScope<'x> {
         types.read(t, self.kinds, variables)
     }
 
+    /// A written type with its kind, or the first premise of its kind that fails: as `TypeTable::kind_or_fault` tells it. A type that names a
+    /// variable out of scope is answered as out of memory.
+    #[tactic(auto, using(fc_type_table::proofs::Numbers::number_rules))]
+    pub fn kinded<'a>(
+        &self,
+        alloc: Global,
+        t: &'a NTy,
+        types: &mut TypeTable<'a>,
+    ) -> Result<Kinded, Flawed>
+        requires { IsScope types.old self.now }
+        ensures valid { IfOk result (λ k. IsType types.new (scope_in self.now) k.ty) }
+        ensures view { IfOk result (λ k. shown types.new (scope_in self.now) k.ty ≡ nty_of t.now) }
+        ensures is_kind { IfOk result (λ k. IsKindId types.new k.kind) }
+        ensures says { Says (λ k. kind_shown types.new k.kind) result (kind_or_fault (modules_in types.old) (scope_in self.now) (nty_of t.now)) }
+        ensures grows { OnOk result (Grows types.old types.new) }
+    {
+        let ty = self.read(t, types)?;
+        let kind = types.kind_or_fault(alloc, ty)?;
+        Ok(Kinded { ty, kind })
+    }
+
+    /// The same of a part, whose place is told from the piece whose part it is.
+    pub fn kinded_part<'a>(
+        &self,
+        alloc: Global,
+        t: &'a NTy,
+        types: &mut TypeTable<'a>,
+        part: u32,
+    ) -> Result<Kinded, Flawed>
+        requires { IsScope types.old self.now }
+        ensures valid { IfOk result (λ k. IsType types.new (scope_in self.now) k.ty) }
+        ensures view { IfOk result (λ k. shown types.new (scope_in self.now) k.ty ≡ nty_of t.now) }
+        ensures is_kind { IfOk result (λ k. IsKindId types.new k.kind) }
+        ensures says { Says (λ k. kind_shown types.new k.kind) result (under part (kind_or_fault (modules_in types.old) (scope_in self.now) (nty_of t.now))) }
+        ensures grows { OnOk result (Grows types.old types.new) }
+    {
+        match self.kinded(alloc, t, types) {
+            Ok(kinded) => Ok(kinded),
+            Err(flawed) => Err(deeper(flawed, part)),
+        }
+    }
+
     /// Puts a written type behind others.
     #[tactic(auto, using(crate::proofs::Numbers::number_rules))]
     pub fn add<'a>(
@@ -58,6 +112,7 @@ impl<'x> TypeScope<'x> {
         t: &'a NTy,
         types: &mut TypeTable<'a>,
     ) -> Result<(), Memory>
+        requires scope { IsScope types.old self.now }
         requires ids_in { AreTypes types.old (scope_in self.now) ids.old }
         ensures ids_in { OnOk result (AreTypes types.new (scope_in self.now) ids.new) }
         ensures added { OnOk result (shown_all types.new (scope_in self.now) ids.new ≡ shown_all types.old (scope_in self.now) ids.old ++ nty_of t.now ∷ []) }
@@ -70,6 +125,7 @@ impl<'x> TypeScope<'x> {
     /// A type variable by its distance. One out of scope is answered as out of memory.
     #[tactic(auto, unfolding(crate::specs::Scopes::scope_in))]
     pub fn variable<'a>(&self, distance: u32, types: &mut TypeTable<'a>) -> Result<TypeId, Memory>
+        requires { IsScope types.old self.now }
         ensures valid { IfOk result (λ id. IsType types.new (scope_in self.now) id) }
         ensures view { IfOk result (λ id. shown types.new (scope_in self.now) id ≡ NTVar distance) }
         ensures grows { OnOk result (Grows types.old types.new) }
@@ -170,23 +226,15 @@ impl<'x> TypeScope<'x> {
         types.instantiate(alloc, forall, by)
     }
 
-    /// Whether a type is a `forall` over a variable of this kind.
-    pub fn takes_kind<'a>(
-        &self,
-        id: TypeId,
-        kind: &Kind,
-        types: &mut TypeTable<'a>,
-    ) -> Result<bool, Memory>
-        requires { IsType types.old (scope_in self.now) id }
-        ensures view { IfOk result (λ b. b ≡ has_kind (forall_kind (shown types.old (scope_in self.now) id)) (kind_of kind.now)) }
-        ensures grows { OnOk result (Grows types.old types.new) }
+    /// Whether a type is a `forall` over a variable of the kind of this number. Takes no memory.
+    pub fn takes_kind<'a>(&self, id: TypeId, kind: TypeId, types: &TypeTable<'a>) -> bool
+        requires type_in { IsType types.now (scope_in self.now) id }
+        requires kind_in { IsKindId types.now kind }
+        ensures { result ≡ has_kind (forall_kind (shown types.now (scope_in self.now) id)) (kind_shown types.now kind) }
     {
         match types.forall_kind(id) {
-            Some(own) => {
-                let kind = types.read_kind(kind)?;
-                Ok(types.same_kind(own, kind))
-            }
-            None => Ok(false),
+            Some(own) => types.same_kind(own, kind),
+            None => false,
         }
     }
 

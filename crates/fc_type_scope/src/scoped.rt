@@ -2,10 +2,10 @@
 ghost use Rattle.std.specs.Prelude.{◌≡◌, ◌+◌, true, length, IfOk};
 ghost use Rattle.fc_model.specs.NamelessView.{nty_of};
 ghost use Rattle.fc_model.specs.Substituting.{IsScopedType};
-ghost use Rattle.fc_types.specs.KindViews.{kinds_of};
+ghost use Rattle.fc_type_table.specs.InScope.{kinds_of};
 
 use fc_syntax::{Memory, NTy};
-use fc_types::Kinds;
+use fc_type_table::NumberedKinds;
 
 /// Whether each variable of a type has a binder there, or is one of so many outside. Takes no memory.
 #[tactic(auto, using(fc_syntax::proofs::View::view_rules))]
@@ -39,16 +39,16 @@ fn more(count: u32, more: usize) -> Result<u32, Memory>
 }
 
 /// How many type variables are in scope, where the number can be told.
-pub(crate) fn variables(kinds: &Kinds) -> Result<u32, Memory>
+pub(crate) fn variables(kinds: &NumberedKinds) -> Result<u32, Memory>
     ensures { IfOk result (λ n. n ≡ length (kinds_of kinds.now)) }
 {
     match kinds {
-        Kinds::End => Ok(0),
-        Kinds::Kind(_, rest) => {
+        NumberedKinds::End => Ok(0),
+        NumberedKinds::Kind(_, rest) => {
             let count = variables(rest)?;
             more(count, 1)
         }
-        Kinds::Group(own, rest) => {
+        NumberedKinds::Group(own, rest) => {
             let count = variables(rest)?;
             more(count, own.len())
         }

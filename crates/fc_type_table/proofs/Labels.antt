@@ -1,5 +1,5 @@
 -- What the variables of a context carry.
-use Rattle.std.proofs.Common.{◌≡◌, ℕ, zero, suc, ◌+◌, ◌<◌, List, [], ◌∷◌, ◌++◌, length, refl, sym, ap, subst, ◌∙◌, arith, Some, None, Result, Ok, Err, IfOk}
+use Rattle.std.proofs.Common.{◌≡◌, ℕ, zero, suc, ◌+◌, ◌<◌, List, [], ◌∷◌, ◌++◌, length, refl, sym, ap, subst, ◌∙◌, arith, Some, None}
 use Rattle.fc_syntax.specs.Tree.{Kind}
 use Rattle.fc_model.specs.Faulting.{at_distance}
 use Rattle.fc_model.specs.Typing.{answered}
@@ -8,7 +8,6 @@ use Rattle.fc_type_table.specs.TreeKinds.{IsKind, kind_in, kind_tree}
 use Rattle.fc_type_table.specs.Nodes.{tree_at}
 use Rattle.fc_type_table.specs.Trees.{LStar}
 use Rattle.fc_type_table.specs.declared.node.Node.{Node}
-use Rattle.fc_type_table.specs.declared.node.TypeId.{TypeId}
 use Rattle.fc_type_table.proofs.KindTrees.{IsKind-tree, kind_in-tree}
 
 -- the kind that a variable carries is the one of its context
@@ -36,24 +35,15 @@ pub label-outer : (js ks : List Kind) (m i : ℕ) → m ≡ length js + i → la
 label-outer js ks m i e = ap (label (js ++ ks)) e ∙ beside js ks i
 
 -- a look-up of a kind, and none
-label-some : (ks : List Kind) (i : ℕ) (k : Kind) → Some k ≡ answered (at_distance ks i) → label ks i ≡ kind_tree k
+pub label-some : (ks : List Kind) (i : ℕ) (k : Kind) → Some k ≡ answered (at_distance ks i) → label ks i ≡ kind_tree k
 label-some [] i k e = absurd (cc)
 label-some (j ∷ ks) zero k e = cc
 label-some (j ∷ ks) (suc i) k e = label-some ks i k e
 
-label-none : (ks : List Kind) (i : ℕ) → None ≡ answered (at_distance ks i) → label ks i ≡ LStar
+pub label-none : (ks : List Kind) (i : ℕ) → None ≡ answered (at_distance ks i) → label ks i ≡ LStar
 label-none [] i e = refl
 label-none (j ∷ ks) zero e = absurd (cc)
 label-none (j ∷ ks) (suc i) e = label-none ks i e
-
-pub label_read : {E : Type 0} (r : Result TypeId E) (ns : List Node) (ks : List Kind) (i : ℕ) (k : Kind) → Some k ≡ answered (at_distance ks i) → IfOk r (λ id. tree_at ns id.0 ≡ kind_tree k)
-    → IfOk r (λ id. tree_at ns id.0 ≡ label ks i)
-label_read (Ok id) ns ks i k e f = f ∙ sym (label-some ks i k e)
-label_read (Err x) ns ks i k e f = tt
-
-pub no_label_read : {E : Type 0} (r : Result TypeId E) (ns : List Node) (ks : List Kind) (i : ℕ) → None ≡ answered (at_distance ks i) → IfOk r (λ id. tree_at ns id.0 ≡ LStar) → IfOk r (λ id. tree_at ns id.0 ≡ label ks i)
-no_label_read (Ok id) ns ks i e f = f ∙ sym (label-none ks i e)
-no_label_read (Err x) ns ks i e f = tt
 
 pub label_is_kind : (ns : List Node) (id : ℕ) (ks : List Kind) (i : ℕ) → tree_at ns id ≡ label ks i → IsKind (tree_at ns id)
 label_is_kind ns id ks i e = subst IsKind (sym e) (IsKind-label ks i)

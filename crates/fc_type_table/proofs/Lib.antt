@@ -4,6 +4,7 @@ pub mod Tables
 pub mod SameNodes
 pub mod KindNumbers
 pub mod Labels
+pub mod KindsInScope
 pub mod KindsShown
 pub mod Levels
 pub mod ScopedTrees

@@ -10,8 +10,8 @@ use Rattle.fc_model.specs.Nameless.{NBinder}
 use Rattle.fc_model.specs.NamelessView.{nbinder_of, nbinders_of}
 use Rattle.fc_model.specs.Typing.{kinds_behind}
 use Rattle.fc_model.proofs.Lists.{drop_item}
-use Rattle.fc_types.specs.KindViews.{own_kinds}
-use Rattle.fc_types.specs.declared.kind_scope.LocalKind.{LocalKind}
+use Rattle.fc_type_table.specs.InScope.{own_kinds}
+use Rattle.fc_type_table.specs.declared.numbered.NumberedKind.{NumberedKind}
 use Rattle.fc_type_table.specs.Binders.{binder_kinds, kinds_past}
 use Rattle.fc_type_table.proofs.BinderKinds.{binder_kinds-append, kinds_past-last, length-binder_kinds, type_count-append}
 
@@ -41,19 +41,19 @@ module _ (bs upto p : List NBinder) (b : NBinder) (rest : List NBinder) (r : Rea
   pub kinds_counted : type_count upto ≡ type_count p + type_count (b ∷ [])
   kinds_counted = ap type_count r.last ∙ type_count-append p (b ∷ [])
 
-  pub kinds_before : (all : List LocalKind) → own_kinds all ≡ binder_kinds bs → type_count p ≤ length all
+  pub kinds_before : (all : List NumberedKind) → own_kinds all ≡ binder_kinds bs → type_count p ≤ length all
   kinds_before all k =
       let n : length all ≡ type_count p + type_count (b ∷ rest) =
-      sym (length-map all (λ (j : LocalKind). kind_of j.kind.now)) ∙ ap length k ∙ length-binder_kinds bs ∙ ap type_count r.whole ∙ type_count-append p (b ∷ rest) in
+      sym (length-map all (λ (j : NumberedKind). kind_of j.kind.now)) ∙ ap length k ∙ length-binder_kinds bs ∙ ap type_count r.whole ∙ type_count-append p (b ∷ rest) in
       omega arith
 
   -- the kinds of the type variables before the binder
-  pub kinds_there : (all : List LocalKind) (ks : List Kind) (n : ℕ) → own_kinds all ≡ binder_kinds bs → n ≡ type_count p → reverse (own_kinds (take n all)) ++ ks ≡ kinds_past p ks
+  pub kinds_there : (all : List NumberedKind) (ks : List Kind) (n : ℕ) → own_kinds all ≡ binder_kinds bs → n ≡ type_count p → reverse (own_kinds (take n all)) ++ ks ≡ kinds_past p ks
   unfolding kinds_past
   kinds_there all ks n k e =
       let m : n ≡ length (binder_kinds p) = e ∙ sym (length-binder_kinds p) in
       let own : own_kinds (take n all) ≡ binder_kinds p =
-      sym (take-map (λ (j : LocalKind). kind_of j.kind.now) n all) ∙ ap (take n) (k ∙ ap binder_kinds r.whole ∙ binder_kinds-append p (b ∷ rest))
+      sym (take-map (λ (j : NumberedKind). kind_of j.kind.now) n all) ∙ ap (take n) (k ∙ ap binder_kinds r.whole ∙ binder_kinds-append p (b ∷ rest))
       ∙ ap (λ i. take i (binder_kinds p ++ binder_kinds (b ∷ rest))) m ∙ take-append_seam (binder_kinds p) (binder_kinds (b ∷ rest)) in
       ap (λ js. reverse js ++ ks) own
 

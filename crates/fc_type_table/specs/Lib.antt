@@ -1,11 +1,13 @@
 pub mod Names
 pub mod Trees
 pub mod TreeKinds
+pub mod TreeFaults
 pub mod Nodes
 pub mod Instances
 pub mod Facts
 pub mod Told
 pub mod Scopes
 pub mod Binders
+pub mod InScope
 pub mod TypeTables
 pub mod Walks

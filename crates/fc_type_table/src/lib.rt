@@ -5,11 +5,13 @@
 
 mod building;
 mod closing;
+mod faults;
 mod instance;
 mod judging;
 mod kinds;
 mod naming;
 mod node;
+mod numbered;
 mod opening;
 mod over;
 mod parts;
@@ -18,4 +20,5 @@ mod spot;
 mod table;
 
 pub use node::{NameKey, Piece, TypeId};
+pub use numbered::{NumberedKind, NumberedKinds};
 pub use table::TypeTable;

@@ -2,15 +2,15 @@
 ghost use Rattle.std.specs.Prelude.{◌≡◌, ◌-◌, ◌<◌, ◌≤◌, [], ◌∷◌, length, IfOk, OnOk};
 ghost use Rattle.fc_model.specs.Calling.{binders_to, type_count};
 ghost use Rattle.fc_model.specs.NamelessView.{nbinder_of, nbinders_of};
-ghost use Rattle.fc_types.specs.KindViews.{kinds_of, own_kinds};
 ghost use Rattle.fc_type_table.specs.Binders.{AreScopedBinders, binder_kinds, tree_over};
+ghost use Rattle.fc_type_table.specs.InScope.{AreNumbered, IsScopeAt, kinds_of, own_kinds};
 ghost use Rattle.fc_type_table.specs.Nodes.{Extends, tree_at};
 ghost use Rattle.fc_type_table.specs.TypeTables.{Grows, IsType, modules_in, nodes_of, shown};
 
 use crate::node::{Piece, TypeId};
+use crate::numbered::{NumberedKind, NumberedKinds};
 use crate::table::TypeTable;
 use fc_syntax::{Memory, NBinder};
-use fc_types::{Kinds, LocalKind};
 
 /// How many type variables all but the last of binders bind, which is this one, where all of them bind so many.
 fn count_before(count: u32, binder: &NBinder) -> u32
@@ -30,12 +30,13 @@ impl<'a> TypeTable<'a> {
     fn over_binder<'x>(
         &mut self,
         binder: &'a NBinder,
-        kinds: &'x Kinds<'x>,
+        kinds: &'x NumberedKinds<'x>,
         context: u32,
         binders: u32,
         body: TypeId,
     ) -> Result<TypeId, Memory>
-        requires { body.0 < length (nodes_of self.old) }
+        requires body_in { body.0 < length (nodes_of self.old) }
+        requires numbered { IsScopeAt (nodes_of self.old) kinds.now }
         ensures within { IfOk result (λ id. id.0 < length (nodes_of self.new)) }
         ensures shown { IfOk result (λ id. tree_at (nodes_of self.new) id.0 ≡ tree_over context (kinds_of kinds.now) binders (nbinder_of binder.now) (tree_at (nodes_of self.old) body.0)) }
         ensures extends { OnOk result (Extends (nodes_of self.old) (nodes_of self.new)) }
@@ -64,13 +65,15 @@ impl<'a> TypeTable<'a> {
     pub fn read_over<'x>(
         &mut self,
         binders: &'a [NBinder],
-        own: &'x [LocalKind<'x>],
-        outer: &'x Kinds<'x>,
+        own: &'x [NumberedKind<'x>],
+        outer: &'x NumberedKinds<'x>,
         variables: u32,
         answer: TypeId,
     ) -> Result<TypeId, Memory>
         requires count { variables ≡ length (kinds_of outer.now) }
         requires own { own_kinds own.now ≡ binder_kinds (nbinders_of binders.now) }
+        requires own_numbered { AreNumbered (nodes_of self.old) own.now }
+        requires outer_numbered { IsScopeAt (nodes_of self.old) outer.now }
         requires scoped { AreScopedBinders variables (nbinders_of binders.now) }
         requires answer_in { IsType self.old (kinds_of outer.now) answer }
         ensures valid { IfOk result (λ id. IsType self.new (kinds_of outer.now) id) }
@@ -86,7 +89,7 @@ impl<'a> TypeTable<'a> {
             at -= 1;
             let binder = &binders[at];
             count = count_before(count, binder);
-            let kinds = Kinds::Group(&own[..count as usize], outer);
+            let kinds = NumberedKinds::Group(&own[..count as usize], outer);
             whole = self.over_binder(binder, &kinds, variables, count, whole)?;
         }
         Ok(whole)

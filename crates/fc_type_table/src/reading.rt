@@ -1,58 +1,30 @@
 //! Types put into the table.
 ghost use Rattle.std.specs.Prelude.{◌≡◌, ◌<◌, ◌≤◌, length, IfOk, OnOk};
-ghost use Rattle.std.specs.Option.{option_map};
-ghost use Rattle.fc_syntax.specs.View.{kind_of};
-ghost use Rattle.fc_model.specs.Faulting.{at_distance};
 ghost use Rattle.fc_model.specs.Nameless.{NTVar};
 ghost use Rattle.fc_model.specs.NamelessView.{nty_of};
 ghost use Rattle.fc_model.specs.Substituting.{IsScopedType};
-ghost use Rattle.fc_model.specs.Typing.{answered};
-ghost use Rattle.fc_types.specs.KindViews.{kinds_of};
+ghost use Rattle.fc_type_table.specs.InScope.{IsScopeAt, kinds_of};
 ghost use Rattle.fc_type_table.specs.Nodes.{Extends, tree_at};
 ghost use Rattle.fc_type_table.specs.Scopes.{label, leveled};
 ghost use Rattle.fc_type_table.specs.TypeTables.{Grows, IsType, modules_in, nodes_of, shown};
 
 use crate::node::{DEEPEST, NameKey, Piece, TypeId};
+use crate::numbered::{NumberedKind, NumberedKinds, number_at};
 use crate::table::TypeTable;
-use fc_syntax::{Kind, Memory, NTy};
-use fc_types::Kinds;
-
-/// The kind of the type variable at a distance, if there is one.
-#[tactic(auto, using(fc_types::proofs::LocalKinds::kind_rules))]
-fn kind_at_distance<'x>(kinds: &'x Kinds<'x>, distance: u32) -> Option<&'x Kind>
-    ensures { option_map (λ k. kind_of k.now) result ≡ answered (at_distance (kinds_of kinds.now) distance) }
-{
-    match kinds {
-        Kinds::End => None,
-        Kinds::Kind(kind, rest) => {
-            if distance == 0 {
-                Some(*kind)
-            } else {
-                kind_at_distance(*rest, distance - 1)
-            }
-        }
-        Kinds::Group(own, rest) => {
-            let count = own.len();
-            let place = distance as usize;
-            if place < count {
-                Some(own[count - 1 - place].kind)
-            } else {
-                kind_at_distance(*rest, (place - count) as u32)
-            }
-        }
-    }
-}
+use fc_syntax::{Memory, NTy};
 
 impl<'a> TypeTable<'a> {
     /// The number of what a variable carries: its kind.
-    fn read_label(&mut self, kinds: &Kinds, index: u32) -> Result<TypeId, Memory>
+    #[tactic(auto, using(crate::proofs::KindsInScope::label_rules))]
+    fn read_label(&mut self, kinds: &NumberedKinds, index: u32) -> Result<TypeId, Memory>
+        requires numbered { IsScopeAt (nodes_of self.old) kinds.now }
         ensures within { IfOk result (λ id. id.0 < length (nodes_of self.new)) }
         ensures shown { IfOk result (λ id. tree_at (nodes_of self.new) id.0 ≡ label (kinds_of kinds.now) index) }
         ensures extends { OnOk result (Extends (nodes_of self.old) (nodes_of self.new)) }
         ensures modules { OnOk result (modules_in self.new ≡ modules_in self.old) }
     {
-        match kind_at_distance(kinds, index) {
-            Some(kind) => self.put_kind(kind, 0),
+        match number_at(kinds, index) {
+            Some(kind) => Ok(kind.id),
             None => self.star(),
         }
     }
@@ -63,10 +35,11 @@ impl<'a> TypeTable<'a> {
     fn read_variable(
         &mut self,
         index: u32,
-        kinds: &Kinds,
+        kinds: &NumberedKinds,
         context: u32,
         binders: u32,
     ) -> Result<TypeId, Memory>
+        requires numbered { IsScopeAt (nodes_of self.old) kinds.now }
         ensures within { IfOk result (λ id. id.0 < length (nodes_of self.new)) }
         ensures shown { IfOk result (λ id. tree_at (nodes_of self.new) id.0 ≡ leveled context (kinds_of kinds.now) binders (NTVar index)) }
         ensures extends { OnOk result (Extends (nodes_of self.old) (nodes_of self.new)) }
@@ -83,16 +56,17 @@ impl<'a> TypeTable<'a> {
 
     /// The number of a part of a type, under so many binders of the type, so deep in it. The kinds are those of the type's own
     /// variables and of the so many of the context.
-    #[tactic(auto, using(fc_syntax::proofs::View::view_rules), unfolding(crate::specs::Scopes::leveled))]
+    #[tactic(auto, using(fc_syntax::proofs::View::view_rules, crate::proofs::KindsInScope::numbered_rules), unfolding(crate::specs::Scopes::leveled))]
     pub(crate) fn read_part<'x>(
         &mut self,
         t: &'a NTy,
-        kinds: &'x Kinds<'x>,
+        kinds: &'x NumberedKinds<'x>,
         context: u32,
         binders: u32,
         nested: u32,
     ) -> Result<TypeId, Memory>
-        requires { binders ≤ nested }
+        requires nested { binders ≤ nested }
+        requires numbered { IsScopeAt (nodes_of self.old) kinds.now }
         ensures within { IfOk result (λ id. id.0 < length (nodes_of self.new)) }
         ensures shown { IfOk result (λ id. tree_at (nodes_of self.new) id.0 ≡ leveled context (kinds_of kinds.now) binders (nty_of t.now)) }
         ensures extends { OnOk result (Extends (nodes_of self.old) (nodes_of self.new)) }
@@ -119,8 +93,12 @@ impl<'a> TypeTable<'a> {
                 self.intern(Piece::Fun(from, to))
             }
             NTy::Forall(_, variable, body) => {
-                let inner = Kinds::Kind(&*variable, &*kinds);
                 let kind = self.put_kind(variable, nested + 1)?;
+                let variable = NumberedKind {
+                    kind: &*variable,
+                    id: kind,
+                };
+                let inner = NumberedKinds::Kind(variable, &*kinds);
                 let body = self.read_part(body, &inner, context, binders + 1, nested + 1)?;
                 self.intern(Piece::Forall(kind, body))
             }
@@ -137,10 +115,11 @@ impl<'a> TypeTable<'a> {
     pub fn read<'x>(
         &mut self,
         t: &'a NTy,
-        kinds: &'x Kinds<'x>,
+        kinds: &'x NumberedKinds<'x>,
         variables: u32,
     ) -> Result<TypeId, Memory>
         requires count { variables ≡ length (kinds_of kinds.now) }
+        requires numbered { IsScopeAt (nodes_of self.old) kinds.now }
         requires scoped { IsScopedType variables (nty_of t.now) }
         ensures valid { IfOk result (λ id. IsType self.new (kinds_of kinds.now) id) }
         ensures view { IfOk result (λ id. shown self.new (kinds_of kinds.now) id ≡ nty_of t.now) }
@@ -153,10 +132,11 @@ impl<'a> TypeTable<'a> {
     pub fn variable<'x>(
         &mut self,
         distance: u32,
-        kinds: &'x Kinds<'x>,
+        kinds: &'x NumberedKinds<'x>,
         variables: u32,
     ) -> Result<TypeId, Memory>
         requires count { variables ≡ length (kinds_of kinds.now) }
+        requires numbered { IsScopeAt (nodes_of self.old) kinds.now }
         requires scoped { distance < variables }
         ensures valid { IfOk result (λ id. IsType self.new (kinds_of kinds.now) id) }
         ensures view { IfOk result (λ id. shown self.new (kinds_of kinds.now) id ≡ NTVar distance) }

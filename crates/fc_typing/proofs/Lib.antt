@@ -1,3 +1,4 @@
 pub mod BinderWords
+pub mod BoundKinds
 pub mod EqualityLemmas
 pub mod Imported

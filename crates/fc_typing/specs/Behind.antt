@@ -7,7 +7,7 @@ use Rattle.fc_model.specs.Faulting.{F, and_then}
 use Rattle.fc_model.specs.Kinding.{Modules, kind_or_fault}
 use Rattle.fc_model.specs.Nameless.{NBinder, NTy}
 use Rattle.fc_model.specs.Resolution.{Locals, Top, enter_all, no_locals, no_words, resolved_binders, resolved_co, resolved_expr, resolved_ty}
-use Rattle.fc_model.specs.Typing.{Context, no_context, type_or_fault, with_binders}
+use Rattle.fc_model.specs.Typing.{Context, no_context, type_or_fault, type_read_off, with_binders}
 
 -- binders in their nameless form, or the first fault of names in them
 abbrev pub forms_of_binders : Top → List Binder → Result (List NBinder) F
@@ -38,6 +38,12 @@ abbrev pub type_judged : Modules → Top → List Binder → Expr → Result NTy
 type_judged ms top bs e =
     and_then (forms_of_binders top bs) (λ ns.
     and_then (resolved_expr top (locals_behind bs) e) (λ n. type_or_fault ms (context_behind ns) n))
+
+-- the type of an expression read off behind binders, if there is one, or the first fault of names
+abbrev pub read_off : Modules → Top → List Binder → Expr → Result (Option NTy) F
+read_off ms top bs e =
+    and_then (forms_of_binders top bs) (λ ns.
+    and_then (resolved_expr top (locals_behind bs) e) (λ n. Ok (type_read_off ms (context_behind ns) n)))
 
 -- a `forall` at a type behind binders, if the first type is one, or the first fault of names
 abbrev pub instance_judged : Top → List Binder → Ty → Ty → Result (Option NTy) F

@@ -24,13 +24,13 @@ pub record AreEndsOf (own : Word) (ws : List Word) (e : Ends) (judged : Result m
   pub left_means : meant own ws (ty_of e.left) ≡ Ok left
   pub right_means : meant own ws (ty_of e.right) ≡ Ok right
 
--- the instance that is judged to be is the one that the answer means
-pub record IsInstance (own : Word) (ws : List Word) (t : trees.Ty) (judged : Result (Option NTy) F) : Type 0 where
+-- the type that is judged to be there is the one that the answer means
+pub record IsFoundType (own : Word) (ws : List Word) (t : trees.Ty) (judged : Result (Option NTy) F) : Type 0 where
   pub form : NTy
   pub answer : judged ≡ Ok (Some form)
   pub means : meant own ws t ≡ Ok form
 
 -- the same, or there is none
-abbrev pub IsInstanceOf : Word → List Word → Option (Ty (List ℕ)) → Result (Option NTy) F → Type 0
-IsInstanceOf own ws None judged = judged ≡ Ok None
-IsInstanceOf own ws (Some t) judged = IsInstance own ws (ty_of t) judged
+abbrev pub IsFoundTypeOf : Word → List Word → Option (Ty (List ℕ)) → Result (Option NTy) F → Type 0
+IsFoundTypeOf own ws None judged = judged ≡ Ok None
+IsFoundTypeOf own ws (Some t) judged = IsFoundType own ws (ty_of t) judged

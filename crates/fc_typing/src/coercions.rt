@@ -26,8 +26,8 @@ use fc_resolve_parts::resolved_co;
 use fc_scope::Scope;
 use fc_syntax::{Co, NBinder, NCo};
 use fc_type_scope::Entered as Bound;
-use fc_type_table::TypeTable;
-use fc_types::{Declarations, Kinds};
+use fc_type_table::{NumberedKinds, TypeTable};
+use fc_types::Declarations;
 use std::alloc::Global;
 
 /// What a coercion proves behind binders that were entered in this context.
@@ -72,7 +72,7 @@ fn ends_entered<'x, 'd, 'a>(
     ensures told { IfOk result (λ e. AreEndsOf (own_of words.entry) (types_of words.entry) e (ends_or_fault (modules_read declared.now) (context_behind (nbinders_of binders.now)).kinds (context_behind (nbinders_of binders.now)).coercions (nco_of g.now))) }
     ensures fault { IfErr result (λ e. Refuses e (ends_or_fault (modules_read declared.now) (context_behind (nbinders_of binders.now)).kinds (context_behind (nbinders_of binders.now)).coercions (nco_of g.now))) }
 {
-    let kinds = Kinds::End;
+    let kinds = NumberedKinds::End;
     let outside = Context::closed(declared, &kinds);
     let bound = outside.scope.enter(alloc, binders, types)?;
     ends_inside(alloc, g, binders, &bound, types, &outside, words)

@@ -19,14 +19,14 @@ ghost use Rattle.fc_typing.specs.Wording.{own_of, types_of};
 use crate::environment::TypeEnv;
 use crate::naming::{Words, words_of};
 use fc_lint_context::{Context, DeclaredTypes};
-use fc_lint_expr::type_of;
+use fc_lint_expr::judge;
 use fc_model::Flawed;
 use fc_resolve::resolved_expr;
 use fc_scope::Scope;
 use fc_syntax::{Expr, NBinder, NExpr, Ty};
 use fc_type_scope::Entered as Bound;
-use fc_type_table::TypeTable;
-use fc_types::{Declarations, Kinds};
+use fc_type_table::{NumberedKinds, TypeTable};
+use fc_types::Declarations;
 use std::alloc::Global;
 
 /// The type of an expression behind binders that were entered in this context.
@@ -50,7 +50,7 @@ fn type_inside<'x, 'd, 'a>(
 {
     let kinds = bound.kinds_behind(outside.scope.kinds);
     let inside = (&*outside).behind_binders(&*bound, &kinds);
-    let found = type_of(alloc, e, types, &inside)?;
+    let found = judge(alloc, e, types, &inside)?;
     Ok(words.named(alloc, found, types)?)
 }
 
@@ -71,7 +71,7 @@ fn type_entered<'x, 'd, 'a>(
     ensures told { IfOk result (λ t. IsTypeOf (own_of words.entry) (types_of words.entry) (ty_of t) (type_or_fault (modules_read declared.now) (context_behind (nbinders_of binders.now)) (nexpr_of e.now))) }
     ensures fault { IfErr result (λ f. Refuses f (type_or_fault (modules_read declared.now) (context_behind (nbinders_of binders.now)) (nexpr_of e.now))) }
 {
-    let kinds = Kinds::End;
+    let kinds = NumberedKinds::End;
     let outside = Context::closed(declared, &kinds);
     let bound = outside.scope.enter(alloc, binders, types)?;
     type_inside(alloc, e, binders, &bound, types, &outside, words)

@@ -1,11 +1,12 @@
 //! Kinds of named types.
-ghost use Rattle.std.specs.Prelude.{◌≡◌, ◌++◌, reverse};
+ghost use Rattle.std.specs.Prelude.{◌≡◌, ◌++◌, [], ◌∷◌, IfOk, OnOk};
 ghost use Rattle.fc_syntax.specs.View.{kind_of as kind_shown, ty_of};
 ghost use Rattle.fc_model.specs.Kinding.{kind_or_fault};
-ghost use Rattle.fc_model.specs.NamelessView.{nbinders_of, nty_of};
+ghost use Rattle.fc_model.specs.NamelessView.{nbinder_of, nbinders_of, nty_of};
 ghost use Rattle.fc_model.specs.Says.{Says};
 ghost use Rattle.fc_types.specs.ModuleViews.{modules_of};
-ghost use Rattle.fc_types.specs.KindViews.{kinds_of, own_kinds};
+ghost use Rattle.fc_types.specs.KindViews.{own_kinds};
+ghost use Rattle.fc_type_table.specs.Binders.{binder_kinds};
 ghost use Rattle.fc_typing.specs.Behind.{context_behind, kind_judged};
 ghost use Rattle.fc_typing.specs.Environments.{binders_known, modules_known, top_known};
 
@@ -13,42 +14,46 @@ use crate::environment::TypeEnv;
 use fc_model::Flawed;
 use fc_resolve_parts::resolved_ty;
 use fc_scope::Scope;
-use fc_syntax::{Kind, NBinder, NTy, Ty};
-use fc_type_scope::{Entered as Bound, TypeScope};
-use fc_type_table::TypeTable;
-use fc_types::{Declarations, Kinds, kind};
+use fc_syntax::{Kind, Memory, NBinder, NTy, Seq, Ty};
+use fc_types::{Declarations, Kinds, LocalKind, kind};
 use std::alloc::Global;
 
-/// The kind of a type behind binders that were entered among these type variables.
-#[tactic(auto, using(fc_type_scope::proofs::PastBinders::entry_rules))]
-fn kind_inside<'x, 'a>(
-    alloc: Global,
-    t: &NTy,
-    declared: &Declarations,
-    bound: &'x Bound<'a>,
-    outside: &'x Kinds<'x>,
-) -> Result<Kind, Flawed>
-    ensures { Says kind_shown result (kind_or_fault (modules_of declared.now) (reverse (own_kinds bound.now.kinds) ++ kinds_of outside.now) (nty_of t.now)) }
+/// Puts the kind of a binder's type variable, if it binds one, behind others.
+#[tactic(auto, using(std::proofs::lemmas::Grind::common_steps, crate::proofs::BoundKinds::kinds_push), unfolding(fc_type_table::specs::Binders::binder_kinds))]
+fn add_bound<'a>(own: &mut Seq<LocalKind<'a>>, binder: &'a NBinder) -> Result<(), Memory>
+    ensures { OnOk result (own_kinds own.new ≡ own_kinds own.old ++ binder_kinds (nbinder_of binder.now ∷ [])) }
 {
-    let kinds = bound.kinds_behind(&*outside);
-    kind(alloc, t, declared, &kinds)
+    match binder {
+        NBinder::Value(_, _) => Ok(()),
+        NBinder::OfType(_, kind) => own.push(LocalKind { kind }),
+        NBinder::OfCo(_, _, _, _) => Ok(()),
+    }
+}
+
+/// The kinds of the type variables that binders bind, in their order. Fails only where memory runs out.
+fn kinds_bound<'a>(alloc: Global, binders: &'a [NBinder]) -> Result<Seq<LocalKind<'a>>, Memory>
+    ensures { IfOk result (λ ks. own_kinds ks ≡ binder_kinds (nbinders_of binders.now)) }
+{
+    let mut kinds = Seq::new(alloc);
+    for binder in binders {
+        add_bound(&mut kinds, binder)?;
+    }
+    Ok(kinds)
 }
 
 /// The kind of a type behind binders.
-#[tactic(auto, using(fc_type_scope::proofs::PastBinders::entry_rules))]
 fn kind_behind<'a>(
     alloc: Global,
     t: &NTy,
     binders: &'a [NBinder],
-    declared: &'a Declarations,
+    declared: &Declarations,
 ) -> Result<Kind, Flawed>
     ensures { Says kind_shown result (kind_or_fault (modules_of declared.now) (context_behind (nbinders_of binders.now)).kinds (nty_of t.now)) }
 {
-    let mut types = TypeTable::new(alloc, declared);
-    let kinds = Kinds::End;
-    let outside = TypeScope { kinds: &kinds };
-    let bound = outside.enter(alloc, binders, &mut types)?;
-    kind_inside(alloc, t, declared, &bound, &kinds)
+    let bound = kinds_bound(alloc, binders)?;
+    let around = Kinds::End;
+    let kinds = Kinds::Group(bound.as_slice(), &around);
+    kind(alloc, t, declared, &kinds)
 }
 
 /// The kind of a type in an environment, or the first fault: of names in the binders in scope and then in the type (`Unbound`, and

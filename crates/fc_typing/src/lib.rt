@@ -9,6 +9,7 @@ mod expressions;
 mod instances;
 mod kinds;
 mod naming;
+mod reading;
 
 pub use coercions::ends;
 pub use environment::TypeEnv;
@@ -17,3 +18,4 @@ pub use expressions::lint;
 pub use instances::instantiate;
 pub use kinds::kind_of;
 pub use naming::Ends;
+pub use reading::type_of;

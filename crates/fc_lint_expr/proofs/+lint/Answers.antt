@@ -7,7 +7,7 @@ use Rattle.fc_type_scope.specs.declared.ends.Ends as proven
 use Rattle.fc_lint_calls.proofs.Givens.{AreGivenAt-push, givens-push}
 use Rattle.fc_lint_calls.specs.AltViews.{before_of}
 use Rattle.fc_lint_calls.specs.GivenViews.{given_at, given_in, givens_at, givens_in}
-use Rattle.fc_lint_context.proofs.Contexts.{IsContextAt-grows, context_at-grows, context_kinds, scope_is}
+use Rattle.fc_lint_context.proofs.Contexts.{IsContextAt-grows, context_at-grows, context_kinds}
 use Rattle.fc_lint_context.proofs.Reached.{AreJoinsAt-grows, shown_joins-grows}
 use Rattle.fc_lint_context.specs.ContextViews.{context_at, context_in, modules_of_context}
 use Rattle.fc_lint_context.specs.JoinViews.{AreJoinsAt, join_points, shown_join, shown_joins_at}
@@ -29,7 +29,6 @@ use Rattle.fc_model.specs.NamelessView.{nalt_of, nalts_of, narg_of, nargs_of, nb
 use Rattle.fc_model.specs.Says.{Refuses, Says}
 use Rattle.fc_model.specs.Typing.{Context, Start, alt_judged, alts_judged, argument_given, bind_judged, cast, found_constructed, is_atom, join_judged, joins_judged, jumped, kinds_behind, operated, type_or_fault, with_binder, without_joins}
 use Rattle.fc_syntax.proofs.View.{view_rules}
-use Rattle.fc_syntax.specs.View.{kind_of}
 use Rattle.fc_syntax.specs.declared.expr.Binder.{Binder}
 use Rattle.fc_syntax.specs.declared.fault.FaultKind.TheVariants.{ConArity, JumpArity, JumpNotTail, NotAType, Unbound}
 use Rattle.fc_syntax.specs.declared.ty.Ref.{Ref}
@@ -42,46 +41,40 @@ use Rattle.fc_type_scope.specs.EndViews.{shown_ends}
 use Rattle.fc_type_scope.specs.Scopes.{AreTypesAt, scope_in, shown_all_at}
 use Rattle.fc_type_table.proofs.Numbers.{Extends-further, Grows-further, Grows-refl, shown_at-grows}
 use Rattle.fc_type_table.specs.Scopes.{shown_at}
-use Rattle.fc_type_table.specs.TypeTables.{modules_in, nodes_of, shown}
+use Rattle.fc_type_scope.proofs.ScopeKinds.{scope_grows}
+use Rattle.fc_type_scope.specs.declared.scope.Kinded.{Kinded}
+use Rattle.fc_type_table.specs.TypeTables.{kind_shown, modules_in, nodes_of, shown}
 use Rattle.fc_type_table.specs.declared.node.TypeId.{TypeId}
-use Rattle.fc_types.specs.KindViews.{kinds_of}
 use Rattle.fc_types.specs.TableViews.{constructor_of}
 use Rattle.std.proofs.Common.{Err, List, Ok, Result, [], ap, arith, drop, rules, subst, sym, ℕ, ◌+◌, ◌∙◌, ◌∷◌, ◌≡◌}
 use Rattle.std.specs.Prelude.{not, ◌&&◌}
 
--- src/arguments.rt:43:22
-pub arguments::argument-returns-in_err-of-in-OfType-clause-says :
-    goal.arguments::argument-returns-in_err-of-in-OfType-clause-says
-arguments::argument-returns-in_err-of-in-OfType-clause-says t c =
+pub arguments::argument-returns-in_err-read-in-OfType-clause-says :
+    goal.arguments::argument-returns-in_err-read-in-OfType-clause-says
+arguments::argument-returns-in_err-read-in-OfType-clause-says t c =
     let ctx = c.args.context.now in
     let ks = scope_in ctx.scope in
     let t0 = nty_of c.in-OfType.t in
     let here : narg_of c.args.arg.now ≡ NAType t0 = search (rules, view_rules) in
-    let kinds : (context_in c.args.types.now ctx).kinds ≡ kinds_of ctx.scope.kinds.now = context_kinds (nodes_of c.args.types.now) ctx ∙ scope_is ctx.scope in
-    let whole = type_judged (modules_of_context ctx) (context_in c.args.types.now ctx) (narg_of c.args.arg.now) t0 (kinds_of ctx.scope.kinds.now) here kinds in
-    let view = λ (g : arguments.Given). given_in c.args.types.now ks g in
-    let e = c.in_err-of-in-OfType.field-0.0 in
-    let judged = kind_or_fault (modules_of_context ctx) (kinds_of ctx.scope.kinds.now) t0 in
+    let whole = type_judged (modules_of_context ctx) (context_in c.args.types.now ctx) (narg_of c.args.arg.now) t0 ks here (context_kinds (nodes_of c.args.types.now) ctx) in
+    let view = λ (g : arguments.Given). given_in c.kinded.new.types ks g in
+    let seen = λ (k : Kinded). kind_shown c.kinded.new.types k.kind in
+    let e = c.in_err-read-in-OfType.field-0.0 in
+    let judged = kind_or_fault (modules_of_context ctx) ks t0 in
     let refused : Says view (Err e) (argument_given (modules_of_context ctx) (context_in c.args.types.now ctx) (narg_of c.args.arg.now)) =
-    err_of view e (and_then judged (λ k. Ok (GivenType t0 k))) _ whole (err_says kind_of view e judged (λ k. Ok (GivenType t0 k)) c.in_err-of-in-OfType.ensures) in
+    err_of view e (and_then judged (λ k. Ok (GivenType t0 k))) _ whole (err_says seen view e judged (λ k. Ok (GivenType t0 k)) c.in_err-read-in-OfType.ensures.says) in
     search rules
 
--- src/arguments.rt:23:1
-pub arguments::argument-returns-in_ok-ty-in-OfType-clause-says :
-    goal.arguments::argument-returns-in_ok-ty-in-OfType-clause-says
-arguments::argument-returns-in_ok-ty-in-OfType-clause-says t c =
+pub arguments::argument-returns-in_ok-read-in-OfType-clause-says :
+    goal.arguments::argument-returns-in_ok-read-in-OfType-clause-says
+arguments::argument-returns-in_ok-read-in-OfType-clause-says t c =
     let ctx = c.args.context.now in
+    let ks = scope_in ctx.scope in
     let t0 = nty_of c.in-OfType.t in
     let here : narg_of c.args.arg.now ≡ NAType t0 = search (rules, view_rules) in
-    let kinds : (context_in c.args.types.now ctx).kinds ≡ kinds_of ctx.scope.kinds.now = context_kinds (nodes_of c.args.types.now) ctx ∙ scope_is ctx.scope in
-    type_given (modules_of_context ctx) (context_in c.args.types.now ctx) (narg_of c.args.arg.now) t0 (kinds_of ctx.scope.kinds.now) here kinds
-    (kind_of c.in_ok-of-in-OfType.of) (shown c.read.new.types (scope_in ctx.scope) c.in_ok-ty-in-OfType.ty) c.in_ok-of-in-OfType.ensures c.in_ok-ty-in-OfType.ensures.view
-
--- src/arguments.rt:23:1
-pub arguments::argument-returns-in_ok-ty-in-OfType-clause-context :
-    goal.arguments::argument-returns-in_ok-ty-in-OfType-clause-context
-arguments::argument-returns-in_ok-ty-in-OfType-clause-context t c =
-    IsContextAt-grows (nodes_of c.args.types.now) (nodes_of c.read.new.types) c.args.context.now c.in_ok-ty-in-OfType.ensures.grows.nodes c.requires.context
+    let read = c.in_ok-read-in-OfType.read in
+    type_given (modules_of_context ctx) (context_in c.args.types.now ctx) (narg_of c.args.arg.now) t0 ks here (context_kinds (nodes_of c.args.types.now) ctx)
+    (kind_shown c.kinded.new.types read.kind) (shown c.kinded.new.types ks read.ty) c.in_ok-read-in-OfType.ensures.says c.in_ok-read-in-OfType.ensures.view
 
 pub arguments::argument-returns-in_err-ends-in-OfCo-clause-says :
     goal.arguments::argument-returns-in_err-ends-in-OfCo-clause-says
@@ -113,7 +106,6 @@ arguments::argument-returns-in_ok-ends-in-OfCo-clause-says t c =
     let whole = coercion_judged ms old (narg_of c.args.arg.now) co ks here (context_kinds (nodes_of c.args.types.now) ctx) in
     whole ∙ ap (λ (r : Result Ends F). and_then {X = Ends} {Y = Given} r (λ p. Ok (GivenCoercion p.role p.left p.right))) c.in_ok-ends-in-OfCo.ensures.says
 
--- src/arguments.rt:90:5
 pub arguments::arguments-loop-arg-init : goal.arguments::arguments-loop-arg-init
 arguments::arguments-loop-arg-init t c =
     let ctx = c.args.context.now in
@@ -127,7 +119,6 @@ arguments::arguments-loop-arg-init t c =
       so_far = given_start ns ks c.new-given.result c.new-given.ensures (args_from (modules_of_context ctx) (context_in c.args.types.now ctx) 0 c.args.args.now);
     }
 
--- src/arguments.rt:91:20
 pub arguments::arguments-returns-in_err-next-clause-says :
     goal.arguments::arguments-returns-in_err-next-clause-says
 arguments::arguments-returns-in_err-next-clause-says t c =
@@ -144,7 +135,6 @@ arguments::arguments-returns-in_err-next-clause-says t c =
     (λ (g : arguments.Given). given_in c.argument_of_part.new.types ks g) (λ (gs : List arguments.Given). givens_in c.argument_of_part.new.types ks gs) c.in_err-next.field-0.0 c.in_err-next.ensures.says in
     search rules
 
--- src/arguments.rt:90:5
 pub arguments::arguments-loop-arg-preserved : goal.arguments::arguments-loop-arg-preserved
 arguments::arguments-loop-arg-preserved t c =
     let ctx = c.args.context.now in
@@ -167,7 +157,6 @@ arguments::arguments-loop-arg-preserved t c =
           (givens_at k2 ks c.push.new.self) (given_at k2 ks g) c.in_ok-part.part e.says (givens-push k1 k2 ks l.given c.push.new.self g e.grows.nodes l.invariant.are_given c.in_ok-push.ensures.ok) c.in_ok-part.ensures.next;
     }
 
--- src/arguments.rt:74:1
 pub arguments::arguments-returns-clause-says : goal.arguments::arguments-returns-clause-says
 arguments::arguments-returns-clause-says t c =
     let ctx = c.args.context.now in
@@ -176,14 +165,12 @@ arguments::arguments-returns-clause-says t c =
     let old = context_in c.args.types.now ctx in
     args_end ms old (args_from ms old 0 c.args.args.now) (givens_in l.types (scope_in ctx.scope) l.given) l.part c.args.args.now l.arg-index l.invariant.so_far c.loop-arg-test.false
 
--- src/arguments.rt:99:1
 pub arguments::operand_of_part-returns-in-Ok-clause-says :
     goal.arguments::operand_of_part-returns-in-Ok-clause-says
 arguments::operand_of_part-returns-in-Ok-clause-says t c =
     let ctx = c.args.context.now in
-    operand_ok (modules_of_context ctx) (context_in c.args.types.now ctx) c.args.part c.args.e.now (shown c.type_of.new.types (scope_in ctx.scope) c.in-Ok.ty) c.is_atom.result c.in-Ok.ensures.says c.is_atom.ensures
+    operand_ok (modules_of_context ctx) (context_in c.args.types.now ctx) c.args.part c.args.e.now (shown c.judge.new.types (scope_in ctx.scope) c.in-Ok.ty) c.is_atom.result c.in-Ok.ensures.says c.is_atom.ensures
 
--- src/arguments.rt:99:1
 pub arguments::operand_of_part-returns-in-Err-clause-says :
     goal.arguments::operand_of_part-returns-in-Err-clause-says
 arguments::operand_of_part-returns-in-Err-clause-says t c =
@@ -193,12 +180,11 @@ arguments::operand_of_part-returns-in-Err-clause-says t c =
     let ks = scope_in ctx.scope in
     let r = type_or_fault ms old (nexpr_of c.args.e.now) in
     let f : NTy → Result Given F = λ u. Ok (GivenTerm u (is_atom (nexpr_of c.args.e.now))) in
-    let given = λ (g : arguments.Given). given_in c.type_of.new.types ks g in
+    let given = λ (g : arguments.Given). given_in c.judge.new.types ks g in
     let q = c.deeper.result in
-    let said = deeper_says (λ (id : TypeId). shown c.type_of.new.types ks id) given c.args.part c.in-Err.flawed q r f c.deeper.ensures c.in-Err.ensures.says in
+    let said = deeper_says (λ (id : TypeId). shown c.judge.new.types ks id) given c.args.part c.in-Err.flawed q r f c.deeper.ensures c.in-Err.ensures.says in
     same_says given (Err q) (and_then (under c.args.part r) f) (operand_given ms old c.args.part c.args.e.now) (operand_is ms old c.args.part c.args.e.now) said
 
--- src/arguments.rt:137:5
 pub arguments::operands-loop-operand-init : goal.arguments::operands-loop-operand-init
 arguments::operands-loop-operand-init t c =
     let ctx = c.args.context.now in
@@ -212,7 +198,6 @@ arguments::operands-loop-operand-init t c =
       so_far = given_start ns ks c.new-given.result c.new-given.ensures (operands_from (modules_of_context ctx) (context_in c.args.types.now ctx) 0 c.args.operands.now);
     }
 
--- src/arguments.rt:138:20
 pub arguments::operands-returns-in_err-next-clause-says :
     goal.arguments::operands-returns-in_err-next-clause-says
 arguments::operands-returns-in_err-next-clause-says t c =
@@ -229,7 +214,6 @@ arguments::operands-returns-in_err-next-clause-says t c =
     (λ (g : arguments.Given). given_in c.operand_of_part.new.types ks g) (λ (gs : List arguments.Given). givens_in c.operand_of_part.new.types ks gs) c.in_err-next.field-0.0 c.in_err-next.ensures.says in
     search rules
 
--- src/arguments.rt:137:5
 pub arguments::operands-loop-operand-preserved : goal.arguments::operands-loop-operand-preserved
 arguments::operands-loop-operand-preserved t c =
     let ctx = c.args.context.now in
@@ -252,7 +236,6 @@ arguments::operands-loop-operand-preserved t c =
           (givens_at k2 ks c.push.new.self) (given_at k2 ks g) c.in_ok-part.part e.says (givens-push k1 k2 ks l.given c.push.new.self g e.grows.nodes l.invariant.are_given c.in_ok-push.ensures.ok) c.in_ok-part.ensures.next;
     }
 
--- src/arguments.rt:121:1
 pub arguments::operands-returns-clause-says : goal.arguments::operands-returns-clause-says
 arguments::operands-returns-clause-says t c =
     let ctx = c.args.context.now in
@@ -261,18 +244,15 @@ arguments::operands-returns-clause-says t c =
     let old = context_in c.args.types.now ctx in
     operands_end ms old (operands_from ms old 0 c.args.operands.now) (givens_in l.types (scope_in ctx.scope) l.given) l.part c.args.operands.now l.operand-index l.invariant.so_far c.loop-operand-test.false
 
--- src/binding.rt:26:1
 pub binding::type_behind-returns-clause-context : goal.binding::type_behind-returns-clause-context
 binding::type_behind-returns-clause-context t c =
     context_after c.type_of_part.result c.args.types.now c.type_of_part.new.types c.args.context.now c.requires.context c.type_of_part.ensures.grows
 
--- src/binding.rt:26:1
 pub binding::type_behind-returns-clause-entered_in :
     goal.binding::type_behind-returns-clause-entered_in
 binding::type_behind-returns-clause-entered_in t c =
     entered_after c.type_of_part.result c.args.types.now c.type_of_part.new.types (scope_in c.args.context.now.scope) (nbinders_of c.args.binders.now) c.args.entered.now c.requires.entered_in c.type_of_part.ensures.grows
 
--- src/binding.rt:74:5
 pub binding::type_below-returns-in_err-body_fits-clause-says :
     goal.binding::type_below-returns-in_err-body_fits-clause-says
 binding::type_below-returns-in_err-body_fits-clause-says t c =
@@ -296,7 +276,6 @@ binding::type_below-returns-in_err-body_fits-clause-says t c =
     let given : c.from_residual-in_err-body_fits.result ≡ Err f = search rules in
     says_err _ f c.from_residual-in_err-body_fits.result _ given (below_refused ms ks (context_at old ctx) b e c.args.owed u f typed c.in_ok-pays.ensures fits)
 
--- src/binding.rt:51:1
 pub binding::type_below-returns-clause-says : goal.binding::type_below-returns-clause-says
 binding::type_below-returns-clause-says t c =
     let ctx = c.args.context.now in
@@ -318,18 +297,15 @@ binding::type_below-returns-clause-says t c =
     ap (λ (x : Modules). need (words.body_fits x ks b u) NotAType (Ok (tt {0}))) (sym grown) ∙ c.in_ok-body_fits.ensures ks (past ∙ kinds_past-one b ks) in
     below_is ms ks (context_at old ctx) b e c.args.owed u typed c.in_ok-pays.ensures fits ∙ ap (λ js. Ok (shown new js c.in_ok-ty.ty)) past
 
--- src/binding.rt:51:1
 pub binding::type_below-returns-clause-context : goal.binding::type_below-returns-clause-context
 binding::type_below-returns-clause-context t c =
     IsContextAt-grows (nodes_of c.args.types.now) (nodes_of c.type_of_part.new.types) c.args.context.now c.in_ok-ty.ensures.grows.nodes c.requires.context
 
--- src/binding.rt:51:1
 pub binding::type_below-returns-clause-entered_in :
     goal.binding::type_below-returns-clause-entered_in
 binding::type_below-returns-clause-entered_in t c =
     entered_grows (nodes_of c.args.types.now) (nodes_of c.type_of_part.new.types) (scope_in c.args.context.now.scope) (nbinder_of c.args.binder.now ∷ []) c.args.entered.now c.in_ok-ty.ensures.grows.nodes c.requires.entered_in
 
--- src/binding.rt:108:16
 pub binding::type_of_lambda-returns-in_err-owed-clause-says :
     goal.binding::type_of_lambda-returns-in_err-owed-clause-says
 binding::type_of_lambda-returns-in_err-owed-clause-says t c =
@@ -337,14 +313,13 @@ binding::type_of_lambda-returns-in_err-owed-clause-says t c =
     let f = c.in_err-owed.field-0.0 in
     let given : c.from_residual.result ≡ Err f = search rules in
     says_err _ f c.from_residual.result _ given
-    (lambda_unowed (modules_of_context ctx) (scope_in ctx.scope) (context_in c.args.types.now ctx) (nbinder_of c.args.binder.now) (nexpr_of c.args.body.now) f (context_kinds (nodes_of c.args.types.now) ctx) c.in_err-owed.ensures)
+    (lambda_unowed (modules_of_context ctx) (scope_in ctx.scope) (context_in c.args.types.now ctx) (nbinder_of c.args.binder.now) (nexpr_of c.args.body.now) f (context_kinds (nodes_of c.args.types.now) ctx) c.in_err-owed.ensures.says)
 
--- src/binding.rt:111:14
 pub binding::type_of_lambda-type_below-requires : goal.binding::type_of_lambda-type_below-requires
 binding::type_of_lambda-type_below-requires t c =
     let ctx = c.args.context.now in
     let mid = c.enter_one.new.types in
-    let g = c.in_ok-entered.ensures.grows in (
+    let g = (Grows-further c.args.types.now c.binder_of_lambda.new.types c.enter_one.new.types c.in_ok-owed.ensures.grows c.in_ok-entered.ensures.grows) in (
       omega arith,
       (
         c.without_joins-inner.ensures.valid (nodes_of mid) (IsContextAt-grows (nodes_of c.args.types.now) (nodes_of mid) ctx g.nodes c.requires.context),
@@ -355,7 +330,15 @@ binding::type_of_lambda-type_below-requires t c =
       ),
     )
 
--- src/binding.rt:111:14
+pub binding::type_of_lambda-function_over_one-requires-clause-scope :
+    goal.binding::type_of_lambda-function_over_one-requires-clause-scope
+binding::type_of_lambda-function_over_one-requires-clause-scope t c =
+    let old = c.args.types.now in
+    let mid = c.enter_one.new.types in
+    let new = c.type_below.new.types in
+    let entered = Grows-further old c.binder_of_lambda.new.types mid c.in_ok-owed.ensures.grows c.in_ok-entered.ensures.grows in
+    scope_grows (nodes_of old) (nodes_of new) c.args.context.now.scope.kinds.now (Grows-further old mid new entered c.in_ok-ty.ensures.grows).nodes c.requires.context.scope
+
 pub binding::type_of_lambda-returns-in_err-ty-clause-says :
     goal.binding::type_of_lambda-returns-in_err-ty-clause-says
 binding::type_of_lambda-returns-in_err-ty-clause-says t c =
@@ -367,13 +350,12 @@ binding::type_of_lambda-returns-in_err-ty-clause-says t c =
     let old = nodes_of c.args.types.now in
     let mid = nodes_of c.enter_one.new.types in
     let view : context_at mid inner ≡ without_joins (context_at old ctx) =
-    c.without_joins-inner.ensures.view mid ∙ ap (λ (x : Context). without_joins x) (context_at-grows old mid ctx c.in_ok-entered.ensures.grows.nodes c.requires.context) in
+    c.without_joins-inner.ensures.view mid ∙ ap (λ (x : Context). without_joins x) (context_at-grows old mid ctx (Grows-further c.args.types.now c.binder_of_lambda.new.types c.enter_one.new.types c.in_ok-owed.ensures.grows c.in_ok-entered.ensures.grows).nodes c.requires.context) in
     let given : c.from_residual-in_err-ty.result ≡ Err f = search rules in
     says_err _ f c.from_residual-in_err-ty.result _ given
     (lambda_refused (modules_of_context ctx) (scope_in ctx.scope) (context_at old ctx) b e f c.in_ok-owed.owed (modules_of_context inner) (scope_in inner.scope) (context_at mid inner)
-    (context_kinds old ctx) c.in_ok-owed.ensures c.without_joins-inner.ensures.declared c.without_joins-inner.ensures.scope view c.in_err-ty.ensures.says)
+    (context_kinds old ctx) c.in_ok-owed.ensures.says c.without_joins-inner.ensures.declared c.without_joins-inner.ensures.scope view c.in_err-ty.ensures.says)
 
--- src/binding.rt:93:1
 pub binding::type_of_lambda-returns-clause-says : goal.binding::type_of_lambda-returns-clause-says
 binding::type_of_lambda-returns-clause-says t c =
     let ctx = c.args.context.now in
@@ -385,14 +367,13 @@ binding::type_of_lambda-returns-clause-says t c =
     let mid = nodes_of c.enter_one.new.types in
     let below_it = c.type_below.new.types in
     let view : context_at mid inner ≡ without_joins (context_at old ctx) =
-    c.without_joins-inner.ensures.view mid ∙ ap (λ (x : Context). without_joins x) (context_at-grows old mid ctx c.in_ok-entered.ensures.grows.nodes c.requires.context) in
+    c.without_joins-inner.ensures.view mid ∙ ap (λ (x : Context). without_joins x) (context_at-grows old mid ctx (Grows-further c.args.types.now c.binder_of_lambda.new.types c.enter_one.new.types c.in_ok-owed.ensures.grows c.in_ok-entered.ensures.grows).nodes c.requires.context) in
     let u : NTy = shown below_it (kinds_past (b ∷ []) (scope_in inner.scope)) c.in_ok-ty.ty in
     let typed : type_or_fault (modules_of_context ctx) (context_at old ctx) (NLam b e) ≡ Ok (over_binder b u) =
     lambda_typed (modules_of_context ctx) ks (context_at old ctx) b e c.in_ok-owed.owed u (modules_of_context inner) (scope_in inner.scope) (context_at mid inner)
-    (context_kinds old ctx) c.in_ok-owed.ensures c.without_joins-inner.ensures.declared c.without_joins-inner.ensures.scope view c.in_ok-ty.ensures.says in
+    (context_kinds old ctx) c.in_ok-owed.ensures.says c.without_joins-inner.ensures.declared c.without_joins-inner.ensures.scope view c.in_ok-ty.ensures.says in
     typed ∙ ap (λ js. Ok (over_binder b (shown below_it (kinds_past (b ∷ []) js) c.in_ok-ty.ty))) c.without_joins-inner.ensures.scope ∙ ap (λ (x : NTy). Ok x) (sym c.in_ok-function_over_one.ensures.view)
 
--- src/binding.rt:93:1
 pub binding::type_of_lambda-returns-clause-context :
     goal.binding::type_of_lambda-returns-clause-context
 binding::type_of_lambda-returns-clause-context t c =
@@ -400,13 +381,12 @@ binding::type_of_lambda-returns-clause-context t c =
     let mid = c.enter_one.new.types in
     let below_it = c.type_below.new.types in
     let new = c.function_over_one.new.types in
-    let g = Grows-further old mid new c.in_ok-entered.ensures.grows (Grows-further mid below_it new c.in_ok-ty.ensures.grows c.in_ok-function_over_one.ensures.grows) in
+    let g = Grows-further old mid new (Grows-further c.args.types.now c.binder_of_lambda.new.types c.enter_one.new.types c.in_ok-owed.ensures.grows c.in_ok-entered.ensures.grows) (Grows-further mid below_it new c.in_ok-ty.ensures.grows c.in_ok-function_over_one.ensures.grows) in
     IsContextAt-grows (nodes_of old) (nodes_of new) c.args.context.now g.nodes c.requires.context
 
--- src/cases.rt:94:5
-pub cases::alternative_fits-returns-in_err-binders_owe-clause-says :
-    goal.cases::alternative_fits-returns-in_err-binders_owe-clause-says
-cases::alternative_fits-returns-in_err-binders_owe-clause-says t c =
+pub cases::alternative_fits-returns-in_err-behind-clause-says :
+    goal.cases::alternative_fits-returns-in_err-behind-clause-says
+cases::alternative_fits-returns-in_err-behind-clause-says t c =
     let ctx = c.args.context.now in
     let ks = scope_in ctx.scope in
     let ms = modules_of_context ctx in
@@ -417,22 +397,20 @@ cases::alternative_fits-returns-in_err-binders_owe-clause-says t c =
     let b = before_of c.args.before in
     let k0 = c.args.types.now in
     let judged : List (Binder ℕ) → Result words.Before F = λ xs. alt_judged ms (context_in k0 ctx) (shown k0 ks s) (shown k0 ks rt) b (NBranch a.head (nbinders_of xs) (nexpr_of a.body)) in
-    let f = c.in_err-binders_owe.field-0.0 in
-    let refused : Refuses f (judged c.as_slice-binders.result.now) = alt_binders_refused ms k0 ctx s rt b a.head bs (nexpr_of a.body) f c.in_err-binders_owe.ensures in
+    let f = c.in_err-behind.field-0.0 in
+    let refused : Refuses f (judged c.as_slice-binders.result.now) = alt_binders_refused ms k0 ctx s rt b a.head bs (nexpr_of a.body) f c.in_err-behind.ensures.says in
     let given : c.from_residual.result ≡ Err f = search rules in
     subst (λ r. Says {Y = words.Before} before_of r (judged a.binders)) (sym given) (subst (λ xs. Refuses f (judged xs)) c.as_slice-binders.ensures refused)
 
--- src/cases.rt:97:16
 pub cases::alternative_fits-type_behind-requires :
     goal.cases::alternative_fits-type_behind-requires
 cases::alternative_fits-type_behind-requires t c =
     let ctx = c.args.context.now in
     let k0 = c.args.types.now in
-    let k1 = c.enter.new.types in
-    let g = c.in_ok-entered.ensures.grows in
-    (omega (arith, c.decreases, A.size_is-Alt ℕ Ref c.args.alternative.now), (IsContextAt-grows (nodes_of k0) (nodes_of k1) ctx g.nodes c.requires.context, (modules-grow k0 k1 (modules_of_context ctx) g c.requires.modules, c.in_ok-entered.ensures.entered)))
+    let k1 = c.judged_binders.new.types in
+    let g = c.in_ok-behind.ensures.grows in
+    (omega (arith, c.decreases, A.size_is-Alt ℕ Ref c.args.alternative.now), (IsContextAt-grows (nodes_of k0) (nodes_of k1) ctx g.nodes c.requires.context, (modules-grow k0 k1 (modules_of_context ctx) g c.requires.modules, c.in_ok-behind.ensures.entered)))
 
--- src/cases.rt:97:16
 pub cases::alternative_fits-returns-in_err-body-clause-says :
     goal.cases::alternative_fits-returns-in_err-body-clause-says
 cases::alternative_fits-returns-in_err-body-clause-says t c =
@@ -446,41 +424,37 @@ cases::alternative_fits-returns-in_err-body-clause-says t c =
     let b = before_of c.args.before in
     let k0 = c.args.types.now in
     let judged : List (Binder ℕ) → Result words.Before F = λ xs. alt_judged ms (context_in k0 ctx) (shown k0 ks s) (shown k0 ks rt) b (NBranch a.head (nbinders_of xs) (nexpr_of a.body)) in
-    let k1 = c.enter.new.types in
+    let k1 = c.judged_binders.new.types in
     let f = c.in_err-body.field-0.0 in
-    let refused : Refuses f (judged c.as_slice-binders.result.now) = alt_body_refused ms k0 ctx s rt b a.head bs (nexpr_of a.body) k1 c.in_ok-part.part c.in_ok-binders_owe.field-0 c.requires.context c.in_ok-entered.ensures.grows c.in_ok-binders_owe.ensures c.in_ok-part.ensures.part f c.in_err-body.ensures.says in
+    let refused : Refuses f (judged c.as_slice-binders.result.now) = alt_body_refused ms k0 ctx s rt b a.head bs (nexpr_of a.body) k1 c.in_ok-part.part c.in_ok-behind.behind.owed c.requires.context c.in_ok-behind.ensures.grows c.in_ok-behind.ensures.says c.in_ok-part.ensures.part f c.in_err-body.ensures.says in
     let given : c.from_residual-in_err-body.result ≡ Err f = search rules in
     subst (λ r. Says {Y = words.Before} before_of r (judged a.binders)) (sym given) (subst (λ xs. Refuses f (judged xs)) c.as_slice-binders.ensures refused)
 
--- src/cases.rt:98:16
 pub cases::alternative_fits-function_to-requires-clause-answer_in :
     goal.cases::alternative_fits-function_to-requires-clause-answer_in
 cases::alternative_fits-function_to-requires-clause-answer_in t c =
     let ks = scope_in c.args.context.now.scope in
     let s = c.args.wanted.scrutinee in
     let k0 = c.args.types.now in
-    let k1 = c.enter.new.types in
+    let k1 = c.judged_binders.new.types in
     let k2 = c.type_behind.new.types in
-    let g2 = Grows-further k0 k1 k2 c.in_ok-entered.ensures.grows c.in_ok-body.ensures.grows in
+    let g2 = Grows-further k0 k1 k2 c.in_ok-behind.ensures.grows c.in_ok-body.ensures.grows in
     IsType-grows k0 k2 ks s g2 c.requires.scrutinee_in
 
--- src/cases.rt:99:16
 pub cases::alternative_fits-head_goes-requires-clause-context :
     goal.cases::alternative_fits-head_goes-requires-clause-context
 cases::alternative_fits-head_goes-requires-clause-context t c =
     IsContextAt-grows (nodes_of c.type_behind.new.types) (nodes_of c.function_to.new.types) c.args.context.now c.in_ok-over.ensures.grows.nodes c.in_ok-body.ensures.context
 
--- src/cases.rt:99:16
 pub cases::alternative_fits-head_goes-requires-clause-over_view :
     goal.cases::alternative_fits-head_goes-requires-clause-over_view
 cases::alternative_fits-head_goes-requires-clause-over_view t c =
     let k0 = c.args.types.now in
-    let k1 = c.enter.new.types in
+    let k1 = c.judged_binders.new.types in
     let k2 = c.type_behind.new.types in
-    let g2 = Grows-further k0 k1 k2 c.in_ok-entered.ensures.grows c.in_ok-body.ensures.grows in
+    let g2 = Grows-further k0 k1 k2 c.in_ok-behind.ensures.grows c.in_ok-body.ensures.grows in
     over_is k0 k2 c.function_to.new.types (nbinders_of c.as_slice-binders.result.now) (scope_in c.args.context.now.scope) c.in_ok-over.over c.args.wanted.scrutinee g2 c.in_ok-over.ensures.grows c.requires.scrutinee_in c.in_ok-over.ensures.view
 
--- src/cases.rt:99:16
 pub cases::alternative_fits-returns-in_err-next-clause-says :
     goal.cases::alternative_fits-returns-in_err-next-clause-says
 cases::alternative_fits-returns-in_err-next-clause-says t c =
@@ -494,17 +468,16 @@ cases::alternative_fits-returns-in_err-next-clause-says t c =
     let b = before_of c.args.before in
     let k0 = c.args.types.now in
     let judged : List (Binder ℕ) → Result words.Before F = λ xs. alt_judged ms (context_in k0 ctx) (shown k0 ks s) (shown k0 ks rt) b (NBranch a.head (nbinders_of xs) (nexpr_of a.body)) in
-    let k1 = c.enter.new.types in
+    let k1 = c.judged_binders.new.types in
     let k2 = c.type_behind.new.types in
-    let g2 = Grows-further k0 k1 k2 c.in_ok-entered.ensures.grows c.in_ok-body.ensures.grows in
+    let g2 = Grows-further k0 k1 k2 c.in_ok-behind.ensures.grows c.in_ok-body.ensures.grows in
     let k3 = c.function_to.new.types in
     let g3 = Grows-further k0 k2 k3 g2 c.in_ok-over.ensures.grows in
     let f = c.in_err-next.field-0.0 in
-    let refused : Refuses f (judged c.as_slice-binders.result.now) = alt_head_refused ms k0 ctx s rt b a.head bs (nexpr_of a.body) k1 c.in_ok-part.part c.in_ok-binders_owe.field-0 c.requires.context c.in_ok-entered.ensures.grows c.in_ok-binders_owe.ensures c.in_ok-part.ensures.part k3 (shown k2 (kinds_past bs ks) c.in_ok-body.body) g3 c.requires.scrutinee_in c.in_ok-body.ensures.says f c.in_err-next.ensures.says in
+    let refused : Refuses f (judged c.as_slice-binders.result.now) = alt_head_refused ms k0 ctx s rt b a.head bs (nexpr_of a.body) k1 c.in_ok-part.part c.in_ok-behind.behind.owed c.requires.context c.in_ok-behind.ensures.grows c.in_ok-behind.ensures.says c.in_ok-part.ensures.part k3 (shown k2 (kinds_past bs ks) c.in_ok-body.body) g3 c.requires.scrutinee_in c.in_ok-body.ensures.says f c.in_err-next.ensures.says in
     let given : c.from_residual-in_err-next.result ≡ Err f = search rules in
     subst (λ r. Says {Y = words.Before} before_of r (judged a.binders)) (sym given) (subst (λ xs. Refuses f (judged xs)) c.as_slice-binders.ensures refused)
 
--- src/cases.rt:109:5
 pub cases::alternative_fits-returns-in_err-leaves_as-clause-says :
     goal.cases::alternative_fits-returns-in_err-leaves_as-clause-says
 cases::alternative_fits-returns-in_err-leaves_as-clause-says t c =
@@ -518,19 +491,18 @@ cases::alternative_fits-returns-in_err-leaves_as-clause-says t c =
     let b = before_of c.args.before in
     let k0 = c.args.types.now in
     let judged : List (Binder ℕ) → Result words.Before F = λ xs. alt_judged ms (context_in k0 ctx) (shown k0 ks s) (shown k0 ks rt) b (NBranch a.head (nbinders_of xs) (nexpr_of a.body)) in
-    let k1 = c.enter.new.types in
+    let k1 = c.judged_binders.new.types in
     let k2 = c.type_behind.new.types in
-    let g2 = Grows-further k0 k1 k2 c.in_ok-entered.ensures.grows c.in_ok-body.ensures.grows in
+    let g2 = Grows-further k0 k1 k2 c.in_ok-behind.ensures.grows c.in_ok-body.ensures.grows in
     let k3 = c.function_to.new.types in
     let g3 = Grows-further k0 k2 k3 g2 c.in_ok-over.ensures.grows in
     let f = c.in_err-leaves_as.field-0.0 in
-    let refused : Refuses f (judged c.as_slice-binders.result.now) = alt_says ms k0 ctx s rt b a.head bs (nexpr_of a.body) k1 c.in_ok-part.part c.in_ok-binders_owe.field-0 c.requires.context c.in_ok-entered.ensures.grows c.in_ok-binders_owe.ensures c.in_ok-part.ensures.part
+    let refused : Refuses f (judged c.as_slice-binders.result.now) = alt_says ms k0 ctx s rt b a.head bs (nexpr_of a.body) k1 c.in_ok-part.part c.in_ok-behind.behind.owed c.requires.context c.in_ok-behind.ensures.grows c.in_ok-behind.ensures.says c.in_ok-part.ensures.part
     k2 k3 c.head_goes.new.types c.in_ok-body.body g3 c.requires.scrutinee_in c.requires.answer_in c.in_ok-body.ensures.says c.in_ok-over.ensures.grows c.in_ok-next.ensures.grows c.in_ok-body.ensures.valid
     (before_of c.in_ok-next.next) c.in_ok-next.ensures.says (Err f) c.in_err-leaves_as.ensures in
     let given : c.from_residual-in_err-leaves_as.result ≡ Err f = search rules in
     subst (λ r. Says {Y = words.Before} before_of r (judged a.binders)) (sym given) (subst (λ xs. Refuses f (judged xs)) c.as_slice-binders.ensures refused)
 
--- src/cases.rt:76:1
 pub cases::alternative_fits-returns-clause-says : goal.cases::alternative_fits-returns-clause-says
 cases::alternative_fits-returns-clause-says t c =
     let ctx = c.args.context.now in
@@ -543,12 +515,12 @@ cases::alternative_fits-returns-clause-says t c =
     let b = before_of c.args.before in
     let k0 = c.args.types.now in
     let judged : List (Binder ℕ) → Result words.Before F = λ xs. alt_judged ms (context_in k0 ctx) (shown k0 ks s) (shown k0 ks rt) b (NBranch a.head (nbinders_of xs) (nexpr_of a.body)) in
-    let k1 = c.enter.new.types in
+    let k1 = c.judged_binders.new.types in
     let k2 = c.type_behind.new.types in
-    let g2 = Grows-further k0 k1 k2 c.in_ok-entered.ensures.grows c.in_ok-body.ensures.grows in
+    let g2 = Grows-further k0 k1 k2 c.in_ok-behind.ensures.grows c.in_ok-body.ensures.grows in
     let k3 = c.function_to.new.types in
     let g3 = Grows-further k0 k2 k3 g2 c.in_ok-over.ensures.grows in
-    let said : judged c.as_slice-binders.result.now ≡ Ok (before_of c.in_ok-next.next) = alt_says ms k0 ctx s rt b a.head bs (nexpr_of a.body) k1 c.in_ok-part.part c.in_ok-binders_owe.field-0 c.requires.context c.in_ok-entered.ensures.grows c.in_ok-binders_owe.ensures c.in_ok-part.ensures.part
+    let said : judged c.as_slice-binders.result.now ≡ Ok (before_of c.in_ok-next.next) = alt_says ms k0 ctx s rt b a.head bs (nexpr_of a.body) k1 c.in_ok-part.part c.in_ok-behind.behind.owed c.requires.context c.in_ok-behind.ensures.grows c.in_ok-behind.ensures.says c.in_ok-part.ensures.part
     k2 k3 c.head_goes.new.types c.in_ok-body.body g3 c.requires.scrutinee_in c.requires.answer_in c.in_ok-body.ensures.says c.in_ok-over.ensures.grows c.in_ok-next.ensures.grows c.in_ok-body.ensures.valid
     (before_of c.in_ok-next.next) c.in_ok-next.ensures.says (Ok (tt {0})) c.in_ok-leaves_as.ensures in
     subst (λ xs. judged xs ≡ Ok (before_of c.in_ok-next.next)) c.as_slice-binders.ensures said
@@ -557,9 +529,9 @@ pub cases::alternative_fits-leaves_as-requires-clause-outer_in :
     goal.cases::alternative_fits-leaves_as-requires-clause-outer_in
 cases::alternative_fits-leaves_as-requires-clause-outer_in t c =
     let k0 = c.args.types.now in
-    let k1 = c.enter.new.types in
+    let k1 = c.judged_binders.new.types in
     let k2 = c.type_behind.new.types in
-    let g2 = Grows-further k0 k1 k2 c.in_ok-entered.ensures.grows c.in_ok-body.ensures.grows in
+    let g2 = Grows-further k0 k1 k2 c.in_ok-behind.ensures.grows c.in_ok-body.ensures.grows in
     let k3 = c.function_to.new.types in
     let g3 = Grows-further k0 k2 k3 g2 c.in_ok-over.ensures.grows in
     let g4 = Grows-further k0 k3 c.head_goes.new.types g3 c.in_ok-next.ensures.grows in
@@ -569,20 +541,18 @@ pub cases::alternative_fits-returns-clause-grows :
     goal.cases::alternative_fits-returns-clause-grows
 cases::alternative_fits-returns-clause-grows t c =
     let k0 = c.args.types.now in
-    let k1 = c.enter.new.types in
+    let k1 = c.judged_binders.new.types in
     let k2 = c.type_behind.new.types in
-    let g2 = Grows-further k0 k1 k2 c.in_ok-entered.ensures.grows c.in_ok-body.ensures.grows in
+    let g2 = Grows-further k0 k1 k2 c.in_ok-behind.ensures.grows c.in_ok-body.ensures.grows in
     let k3 = c.function_to.new.types in
     let g3 = Grows-further k0 k2 k3 g2 c.in_ok-over.ensures.grows in
     Grows-further k0 k3 c.head_goes.new.types g3 c.in_ok-next.ensures.grows
 
--- src/cases.rt:165:1
 pub cases::alternatives_fit-returns-clause-context :
     goal.cases::alternatives_fit-returns-clause-context
 cases::alternatives_fit-returns-clause-context t c =
     context_stays c.each_alternative_fits.result c.args.types.now c.each_alternative_fits.new.types c.args.context.now c.requires.context c.each_alternative_fits.ensures.grows
 
--- src/cases.rt:158:18
 pub cases::each_alternative_fits-returns-in_err-before-clause-says :
     goal.cases::each_alternative_fits-returns-in_err-before-clause-says
 cases::each_alternative_fits-returns-in_err-before-clause-says t c =
@@ -605,7 +575,6 @@ cases::each_alternative_fits-returns-in_err-before-clause-says t c =
     let given : c.from_residual.result ≡ Err f = search rules in
     subst (λ r. Says {Y = words.Before} before_of r whole) (sym given) refused
 
--- src/cases.rt:157:5
 pub cases::each_alternative_fits-loop-alternative-preserved :
     goal.cases::each_alternative_fits-loop-alternative-preserved
 cases::each_alternative_fits-loop-alternative-preserved t c =
@@ -631,10 +600,9 @@ cases::each_alternative_fits-loop-alternative-preserved t c =
           l.invariant.so_far c.loop-alternative-test.true c.alternative-item.is judged c.in_ok-part.ensures.next;
     }
 
--- src/cases.rt:206:5
-pub cases::type_of_case-returns-in_err-kind_of_part-clause-says :
-    goal.cases::type_of_case-returns-in_err-kind_of_part-clause-says
-cases::type_of_case-returns-in_err-kind_of_part-clause-says t c =
+pub cases::type_of_case-returns-in_err-binder-clause-says :
+    goal.cases::type_of_case-returns-in_err-binder-clause-says
+cases::type_of_case-returns-in_err-binder-clause-says t c =
     let ctx = c.args.context.now in
     let ks = scope_in ctx.scope in
     let ms = modules_of_context ctx in
@@ -643,16 +611,15 @@ cases::type_of_case-returns-in_err-kind_of_part-clause-says t c =
     let xt = nty_of c.args.of.now in
     let rt = nty_of c.args.answer.now in
     let alts = nalts_of c.args.alternatives.now in
-    let f = c.in_err-kind_of_part.field-0.0 in
+    let f = c.in_err-binder.field-0.0 in
     let whole = case_judged ms (context_in k0 ctx) (shown k0 ks s) xt rt alts in
-    let refused : Refuses f whole = case_kind_refused ms k0 ctx s xt rt alts f c.in_err-kind_of_part.ensures in
+    let refused : Refuses f whole = case_kind_refused ms k0 ctx s xt rt alts f c.in_err-binder.ensures.says in
     let given : c.from_residual.result ≡ Err f = search rules in
-    subst (λ r. Says {X = TypeId} {Y = NTy} (λ id. shown k0 ks id) r whole) (sym given) refused
+    subst (λ r. Says {X = TypeId} {Y = NTy} (λ id. shown c.kinded_part.new.types ks id) r whole) (sym given) refused
 
--- src/cases.rt:207:16
-pub cases::type_of_case-returns-in_err-kind-clause-says :
-    goal.cases::type_of_case-returns-in_err-kind-clause-says
-cases::type_of_case-returns-in_err-kind-clause-says t c =
+pub cases::type_of_case-returns-in_err-answer-clause-says :
+    goal.cases::type_of_case-returns-in_err-answer-clause-says
+cases::type_of_case-returns-in_err-answer-clause-says t c =
     let ctx = c.args.context.now in
     let ks = scope_in ctx.scope in
     let ms = modules_of_context ctx in
@@ -661,34 +628,32 @@ cases::type_of_case-returns-in_err-kind-clause-says t c =
     let xt = nty_of c.args.of.now in
     let rt = nty_of c.args.answer.now in
     let alts = nalts_of c.args.alternatives.now in
-    let f = c.in_err-kind.field-0.0 in
+    let f = c.in_err-answer.field-0.0 in
     let whole = case_judged ms (context_in k0 ctx) (shown k0 ks s) xt rt alts in
-    let refused : Refuses f whole = case_answer_refused ms k0 ctx s xt rt alts (kind_of c.in_ok-kind_of_part.field-0) c.in_ok-kind_of_part.ensures f c.in_err-kind.ensures in
-    let given : c.from_residual-in_err-kind.result ≡ Err f = search rules in
-    subst (λ r. Says {X = TypeId} {Y = NTy} (λ id. shown k0 ks id) r whole) (sym given) refused
+    let refused : Refuses f whole = case_answer_refused ms k0 ctx s xt rt alts (kind_shown c.kinded_part.new.types c.in_ok-binder.binder.kind) c.in_ok-binder.ensures.says f c.in_err-answer.ensures.says in
+    let given : c.from_residual-in_err-answer.result ≡ Err f = search rules in
+    subst (λ r. Says {X = TypeId} {Y = NTy} (λ id. shown c.kinded_part-2.new.types ks id) r whole) (sym given) refused
 
--- src/cases.rt:213:5
 pub cases::type_of_case-alternatives_fit-requires :
     goal.cases::type_of_case-alternatives_fit-requires
 cases::type_of_case-alternatives_fit-requires t c =
     let ctx = c.args.context.now in
     let ks = scope_in ctx.scope in
     let k0 = c.args.types.now in
-    let k1 = c.read.new.types in
-    let k2 = c.read-2.new.types in
-    let g2 = c.in_ok-read.ensures.grows in
+    let k1 = c.kinded_part.new.types in
+    let k2 = c.kinded_part-2.new.types in
+    let g2 = c.in_ok-answer.ensures.grows in
     let far = Grows-further k0 k1 k2 c.in_ok-binder.ensures.grows g2 in (
       omega (arith, c.decreases),
       (
         IsContextAt-grows (nodes_of k0) (nodes_of k2) ctx far.nodes c.requires.context,
         (
           modules-grow k0 k2 (modules_of_context ctx) far c.requires.modules,
-          (IsType-grows k1 k2 ks c.in_ok-binder.binder g2 c.in_ok-binder.ensures.valid, (IsType-grows k0 k2 ks c.args.found far c.requires.scrutinee_in, c.in_ok-read.ensures.valid)),
+          (IsType-grows k1 k2 ks c.in_ok-binder.binder.ty g2 c.in_ok-binder.ensures.valid, (IsType-grows k0 k2 ks c.args.found far c.requires.scrutinee_in, c.in_ok-answer.ensures.valid)),
         ),
       ),
     )
 
--- src/cases.rt:213:5
 pub cases::type_of_case-returns-in_err-alternatives_fit-clause-says :
     goal.cases::type_of_case-returns-in_err-alternatives_fit-clause-says
 cases::type_of_case-returns-in_err-alternatives_fit-clause-says t c =
@@ -702,13 +667,12 @@ cases::type_of_case-returns-in_err-alternatives_fit-clause-says t c =
     let alts = nalts_of c.args.alternatives.now in
     let f = c.in_err-alternatives_fit.field-0.0 in
     let whole = case_judged ms (context_in k0 ctx) (shown k0 ks s) xt rt alts in
-    let refused : Refuses f whole = case_alternatives_refused ms k0 ctx s xt rt alts (kind_of c.in_ok-kind_of_part.field-0) c.in_ok-kind_of_part.ensures (kind_of c.in_ok-kind.kind) c.in_ok-kind.ensures c.requires.context c.requires.scrutinee_in
-    c.read.new.types c.read-2.new.types c.in_ok-binder.ensures.grows c.in_ok-read.ensures.grows c.in_ok-binder.binder c.in_ok-read.field-0 c.in_ok-binder.ensures.valid c.in_ok-binder.ensures.view c.in_ok-read.ensures.view
+    let refused : Refuses f whole = case_alternatives_refused ms k0 ctx s xt rt alts (kind_shown c.kinded_part.new.types c.in_ok-binder.binder.kind) c.in_ok-binder.ensures.says (kind_shown c.kinded_part-2.new.types c.in_ok-answer.answer.kind) c.in_ok-answer.ensures.says c.requires.context c.requires.scrutinee_in
+    c.kinded_part.new.types c.kinded_part-2.new.types c.in_ok-binder.ensures.grows c.in_ok-answer.ensures.grows c.in_ok-binder.binder.ty c.in_ok-answer.answer.ty c.in_ok-binder.ensures.valid c.in_ok-binder.ensures.view c.in_ok-answer.ensures.view
     f c.in_err-alternatives_fit.ensures.says in
     let given : c.from_residual-in_err-alternatives_fit.result ≡ Err f = search rules in
     subst (λ r. Says {X = TypeId} {Y = NTy} (λ id. shown c.alternatives_fit.new.types ks id) r whole) (sym given) refused
 
--- src/cases.rt:188:1
 pub cases::type_of_case-returns-clause-says : goal.cases::type_of_case-returns-clause-says
 cases::type_of_case-returns-clause-says t c =
     let ctx = c.args.context.now in
@@ -719,98 +683,86 @@ cases::type_of_case-returns-clause-says t c =
     let xt = nty_of c.args.of.now in
     let rt = nty_of c.args.answer.now in
     let alts = nalts_of c.args.alternatives.now in
-    case_says ms k0 ctx s xt rt alts (kind_of c.in_ok-kind_of_part.field-0) c.in_ok-kind_of_part.ensures (kind_of c.in_ok-kind.kind) c.in_ok-kind.ensures c.requires.context c.requires.scrutinee_in
-    c.read.new.types c.read-2.new.types c.in_ok-binder.ensures.grows c.in_ok-read.ensures.grows c.in_ok-binder.binder c.in_ok-read.field-0 c.in_ok-binder.ensures.valid c.in_ok-binder.ensures.view c.in_ok-read.ensures.view
-    c.alternatives_fit.new.types (before_of c.in_ok-alternatives_fit.field-0) c.in_ok-alternatives_fit.ensures.grows c.in_ok-read.ensures.valid c.in_ok-alternatives_fit.ensures.says c.case_type.result c.case_type.ensures.says
+    case_says ms k0 ctx s xt rt alts (kind_shown c.kinded_part.new.types c.in_ok-binder.binder.kind) c.in_ok-binder.ensures.says (kind_shown c.kinded_part-2.new.types c.in_ok-answer.answer.kind) c.in_ok-answer.ensures.says c.requires.context c.requires.scrutinee_in
+    c.kinded_part.new.types c.kinded_part-2.new.types c.in_ok-binder.ensures.grows c.in_ok-answer.ensures.grows c.in_ok-binder.binder.ty c.in_ok-answer.answer.ty c.in_ok-binder.ensures.valid c.in_ok-binder.ensures.view c.in_ok-answer.ensures.view
+    c.is_value_kind-is_value.result c.is_value_kind-is_value.ensures c.alternatives_fit.new.types (before_of c.in_ok-alternatives_fit.field-0) c.in_ok-alternatives_fit.ensures.grows c.in_ok-answer.ensures.valid c.in_ok-alternatives_fit.ensures.says c.case_type.result c.case_type.ensures.says
 
--- src/expressions.rt:189:1
-pub expressions::type_of-returns-in-Var-Local-clause-says :
-    goal.expressions::type_of-returns-in-Var-Local-clause-says
-expressions::type_of-returns-in-Var-Local-clause-says t c =
+pub expressions::judge-returns-in-Var-Local-clause-says :
+    goal.expressions::judge-returns-in-Var-Local-clause-says
+expressions::judge-returns-in-Var-Local-clause-says t c =
     let ctx = c.args.context.now in
     let here : nexpr_of c.args.e.now ≡ NLocal c.in-Var-Local.distance = search (rules, view_rules) in
     same_says (λ (id : TypeId). shown c.args.types.now (scope_in ctx.scope) id) c.local.result _ _ (ap (type_or_fault (modules_of_context ctx) (context_in c.args.types.now ctx)) here) (c.local.ensures.says (nodes_of c.args.types.now))
 
--- src/expressions.rt:189:1
-pub expressions::type_of-returns-in-Var-Top-clause-says :
-    goal.expressions::type_of-returns-in-Var-Top-clause-says
-expressions::type_of-returns-in-Var-Top-clause-says t c =
+pub expressions::judge-returns-in-Var-Top-clause-says :
+    goal.expressions::judge-returns-in-Var-Top-clause-says
+expressions::judge-returns-in-Var-Top-clause-says t c =
     let ctx = c.args.context.now in
     let here : nexpr_of c.args.e.now ≡ NVar c.in-Var-Top.name = search (rules, view_rules) in
     same_says (λ (id : TypeId). shown c.args.types.now (scope_in ctx.scope) id) c.definition_type.result _ _ (ap (type_or_fault (modules_of_context ctx) (context_in c.args.types.now ctx)) here)
     (c.definition_type.ensures.says (nodes_of c.args.types.now) c.requires.context)
 
--- src/expressions.rt:189:1
-pub expressions::type_of-returns-in_ok-int_hash-in-Lit-clause-says :
-    goal.expressions::type_of-returns-in_ok-int_hash-in-Lit-clause-says
-expressions::type_of-returns-in_ok-int_hash-in-Lit-clause-says t c =
+pub expressions::judge-returns-in_ok-int_hash-in-Lit-clause-says :
+    goal.expressions::judge-returns-in_ok-int_hash-in-Lit-clause-says
+expressions::judge-returns-in_ok-int_hash-in-Lit-clause-says t c =
     let ctx = c.args.context.now in
     let here : nexpr_of c.args.e.now ≡ NLit c.in-Lit.field-0 = search (rules, view_rules) in
     ap (type_or_fault (modules_of_context ctx) (context_in c.args.types.now ctx)) here ∙ ap (λ (x : NTy). Ok x) (sym c.in_ok-int_hash-in-Lit.ensures.view)
 
--- src/expressions.rt:189:1
-pub expressions::type_of-returns-in_ok-int_hash-in-Lit-clause-context :
-    goal.expressions::type_of-returns-in_ok-int_hash-in-Lit-clause-context
-expressions::type_of-returns-in_ok-int_hash-in-Lit-clause-context t c =
+pub expressions::judge-returns-in_ok-int_hash-in-Lit-clause-context :
+    goal.expressions::judge-returns-in_ok-int_hash-in-Lit-clause-context
+expressions::judge-returns-in_ok-int_hash-in-Lit-clause-context t c =
     IsContextAt-grows (nodes_of c.args.types.now) (nodes_of c.int_hash.new.types) c.args.context.now c.in_ok-int_hash-in-Lit.ensures.grows.nodes c.requires.context
 
--- src/expressions.rt:189:1
-pub expressions::type_of-returns-in-Lam-clause-says :
-    goal.expressions::type_of-returns-in-Lam-clause-says
-expressions::type_of-returns-in-Lam-clause-says t c =
+pub expressions::judge-returns-in-Lam-clause-says :
+    goal.expressions::judge-returns-in-Lam-clause-says
+expressions::judge-returns-in-Lam-clause-says t c =
     let ctx = c.args.context.now in
     let here : nexpr_of c.args.e.now ≡ NLam (nbinder_of c.deref-in-Lam-2.result.now) (nexpr_of c.deref-in-Lam.result.now) = search (rules, view_rules) in
     same_says (λ (id : TypeId). shown c.type_of_lambda.new.types (scope_in ctx.scope) id) c.type_of_lambda.result _ _ (ap (type_or_fault (modules_of_context ctx) (context_in c.args.types.now ctx)) here) c.type_of_lambda.ensures.says
 
--- src/expressions.rt:189:1
-pub expressions::type_of-returns-in-Let-clause-says :
-    goal.expressions::type_of-returns-in-Let-clause-says
-expressions::type_of-returns-in-Let-clause-says t c =
+pub expressions::judge-returns-in-Let-clause-says :
+    goal.expressions::judge-returns-in-Let-clause-says
+expressions::judge-returns-in-Let-clause-says t c =
     let ctx = c.args.context.now in
     let here : nexpr_of c.args.e.now ≡ NLet c.in-Let.recursive (nbinds_of c.as_slice.result.now) (nexpr_of c.deref-in-Let.result.now) = search (rules, view_rules) in
     same_says (λ (id : TypeId). shown c.type_of_let.new.types (scope_in ctx.scope) id) c.type_of_let.result _ _ (ap (type_or_fault (modules_of_context ctx) (context_in c.args.types.now ctx)) here) c.type_of_let.ensures.says
 
--- src/expressions.rt:189:1
-pub expressions::type_of-returns-in-Con-clause-says :
-    goal.expressions::type_of-returns-in-Con-clause-says
-expressions::type_of-returns-in-Con-clause-says t c =
+pub expressions::judge-returns-in-Con-clause-says :
+    goal.expressions::judge-returns-in-Con-clause-says
+expressions::judge-returns-in-Con-clause-says t c =
     let ctx = c.args.context.now in
     let here : nexpr_of c.args.e.now ≡ NCon c.in-Con.name (nargs_of c.as_slice-in-Con.result.now) = search (rules, view_rules) in
     same_says (λ (id : TypeId). shown c.type_of_constructor.new.types (scope_in ctx.scope) id) c.type_of_constructor.result _ _ (ap (type_or_fault (modules_of_context ctx) (context_in c.args.types.now ctx)) here) c.type_of_constructor.ensures.says
 
--- src/expressions.rt:189:1
-pub expressions::type_of-returns-in-Prim-clause-says :
-    goal.expressions::type_of-returns-in-Prim-clause-says
-expressions::type_of-returns-in-Prim-clause-says t c =
+pub expressions::judge-returns-in-Prim-clause-says :
+    goal.expressions::judge-returns-in-Prim-clause-says
+expressions::judge-returns-in-Prim-clause-says t c =
     let ctx = c.args.context.now in
     let here : nexpr_of c.args.e.now ≡ NPrim c.in-Prim.op (nexprs_of c.as_slice-in-Prim.result.now) = search (rules, view_rules) in
     same_says (λ (id : TypeId). shown c.type_of_primitive.new.types (scope_in ctx.scope) id) c.type_of_primitive.result _ _ (ap (type_or_fault (modules_of_context ctx) (context_in c.args.types.now ctx)) here) c.type_of_primitive.ensures.says
 
--- src/expressions.rt:189:1
-pub expressions::type_of-returns-in-Fail-clause-says :
-    goal.expressions::type_of-returns-in-Fail-clause-says
-expressions::type_of-returns-in-Fail-clause-says t c =
+pub expressions::judge-returns-in-Fail-clause-says :
+    goal.expressions::judge-returns-in-Fail-clause-says
+expressions::judge-returns-in-Fail-clause-says t c =
     let ctx = c.args.context.now in
     let here : nexpr_of c.args.e.now ≡ NFail (nty_of c.in-Fail.t) = search (rules, view_rules) in
     same_says (λ (id : TypeId). shown c.type_of_fail.new.types (scope_in ctx.scope) id) c.type_of_fail.result _ _ (ap (type_or_fault (modules_of_context ctx) (context_in c.args.types.now ctx)) here) c.type_of_fail.ensures.says
 
--- src/expressions.rt:189:1
-pub expressions::type_of-returns-in-Join-clause-says :
-    goal.expressions::type_of-returns-in-Join-clause-says
-expressions::type_of-returns-in-Join-clause-says t c =
+pub expressions::judge-returns-in-Join-clause-says :
+    goal.expressions::judge-returns-in-Join-clause-says
+expressions::judge-returns-in-Join-clause-says t c =
     let ctx = c.args.context.now in
     let here : nexpr_of c.args.e.now ≡ NJoin c.in-Join.recursive (nty_of c.in-Join.t) (njoins_of c.as_slice-in-Join.result.now) (nexpr_of c.deref-in-Join.result.now) = search (rules, view_rules) in
     same_says (λ (id : TypeId). shown c.type_of_join.new.types (scope_in ctx.scope) id) c.type_of_join.result _ _ (ap (type_or_fault (modules_of_context ctx) (context_in c.args.types.now ctx)) here) c.type_of_join.ensures.says
 
--- src/expressions.rt:189:1
-pub expressions::type_of-returns-in-Jump-clause-says :
-    goal.expressions::type_of-returns-in-Jump-clause-says
-expressions::type_of-returns-in-Jump-clause-says t c =
+pub expressions::judge-returns-in-Jump-clause-says :
+    goal.expressions::judge-returns-in-Jump-clause-says
+expressions::judge-returns-in-Jump-clause-says t c =
     let ctx = c.args.context.now in
     let here : nexpr_of c.args.e.now ≡ NJump c.in-Jump.distance (nargs_of c.as_slice-in-Jump.result.now) = search (rules, view_rules) in
     same_says (λ (id : TypeId). shown c.type_of_jump.new.types (scope_in ctx.scope) id) c.type_of_jump.result _ _ (ap (type_or_fault (modules_of_context ctx) (context_in c.args.types.now ctx)) here) c.type_of_jump.ensures.says
 
--- src/expressions.rt:112:17
 pub expressions::type_of_constructor-returns-in_err-given-clause-says :
     goal.expressions::type_of_constructor-returns-in_err-given-clause-says
 expressions::type_of_constructor-returns-in_err-given-clause-says t c =
@@ -835,7 +787,6 @@ expressions::type_of_constructor-returns-in_err-given-clause-says t c =
     err_of view e (and_then r f) _ whole (err_says (λ (gs : List arguments.Given). givens_in c.arguments.new.types iks gs) view e r f c.in_err-given.ensures.says) in
     search rules
 
--- src/expressions.rt:110:1
 pub expressions::type_of_constructor-returns-in-None-clause-says :
     goal.expressions::type_of_constructor-returns-in-None-clause-says
 expressions::type_of_constructor-returns-in-None-clause-says t c =
@@ -852,7 +803,6 @@ expressions::type_of_constructor-returns-in-None-clause-says t c =
     let whole = constructor_unbound ms ims (context_at k0 ctx) (context_at k0 inner) same is c.args.name.now c.args.args.now (givens_in c.arguments.new.types iks c.in_ok-given.given) c.in_ok-given.ensures.says (c.in-None.ensures.view k0 c.requires.context) in
     flaw_says (λ (id : TypeId). shown c.arguments.new.types ks id) Unbound c.flaw_here.result _ c.flaw_here.ensures whole
 
--- src/expressions.rt:96:1
 pub expressions::type_of_constructor-returns-clause-says :
     goal.expressions::type_of_constructor-returns-clause-says
 expressions::type_of_constructor-returns-clause-says t c =
@@ -878,14 +828,12 @@ expressions::type_of_constructor-returns-clause-says t c =
     (c.in-Some.ensures.ty k1 h1) same_givens in
     same_says (λ (id : TypeId). shown c.called.new.types ks id) c.called.result (called ConArity c.in_ok-count-in-Some.count t0 hs) _ whole c.called.ensures.says
 
--- src/expressions.rt:96:1
 pub expressions::type_of_constructor-returns-clause-context :
     goal.expressions::type_of_constructor-returns-clause-context
 expressions::type_of_constructor-returns-clause-context t c =
     context-on c.called.result c.arguments.new.types c.called.new.types c.args.context.now c.called.ensures.grows
     (IsContextAt-grows (nodes_of c.args.types.now) (nodes_of c.arguments.new.types) c.args.context.now c.in_ok-given.ensures.grows.nodes c.requires.context)
 
--- src/expressions.rt:160:17
 pub expressions::type_of_jump-returns-in_err-given-clause-says :
     goal.expressions::type_of_jump-returns-in_err-given-clause-says
 expressions::type_of_jump-returns-in_err-given-clause-says t c =
@@ -910,7 +858,6 @@ expressions::type_of_jump-returns-in_err-given-clause-says t c =
     err_of view e (and_then r f) _ whole (err_says (λ (gs : List arguments.Given). givens_in c.arguments.new.types iks gs) view e r f c.in_err-given.ensures.says) in
     search rules
 
--- src/expressions.rt:158:1
 pub expressions::type_of_jump-returns-in-None-clause-says :
     goal.expressions::type_of_jump-returns-in-None-clause-says
 expressions::type_of_jump-returns-in-None-clause-says t c =
@@ -930,7 +877,6 @@ expressions::type_of_jump-returns-in-None-clause-says t c =
     let whole = jump_outside ms ims (context_at k0 ctx) (context_at k0 inner) same is (context_at k1 ctx) c.args.distance c.args.args.now gs grown c.in_ok-given.ensures.says (c.in-None.ensures.view k1) in
     flaw_says (λ (id : TypeId). shown c.arguments.new.types ks id) JumpNotTail c.flaw_here.result _ c.flaw_here.ensures whole
 
--- src/expressions.rt:164:13
 pub expressions::type_of_jump-returns-in_err-called-in-Some-clause-says :
     goal.expressions::type_of_jump-returns-in_err-called-in-Some-clause-says
 expressions::type_of_jump-returns-in_err-called-in-Some-clause-says t c =
@@ -959,7 +905,6 @@ expressions::type_of_jump-returns-in_err-called-in-Some-clause-says t c =
     err_of view e (and_then r f) _ whole (err_says view view e r f c.in_err-called-in-Some.ensures.says) in
     search rules
 
--- src/expressions.rt:144:1
 pub expressions::type_of_jump-returns-clause-says :
     goal.expressions::type_of_jump-returns-clause-says
 expressions::type_of_jump-returns-clause-says t c =
@@ -987,7 +932,6 @@ expressions::type_of_jump-returns-clause-says t c =
     jump_answered ms ims (context_at k0 ctx) (context_at k0 inner) same is (context_at k1 ctx) c.args.distance c.args.args.now gs hs j (shown_at k2 ks c.in_ok-called-in-Some.field-0.0) (shown_at k2 ks c.in-Some.to.answer.0) grown
     c.in_ok-given.ensures.says (c.in-Some.ensures.view k1) same_givens more.says same_result
 
--- src/expressions.rt:144:1
 pub expressions::type_of_jump-returns-clause-context :
     goal.expressions::type_of_jump-returns-clause-context
 expressions::type_of_jump-returns-clause-context t c =
@@ -997,7 +941,6 @@ expressions::type_of_jump-returns-clause-context t c =
     let k2 = nodes_of c.called.new.types in
     IsContextAt-grows k0 k2 ctx (Extends-further k0 k1 k2 c.in_ok-given.ensures.grows.nodes c.in_ok-called-in-Some.ensures.grows.nodes) c.requires.context
 
--- src/expressions.rt:139:17
 pub expressions::type_of_primitive-returns-in_err-given-clause-says :
     goal.expressions::type_of_primitive-returns-in_err-given-clause-says
 expressions::type_of_primitive-returns-in_err-given-clause-says t c =
@@ -1021,7 +964,6 @@ expressions::type_of_primitive-returns-in_err-given-clause-says t c =
     err_of view e (and_then r f) _ whole (err_says (λ (gs : List arguments.Given). givens_in c.operands.new.types iks gs) view e r f c.in_err-given.ensures.says) in
     search rules
 
--- src/expressions.rt:123:1
 pub expressions::type_of_primitive-returns-clause-says :
     goal.expressions::type_of_primitive-returns-clause-says
 expressions::type_of_primitive-returns-clause-says t c =
@@ -1042,7 +984,6 @@ expressions::type_of_primitive-returns-clause-says t c =
     let whole = primitive_operated ms ims (context_at k0 ctx) (context_at k0 inner) same is c.args.op c.args.args.now gs hs c.in_ok-given.ensures.says same_givens in
     same_says (λ (id : TypeId). shown c.operated.new.types ks id) c.operated.result (operated hs) _ whole c.operated.ensures.says
 
--- src/expressions.rt:123:1
 pub expressions::type_of_primitive-returns-clause-context :
     goal.expressions::type_of_primitive-returns-clause-context
 expressions::type_of_primitive-returns-clause-context t c =
@@ -1123,9 +1064,9 @@ expressions::type_of_applied-returns-clause-context t c =
     context-on c.applied.result c.argument_of_part.new.types c.applied.new.types c.args.context.now c.applied.ensures.grows
     (IsContextAt-grows (nodes_of c.args.types.now) (nodes_of c.argument_of_part.new.types) c.args.context.now c.in_ok-given.ensures.grows.nodes c.requires.context)
 
-pub expressions::type_of-returns-in_err-t-in-App-clause-says :
-    goal.expressions::type_of-returns-in_err-t-in-App-clause-says
-expressions::type_of-returns-in_err-t-in-App-clause-says t c =
+pub expressions::judge-returns-in_err-t-in-App-clause-says :
+    goal.expressions::judge-returns-in_err-t-in-App-clause-says
+expressions::judge-returns-in_err-t-in-App-clause-says t c =
     let ctx = c.args.context.now in
     let ms = modules_of_context ctx in
     let ks = scope_in ctx.scope in
@@ -1141,9 +1082,9 @@ expressions::type_of-returns-in_err-t-in-App-clause-says t c =
     let refused : Says view (Err e) (type_or_fault ms old (nexpr_of c.args.e.now)) = err_of view e (and_then r g) _ (ap (type_or_fault ms old) here) (err_says view view e r g c.in_err-t-in-App.ensures.says) in
     search rules
 
-pub expressions::type_of-returns-in_ok-t-in-App-clause-says :
-    goal.expressions::type_of-returns-in_ok-t-in-App-clause-says
-expressions::type_of-returns-in_ok-t-in-App-clause-says t c =
+pub expressions::judge-returns-in_ok-t-in-App-clause-says :
+    goal.expressions::judge-returns-in_ok-t-in-App-clause-says
+expressions::judge-returns-in_ok-t-in-App-clause-says t c =
     let ctx = c.args.context.now in
     let ms = modules_of_context ctx in
     let ks = scope_in ctx.scope in
@@ -1156,9 +1097,9 @@ expressions::type_of-returns-in_ok-t-in-App-clause-says t c =
     let whole = ap (type_or_fault ms old) here ∙ head_then ms old (context_at k1 ctx) f (narg_of c.deref-in-App.result.now) (shown_at k1 ks c.in_ok-t-in-App.t.0) grown c.in_ok-t-in-App.ensures.says in
     same_says (λ (id : TypeId). shown c.type_of_applied.new.types ks id) c.type_of_applied.result _ _ whole c.type_of_applied.ensures.says
 
-pub expressions::type_of-returns-in_err-found-in-Cast-clause-says :
-    goal.expressions::type_of-returns-in_err-found-in-Cast-clause-says
-expressions::type_of-returns-in_err-found-in-Cast-clause-says t c =
+pub expressions::judge-returns-in_err-found-in-Cast-clause-says :
+    goal.expressions::judge-returns-in_err-found-in-Cast-clause-says
+expressions::judge-returns-in_err-found-in-Cast-clause-says t c =
     let ctx = c.args.context.now in
     let ms = modules_of_context ctx in
     let ks = scope_in ctx.scope in
@@ -1174,9 +1115,9 @@ expressions::type_of-returns-in_err-found-in-Cast-clause-says t c =
     let refused : Says view (Err e) (type_or_fault ms old (nexpr_of c.args.e.now)) = err_of view e (and_then r g) _ (ap (type_or_fault ms old) here) (err_says view view e r g c.in_err-found-in-Cast.ensures.says) in
     search rules
 
-pub expressions::type_of-returns-in_ok-found-in-Cast-clause-says :
-    goal.expressions::type_of-returns-in_ok-found-in-Cast-clause-says
-expressions::type_of-returns-in_ok-found-in-Cast-clause-says t c =
+pub expressions::judge-returns-in_ok-found-in-Cast-clause-says :
+    goal.expressions::judge-returns-in_ok-found-in-Cast-clause-says
+expressions::judge-returns-in_ok-found-in-Cast-clause-says t c =
     let ctx = c.args.context.now in
     let ms = modules_of_context ctx in
     let ks = scope_in ctx.scope in
@@ -1190,9 +1131,9 @@ expressions::type_of-returns-in_ok-found-in-Cast-clause-says t c =
     let whole = ap (type_or_fault ms old) here ∙ cast_then ms old (context_at k1 ctx) f co ks (shown_at k1 ks c.in_ok-found-in-Cast.found.0) grown (context_kinds k0 ctx) c.in_ok-found-in-Cast.ensures.says in
     same_says (λ (id : TypeId). shown c.type_of_cast.new.types ks id) c.type_of_cast.result _ _ whole c.type_of_cast.ensures.says
 
-pub expressions::type_of-returns-in_err-found-in-Case-clause-says :
-    goal.expressions::type_of-returns-in_err-found-in-Case-clause-says
-expressions::type_of-returns-in_err-found-in-Case-clause-says t c =
+pub expressions::judge-returns-in_err-found-in-Case-clause-says :
+    goal.expressions::judge-returns-in_err-found-in-Case-clause-says
+expressions::judge-returns-in_err-found-in-Case-clause-says t c =
     let ctx = c.args.context.now in
     let ms = modules_of_context ctx in
     let ks = scope_in ctx.scope in
@@ -1211,9 +1152,9 @@ expressions::type_of-returns-in_err-found-in-Case-clause-says t c =
     let refused : Says view (Err e) (type_or_fault ms old (nexpr_of c.args.e.now)) = err_of view e (and_then r g) _ (ap (type_or_fault ms old) here) (err_says view view e r g c.in_err-found-in-Case.ensures.says) in
     search rules
 
-pub expressions::type_of-returns-in_ok-found-in-Case-clause-says :
-    goal.expressions::type_of-returns-in_ok-found-in-Case-clause-says
-expressions::type_of-returns-in_ok-found-in-Case-clause-says t c =
+pub expressions::judge-returns-in_ok-found-in-Case-clause-says :
+    goal.expressions::judge-returns-in_ok-found-in-Case-clause-says
+expressions::judge-returns-in_ok-found-in-Case-clause-says t c =
     let ctx = c.args.context.now in
     let ms = modules_of_context ctx in
     let ks = scope_in ctx.scope in
@@ -1229,7 +1170,6 @@ expressions::type_of-returns-in_ok-found-in-Case-clause-says t c =
     let whole = ap (type_or_fault ms old) here ∙ scrutinee_then ms old (context_at k1 ctx) f xt rt alts (shown_at k1 ks c.in_ok-found-in-Case.found.0) grown c.in_ok-found-in-Case.ensures.says in
     same_says (λ (id : TypeId). shown c.type_of_case.new.types ks id) c.type_of_case.result _ _ whole c.type_of_case.ensures.says
 
--- src/joins.rt:91:9
 pub joins::each_join_fits-returns-in_err-join_part_fits-clause-says :
     goal.joins::each_join_fits-returns-in_err-join_part_fits-clause-says
 joins::each_join_fits-returns-in_err-join_part_fits-clause-says t c =
@@ -1250,7 +1190,6 @@ joins::each_join_fits-returns-in_err-join_part_fits-clause-says t c =
     let given : c.from_residual.result ≡ Err f = search rules in
     subst (λ r. Says {X = ℕ} {Y = ℕ} (λ i. i) r whole) (sym given) refused
 
--- src/joins.rt:90:5
 pub joins::each_join_fits-loop-bind-preserved : goal.joins::each_join_fits-loop-bind-preserved
 joins::each_join_fits-loop-bind-preserved t c =
     let ctx = c.args.context.now in
@@ -1273,10 +1212,9 @@ joins::each_join_fits-loop-bind-preserved t c =
           l.invariant.so_far c.loop-bind-test.true c.bind-item.is judged c.in_ok-part.ensures.next;
     }
 
--- src/joins.rt:42:16
-pub joins::join_fits-returns-in_err-owed-clause-says :
-    goal.joins::join_fits-returns-in_err-owed-clause-says
-joins::join_fits-returns-in_err-owed-clause-says t c =
+pub joins::join_fits-returns-in_err-behind-clause-says :
+    goal.joins::join_fits-returns-in_err-behind-clause-says
+joins::join_fits-returns-in_err-behind-clause-says t c =
     let ctx = c.args.context.now in
     let ks = scope_in ctx.scope in
     let ms = modules_of_context ctx in
@@ -1285,21 +1223,19 @@ joins::join_fits-returns-in_err-owed-clause-says t c =
     let a = c.args.answer in
     let k0 = c.args.types.now in
     let judged : List (Binder ℕ) → Result NTy F = λ xs. join_judged ms (context_in k0 ctx) (shown k0 ks a) (NJoined (nbinders_of xs) (nexpr_of j.rhs)) in
-    let f = c.in_err-owed.field-0.0 in
-    let refused : Refuses f (judged c.as_slice-params.result.now) = join_binders_refused ms k0 ctx a ps (nexpr_of j.rhs) f c.in_err-owed.ensures in
+    let f = c.in_err-behind.field-0.0 in
+    let refused : Refuses f (judged c.as_slice-params.result.now) = join_binders_refused ms k0 ctx a ps (nexpr_of j.rhs) f c.in_err-behind.ensures.says in
     let given : c.from_residual.result ≡ Err f = search rules in
     subst (λ r. Says {X = Unit {0}} {Y = NTy} (λ x. shown k0 ks a) r (judged j.params)) (sym given) (subst (λ xs. Refuses f (judged xs)) c.as_slice-params.ensures refused)
 
--- src/joins.rt:45:14
 pub joins::join_fits-type_behind-requires : goal.joins::join_fits-type_behind-requires
 joins::join_fits-type_behind-requires t c =
     let ctx = c.args.context.now in
     let k0 = c.args.types.now in
-    let k1 = c.enter.new.types in
-    let g = c.in_ok-entered.ensures.grows in
-    (omega (arith, c.decreases, J.size_is-JoinBind ℕ Ref c.args.bind.now), (IsContextAt-grows (nodes_of k0) (nodes_of k1) ctx g.nodes c.requires.context, (modules-grow k0 k1 (modules_of_context ctx) g c.requires.modules, c.in_ok-entered.ensures.entered)))
+    let k1 = c.judged_binders.new.types in
+    let g = c.in_ok-behind.ensures.grows in
+    (omega (arith, c.decreases, J.size_is-JoinBind ℕ Ref c.args.bind.now), (IsContextAt-grows (nodes_of k0) (nodes_of k1) ctx g.nodes c.requires.context, (modules-grow k0 k1 (modules_of_context ctx) g c.requires.modules, c.in_ok-behind.ensures.entered)))
 
--- src/joins.rt:45:14
 pub joins::join_fits-returns-in_err-ty-clause-says :
     goal.joins::join_fits-returns-in_err-ty-clause-says
 joins::join_fits-returns-in_err-ty-clause-says t c =
@@ -1312,11 +1248,10 @@ joins::join_fits-returns-in_err-ty-clause-says t c =
     let k0 = c.args.types.now in
     let judged : List (Binder ℕ) → Result NTy F = λ xs. join_judged ms (context_in k0 ctx) (shown k0 ks a) (NJoined (nbinders_of xs) (nexpr_of j.rhs)) in
     let f = c.in_err-ty.field-0.0 in
-    let refused : Refuses f (judged c.as_slice-params.result.now) = join_body_refused ms k0 ctx a ps (nexpr_of j.rhs) c.enter.new.types c.in_ok-part.part c.in_ok-owed.owed c.requires.context c.in_ok-entered.ensures.grows c.in_ok-owed.ensures c.in_ok-part.ensures.part f c.in_err-ty.ensures.says in
+    let refused : Refuses f (judged c.as_slice-params.result.now) = join_body_refused ms k0 ctx a ps (nexpr_of j.rhs) c.judged_binders.new.types c.in_ok-part.part c.in_ok-behind.behind.owed c.requires.context c.in_ok-behind.ensures.grows c.in_ok-behind.ensures.says c.in_ok-part.ensures.part f c.in_err-ty.ensures.says in
     let given : c.from_residual-in_err-ty.result ≡ Err f = search rules in
     subst (λ r. Says {X = Unit {0}} {Y = NTy} (λ x. shown k0 ks a) r (judged j.params)) (sym given) (subst (λ xs. Refuses f (judged xs)) c.as_slice-params.ensures refused)
 
--- src/joins.rt:46:5
 pub joins::join_fits-returns-in_err-pays-clause-says :
     goal.joins::join_fits-returns-in_err-pays-clause-says
 joins::join_fits-returns-in_err-pays-clause-says t c =
@@ -1329,12 +1264,11 @@ joins::join_fits-returns-in_err-pays-clause-says t c =
     let k0 = c.args.types.now in
     let judged : List (Binder ℕ) → Result NTy F = λ xs. join_judged ms (context_in k0 ctx) (shown k0 ks a) (NJoined (nbinders_of xs) (nexpr_of j.rhs)) in
     let f = c.in_err-pays.field-0.0 in
-    let refused : Refuses f (judged c.as_slice-params.result.now) = join_paid_refused ms k0 ctx a ps (nexpr_of j.rhs) c.enter.new.types c.in_ok-part.part c.in_ok-owed.owed c.requires.context c.in_ok-entered.ensures.grows c.in_ok-owed.ensures c.in_ok-part.ensures.part
+    let refused : Refuses f (judged c.as_slice-params.result.now) = join_paid_refused ms k0 ctx a ps (nexpr_of j.rhs) c.judged_binders.new.types c.in_ok-part.part c.in_ok-behind.behind.owed c.requires.context c.in_ok-behind.ensures.grows c.in_ok-behind.ensures.says c.in_ok-part.ensures.part
     (shown c.type_behind.new.types (kinds_past ps ks) c.in_ok-ty.ty) f c.in_ok-ty.ensures.says c.in_err-pays.ensures in
     let given : c.from_residual-in_err-pays.result ≡ Err f = search rules in
     subst (λ r. Says {X = Unit {0}} {Y = NTy} (λ x. shown k0 ks a) r (judged j.params)) (sym given) (subst (λ xs. Refuses f (judged xs)) c.as_slice-params.ensures refused)
 
--- src/joins.rt:26:1
 pub joins::join_fits-returns-clause-says : goal.joins::join_fits-returns-clause-says
 joins::join_fits-returns-clause-says t c =
     let ctx = c.args.context.now in
@@ -1346,27 +1280,24 @@ joins::join_fits-returns-clause-says t c =
     let k0 = c.args.types.now in
     let judged : List (Binder ℕ) → Result NTy F = λ xs. join_judged ms (context_in k0 ctx) (shown k0 ks a) (NJoined (nbinders_of xs) (nexpr_of j.rhs)) in
     let k2 = c.type_behind.new.types in
-    let g2 = Grows-further k0 c.enter.new.types k2 c.in_ok-entered.ensures.grows c.in_ok-ty.ensures.grows in
-    let said = join_says ms k0 ctx a ps (nexpr_of j.rhs) c.enter.new.types c.in_ok-part.part c.in_ok-owed.owed c.requires.context c.in_ok-entered.ensures.grows c.in_ok-owed.ensures c.in_ok-part.ensures.part
+    let g2 = Grows-further k0 c.judged_binders.new.types k2 c.in_ok-behind.ensures.grows c.in_ok-ty.ensures.grows in
+    let said = join_says ms k0 ctx a ps (nexpr_of j.rhs) c.judged_binders.new.types c.in_ok-part.part c.in_ok-behind.behind.owed c.requires.context c.in_ok-behind.ensures.grows c.in_ok-behind.ensures.says c.in_ok-part.ensures.part
     k2 c.in_ok-ty.ty g2 c.requires.answer_in c.in_ok-ty.ensures.says c.in_ok-ty.ensures.valid c.in_ok-pays.ensures c.leaves_as.result c.leaves_as.ensures in
     subst (λ xs. Says {X = Unit {0}} {Y = NTy} (λ x. shown k0 ks a) c.leaves_as.result (judged xs)) c.as_slice-params.ensures said
 
--- src/joins.rt:98:1
 pub joins::joins_fit-returns-then-recursive-clause-context :
     goal.joins::joins_fit-returns-then-recursive-clause-context
 joins::joins_fit-returns-then-recursive-clause-context t c =
     context_stays c.each_join_fits.result c.args.types.now c.each_join_fits.new.types c.args.context.now c.requires.context c.each_join_fits.ensures.grows
 
--- src/joins.rt:126:1
 pub joins::type_behind_joins-returns-clause-context :
     goal.joins::type_behind_joins-returns-clause-context
 joins::type_behind_joins-returns-clause-context t c =
     context_stays c.type_of_part.result c.args.types.now c.type_of_part.new.types c.args.context.now c.requires.context c.type_of_part.ensures.grows
 
--- src/joins.rt:169:16
-pub joins::type_of_join-returns-in_err-kind-clause-says :
-    goal.joins::type_of_join-returns-in_err-kind-clause-says
-joins::type_of_join-returns-in_err-kind-clause-says t c =
+pub joins::type_of_join-returns-in_err-read-clause-says :
+    goal.joins::type_of_join-returns-in_err-read-clause-says
+joins::type_of_join-returns-in_err-read-clause-says t c =
     let ctx = c.args.context.now in
     let ks = scope_in ctx.scope in
     let ms = modules_of_context ctx in
@@ -1375,31 +1306,29 @@ joins::type_of_join-returns-in_err-kind-clause-says t c =
     let ty = nty_of c.args.t.now in
     let js = njoins_of c.args.binds.now in
     let e = nexpr_of c.args.body.now in
-    let f = c.in_err-kind.field-0.0 in
+    let f = c.in_err-read.field-0.0 in
     let whole = type_or_fault ms (context_in k0 ctx) (NJoin r ty js e) in
-    let refused : Refuses f whole = joined_kind_refused ms k0 ctx r ty js e f c.in_err-kind.ensures in
+    let refused : Refuses f whole = joined_kind_refused ms k0 ctx r ty js e f c.in_err-read.ensures.says in
     let given : c.from_residual.result ≡ Err f = search rules in
-    subst (λ r. Says {X = TypeId} {Y = NTy} (λ id. shown k0 ks id) r whole) (sym given) refused
+    subst (λ r. Says {X = TypeId} {Y = NTy} (λ id. shown c.kinded_part.new.types ks id) r whole) (sym given) refused
 
--- src/joins.rt:173:16
 pub joins::type_of_join-joins_fit-requires : goal.joins::type_of_join-joins_fit-requires
 joins::type_of_join-joins_fit-requires t c =
     let ctx = c.args.context.now in
     let ks = scope_in ctx.scope in
     let k0 = c.args.types.now in
-    let k1 = c.read.new.types in
+    let k1 = c.kinded_part.new.types in
     let k2 = c.join_points.new.types in
-    let a = c.in_ok-answer.answer in
+    let a = c.in_ok-read.read.ty in
     let g1 = c.in_ok-points.ensures.grows in
-    let g2 = Grows-further k0 k1 k2 c.in_ok-answer.ensures.grows g1 in
-    let a_in = IsType-grows k1 k2 ks a g1 c.in_ok-answer.ensures.valid in
+    let g2 = Grows-further k0 k1 k2 c.in_ok-read.ensures.grows g1 in
+    let a_in = IsType-grows k1 k2 ks a g1 c.in_ok-read.ensures.valid in
     let group = c.as_slice-group.result.now in
     let points_in = subst (AreJoinsAt (nodes_of k2) ks) (sym c.as_slice-group.ensures) c.in_ok-points.ensures.valid in
     let points : shown_joins_at (nodes_of k2) ks group ≡ join_points (shown k2 ks a) (njoins_of c.args.binds.now) =
-    ap (shown_joins_at (nodes_of k2) ks) c.as_slice-group.ensures ∙ c.in_ok-points.ensures.all ∙ ap (λ (x : NTy). join_points x (njoins_of c.args.binds.now)) (sym (shown-grows k1 k2 ks a g1 c.in_ok-answer.ensures.valid)) in
+    ap (shown_joins_at (nodes_of k2) ks) c.as_slice-group.ensures ∙ c.in_ok-points.ensures.all ∙ ap (λ (x : NTy). join_points x (njoins_of c.args.binds.now)) (sym (shown-grows k1 k2 ks a g1 c.in_ok-read.ensures.valid)) in
     (omega (arith, c.decreases), (IsContextAt-grows (nodes_of k0) (nodes_of k2) ctx g2.nodes c.requires.context, (modules-grow k0 k2 (modules_of_context ctx) g2 c.requires.modules, (a_in, (points_in, points)))))
 
--- src/joins.rt:173:16
 pub joins::type_of_join-returns-in_err-part-clause-says :
     goal.joins::type_of_join-returns-in_err-part-clause-says
 joins::type_of_join-returns-in_err-part-clause-says t c =
@@ -1411,36 +1340,35 @@ joins::type_of_join-returns-in_err-part-clause-says t c =
     let ty = nty_of c.args.t.now in
     let js = njoins_of c.args.binds.now in
     let e = nexpr_of c.args.body.now in
-    let k1 = c.read.new.types in
+    let k1 = c.kinded_part.new.types in
     let k2 = c.join_points.new.types in
-    let a = c.in_ok-answer.answer in
+    let a = c.in_ok-read.read.ty in
     let g1 = c.in_ok-points.ensures.grows in
-    let g2 = Grows-further k0 k1 k2 c.in_ok-answer.ensures.grows g1 in
-    let a_in = IsType-grows k1 k2 ks a g1 c.in_ok-answer.ensures.valid in
-    let a_is = shown-grows k1 k2 ks a g1 c.in_ok-answer.ensures.valid ∙ c.in_ok-answer.ensures.view in
+    let g2 = Grows-further k0 k1 k2 c.in_ok-read.ensures.grows g1 in
+    let a_in = IsType-grows k1 k2 ks a g1 c.in_ok-read.ensures.valid in
+    let a_is = shown-grows k1 k2 ks a g1 c.in_ok-read.ensures.valid ∙ c.in_ok-read.ensures.view in
     let f = c.in_err-part.field-0.0 in
     let whole = type_or_fault ms (context_in k0 ctx) (NJoin r ty js e) in
-    let refused : Refuses f whole = joined_points_refused ms k0 ctx r ty js e (kind_of c.in_ok-kind.kind) c.in_ok-kind.ensures c.requires.context k2 g2 a a_in a_is f c.in_err-part.ensures.says in
+    let refused : Refuses f whole = joined_points_refused ms k0 ctx r ty js e (kind_shown c.kinded_part.new.types c.in_ok-read.read.kind) c.in_ok-read.ensures.says c.requires.context k2 g2 a a_in a_is f c.in_err-part.ensures.says in
     let given : c.from_residual-in_err-part.result ≡ Err f = search rules in
     subst (λ r. Says {X = TypeId} {Y = NTy} (λ id. shown c.joins_fit.new.types ks id) r whole) (sym given) refused
 
--- src/joins.rt:174:17
 pub joins::type_of_join-type_behind_joins-requires :
     goal.joins::type_of_join-type_behind_joins-requires
 joins::type_of_join-type_behind_joins-requires t c =
     let ctx = c.args.context.now in
     let ks = scope_in ctx.scope in
     let k0 = c.args.types.now in
-    let k1 = c.read.new.types in
+    let k1 = c.kinded_part.new.types in
     let k2 = c.join_points.new.types in
-    let a = c.in_ok-answer.answer in
+    let a = c.in_ok-read.read.ty in
     let g1 = c.in_ok-points.ensures.grows in
-    let g2 = Grows-further k0 k1 k2 c.in_ok-answer.ensures.grows g1 in
-    let a_in = IsType-grows k1 k2 ks a g1 c.in_ok-answer.ensures.valid in
+    let g2 = Grows-further k0 k1 k2 c.in_ok-read.ensures.grows g1 in
+    let a_in = IsType-grows k1 k2 ks a g1 c.in_ok-read.ensures.valid in
     let group = c.as_slice-group.result.now in
     let points_in = subst (AreJoinsAt (nodes_of k2) ks) (sym c.as_slice-group.ensures) c.in_ok-points.ensures.valid in
     let points : shown_joins_at (nodes_of k2) ks group ≡ join_points (shown k2 ks a) (njoins_of c.args.binds.now) =
-    ap (shown_joins_at (nodes_of k2) ks) c.as_slice-group.ensures ∙ c.in_ok-points.ensures.all ∙ ap (λ (x : NTy). join_points x (njoins_of c.args.binds.now)) (sym (shown-grows k1 k2 ks a g1 c.in_ok-answer.ensures.valid)) in
+    ap (shown_joins_at (nodes_of k2) ks) c.as_slice-group.ensures ∙ c.in_ok-points.ensures.all ∙ ap (λ (x : NTy). join_points x (njoins_of c.args.binds.now)) (sym (shown-grows k1 k2 ks a g1 c.in_ok-read.ensures.valid)) in
     let k3 = c.joins_fit.new.types in
     let g3 = c.in_ok-part.ensures.grows in
     let later : shown_joins_at (nodes_of k3) ks group ≡ join_points (shown k3 ks a) (njoins_of c.args.binds.now) =
@@ -1455,7 +1383,6 @@ joins::type_of_join-type_behind_joins-requires t c =
       ),
     )
 
--- src/joins.rt:174:17
 pub joins::type_of_join-returns-in_err-found-clause-says :
     goal.joins::type_of_join-returns-in_err-found-clause-says
 joins::type_of_join-returns-in_err-found-clause-says t c =
@@ -1467,20 +1394,19 @@ joins::type_of_join-returns-in_err-found-clause-says t c =
     let ty = nty_of c.args.t.now in
     let js = njoins_of c.args.binds.now in
     let e = nexpr_of c.args.body.now in
-    let k1 = c.read.new.types in
+    let k1 = c.kinded_part.new.types in
     let k2 = c.join_points.new.types in
-    let a = c.in_ok-answer.answer in
+    let a = c.in_ok-read.read.ty in
     let g1 = c.in_ok-points.ensures.grows in
-    let g2 = Grows-further k0 k1 k2 c.in_ok-answer.ensures.grows g1 in
-    let a_in = IsType-grows k1 k2 ks a g1 c.in_ok-answer.ensures.valid in
-    let a_is = shown-grows k1 k2 ks a g1 c.in_ok-answer.ensures.valid ∙ c.in_ok-answer.ensures.view in
+    let g2 = Grows-further k0 k1 k2 c.in_ok-read.ensures.grows g1 in
+    let a_in = IsType-grows k1 k2 ks a g1 c.in_ok-read.ensures.valid in
+    let a_is = shown-grows k1 k2 ks a g1 c.in_ok-read.ensures.valid ∙ c.in_ok-read.ensures.view in
     let f = c.in_err-found.field-0.0 in
     let whole = type_or_fault ms (context_in k0 ctx) (NJoin r ty js e) in
-    let refused : Refuses f whole = joined_body_refused ms k0 ctx r ty js e (kind_of c.in_ok-kind.kind) c.in_ok-kind.ensures c.requires.context k2 g2 a a_in a_is c.in_ok-part.part c.in_ok-part.ensures.says c.joins_fit.new.types c.in_ok-part.ensures.grows f c.in_err-found.ensures.says in
+    let refused : Refuses f whole = joined_body_refused ms k0 ctx r ty js e (kind_shown c.kinded_part.new.types c.in_ok-read.read.kind) c.in_ok-read.ensures.says c.requires.context k2 g2 a a_in a_is c.in_ok-part.part c.in_ok-part.ensures.says c.joins_fit.new.types c.in_ok-part.ensures.grows f c.in_err-found.ensures.says in
     let given : c.from_residual-in_err-found.result ≡ Err f = search rules in
     subst (λ r. Says {X = TypeId} {Y = NTy} (λ id. shown c.type_behind_joins.new.types ks id) r whole) (sym given) refused
 
--- src/joins.rt:152:1
 pub joins::type_of_join-returns-clause-says : goal.joins::type_of_join-returns-clause-says
 joins::type_of_join-returns-clause-says t c =
     let ctx = c.args.context.now in
@@ -1491,51 +1417,47 @@ joins::type_of_join-returns-clause-says t c =
     let ty = nty_of c.args.t.now in
     let js = njoins_of c.args.binds.now in
     let e = nexpr_of c.args.body.now in
-    let k1 = c.read.new.types in
+    let k1 = c.kinded_part.new.types in
     let k2 = c.join_points.new.types in
-    let a = c.in_ok-answer.answer in
+    let a = c.in_ok-read.read.ty in
     let g1 = c.in_ok-points.ensures.grows in
-    let g2 = Grows-further k0 k1 k2 c.in_ok-answer.ensures.grows g1 in
-    let a_in = IsType-grows k1 k2 ks a g1 c.in_ok-answer.ensures.valid in
-    let a_is = shown-grows k1 k2 ks a g1 c.in_ok-answer.ensures.valid ∙ c.in_ok-answer.ensures.view in
-    joined_says ms k0 ctx r ty js e (kind_of c.in_ok-kind.kind) c.in_ok-kind.ensures c.requires.context k2 g2 a a_in a_is c.in_ok-part.part c.in_ok-part.ensures.says c.joins_fit.new.types c.in_ok-part.ensures.grows
-    c.type_behind_joins.new.types c.in_ok-found.found c.in_ok-found.ensures.grows c.in_ok-found.ensures.says c.join_type.result c.join_type.ensures.says
+    let g2 = Grows-further k0 k1 k2 c.in_ok-read.ensures.grows g1 in
+    let a_in = IsType-grows k1 k2 ks a g1 c.in_ok-read.ensures.valid in
+    let a_is = shown-grows k1 k2 ks a g1 c.in_ok-read.ensures.valid ∙ c.in_ok-read.ensures.view in
+    joined_says ms k0 ctx r ty js e (kind_shown c.kinded_part.new.types c.in_ok-read.read.kind) c.in_ok-read.ensures.says c.requires.context k2 g2 a a_in a_is c.in_ok-part.part c.in_ok-part.ensures.says c.joins_fit.new.types c.in_ok-part.ensures.grows
+    c.is_value_kind-is_value.result c.is_value_kind-is_value.ensures c.type_behind_joins.new.types c.in_ok-found.found c.in_ok-found.ensures.grows c.in_ok-found.ensures.says c.join_type.result c.join_type.ensures.says
 
--- src/lets.rt:38:13
-pub lets::bind_fits-returns-in_err-k-clause-says :
-    goal.lets::bind_fits-returns-in_err-k-clause-says
-lets::bind_fits-returns-in_err-k-clause-says t c =
+pub lets::bind_fits-returns-in_err-read-clause-says :
+    goal.lets::bind_fits-returns-in_err-read-clause-says
+lets::bind_fits-returns-in_err-read-clause-says t c =
     let ctx = c.args.context.now in
-    let f = c.in_err-k.field-0.0 in
-    let kinds : (context_in c.args.types.now ctx).kinds ≡ kinds_of ctx.scope.kinds.now = context_kinds (nodes_of c.args.types.now) ctx ∙ scope_is ctx.scope in
+    let f = c.in_err-read.field-0.0 in
+    let kinds : (context_in c.args.types.now ctx).kinds ≡ scope_in ctx.scope = context_kinds (nodes_of c.args.types.now) ctx in
     let given : c.from_residual.result ≡ Err f = search rules in
     says_err _ f c.from_residual.result _ given
-    (bind_unkinded (modules_of_context ctx) (context_in c.args.types.now ctx) c.args.recursive (kinds_of ctx.scope.kinds.now) (nty_of c.args.bind.now.ty) (nexpr_of c.args.bind.now.rhs) f kinds c.in_err-k.ensures)
+    (bind_unkinded (modules_of_context ctx) (context_in c.args.types.now ctx) c.args.recursive (scope_in ctx.scope) (nty_of c.args.bind.now.ty) (nexpr_of c.args.bind.now.rhs) f kinds c.in_err-read.ensures.says)
 
--- src/lets.rt:40:17
 pub lets::bind_fits-type_of_part-requires : goal.lets::bind_fits-type_of_part-requires
 lets::bind_fits-type_of_part-requires t c =
     let ctx = c.args.context.now in
-    let mid = c.read.new.types in
-    let g = c.in_ok-t.ensures.grows in
+    let mid = c.kinded_part.new.types in
+    let g = c.in_ok-read.ensures.grows in
     (omega (arith, rhs_smaller c.args.bind.now), (IsContextAt-grows (nodes_of c.args.types.now) (nodes_of mid) ctx g.nodes c.requires.context, g.modules ∙ c.requires.modules))
 
--- src/lets.rt:40:17
 pub lets::bind_fits-returns-in_err-right-clause-says :
     goal.lets::bind_fits-returns-in_err-right-clause-says
 lets::bind_fits-returns-in_err-right-clause-says t c =
     let ctx = c.args.context.now in
     let f = c.in_err-right.field-0.0 in
     let old = nodes_of c.args.types.now in
-    let mid = nodes_of c.read.new.types in
-    let kinds : (context_at old ctx).kinds ≡ kinds_of ctx.scope.kinds.now = context_kinds old ctx ∙ scope_is ctx.scope in
-    let same : context_at mid ctx ≡ context_at old ctx = context_at-grows old mid ctx c.in_ok-t.ensures.grows.nodes c.requires.context in
+    let mid = nodes_of c.kinded_part.new.types in
+    let kinds : (context_at old ctx).kinds ≡ scope_in ctx.scope = context_kinds old ctx in
+    let same : context_at mid ctx ≡ context_at old ctx = context_at-grows old mid ctx c.in_ok-read.ensures.grows.nodes c.requires.context in
     let given : c.from_residual-in_err-right.result ≡ Err f = search rules in
     says_err _ f c.from_residual-in_err-right.result _ given
-    (bind_untyped (modules_of_context ctx) (context_at old ctx) c.args.recursive (kinds_of ctx.scope.kinds.now) (nty_of c.args.bind.now.ty) (nexpr_of c.args.bind.now.rhs) f (kind_of c.in_ok-k.k) (context_at mid ctx)
-    kinds c.in_ok-k.ensures same c.in_err-right.ensures.says)
+    (bind_untyped (modules_of_context ctx) (context_at old ctx) c.args.recursive (scope_in ctx.scope) (nty_of c.args.bind.now.ty) (nexpr_of c.args.bind.now.rhs) f (kind_shown c.kinded_part.new.types c.in_ok-read.read.kind) (context_at mid ctx)
+    kinds c.in_ok-read.ensures.says same c.in_err-right.ensures.says)
 
--- src/lets.rt:24:1
 pub lets::bind_fits-returns-clause-says : goal.lets::bind_fits-returns-clause-says
 lets::bind_fits-returns-clause-says t c =
     let ctx = c.args.context.now in
@@ -1543,33 +1465,30 @@ lets::bind_fits-returns-clause-says t c =
     let r = c.args.recursive in
     let e = nexpr_of c.args.bind.now.rhs in
     let old = nodes_of c.args.types.now in
-    let mid = nodes_of c.read.new.types in
+    let mid = nodes_of c.kinded_part.new.types in
     let new = nodes_of c.type_of_part.new.types in
-    let ty = c.in_ok-t.t in
-    let kinds : (context_at old ctx).kinds ≡ kinds_of ctx.scope.kinds.now = context_kinds old ctx ∙ scope_is ctx.scope in
-    let same : context_at mid ctx ≡ context_at old ctx = context_at-grows old mid ctx c.in_ok-t.ensures.grows.nodes c.requires.context in
-    let is : shown_at new ks ty.0 ≡ nty_of c.args.bind.now.ty = shown_at-grows mid new ks ty.0 c.in_ok-right.ensures.grows.nodes c.in_ok-t.ensures.valid ∙ c.in_ok-t.ensures.view in
+    let ty = c.in_ok-read.read.ty in
+    let kinds : (context_at old ctx).kinds ≡ scope_in ctx.scope = context_kinds old ctx in
+    let same : context_at mid ctx ≡ context_at old ctx = context_at-grows old mid ctx c.in_ok-read.ensures.grows.nodes c.requires.context in
+    let is : shown_at new ks ty.0 ≡ nty_of c.args.bind.now.ty = shown_at-grows mid new ks ty.0 c.in_ok-right.ensures.grows.nodes c.in_ok-read.ensures.valid ∙ c.in_ok-read.ensures.view in
     let atomic : c.if-not-recursive.atom ≡ (not r && words.is_atom e) =
     elim c.if-not-recursive.branch [
       | lets::bind_fits-then-not-recursive w ↦ w.atom-is ∙ w.is_atom-atom.ensures ∙ ap (λ b. not b && words.is_atom e) (sym w.if-not-recursive.true)
       | lets::bind_fits-else-not-recursive w ↦ w.atom-is ∙ ap (λ b. not b) w.if-not-recursive.false ∙ ap (λ b. not b && words.is_atom e) (sym w.if-not-recursive.false)
     ] in
-    bind_takes_it (modules_of_context ctx) (context_at old ctx) r (kinds_of ctx.scope.kinds.now) (nty_of c.args.bind.now.ty) e c.bind_takes.result (kind_of c.in_ok-k.k) (context_at mid ctx) (shown_at new ks ty.0)
-    (shown_at new ks c.in_ok-right.right.0) c.if-not-recursive.atom kinds c.in_ok-k.ensures same c.in_ok-right.ensures.says is atomic c.bind_takes.ensures
+    bind_takes_it (modules_of_context ctx) (context_at old ctx) r (scope_in ctx.scope) (nty_of c.args.bind.now.ty) e c.bind_takes.result (kind_shown c.kinded_part.new.types c.in_ok-read.read.kind) (context_at mid ctx) (shown_at new ks ty.0)
+    (shown_at new ks c.in_ok-right.right.0) c.if-not-recursive.atom c.is_value_kind-is_value.result kinds c.in_ok-read.ensures.says same c.in_ok-right.ensures.says is atomic c.is_value_kind-is_value.ensures c.bind_takes.ensures
 
--- src/lets.rt:91:1
 pub lets::binds_fit-returns-then-recursive-clause-context :
     goal.lets::binds_fit-returns-then-recursive-clause-context
 lets::binds_fit-returns-then-recursive-clause-context t c =
     context_after c.each_bind_fits.result c.args.types.now c.each_bind_fits.new.types c.args.context.now c.requires.context c.each_bind_fits.ensures.grows
 
--- src/lets.rt:91:1
 pub lets::binds_fit-returns-else-recursive-clause-context :
     goal.lets::binds_fit-returns-else-recursive-clause-context
 lets::binds_fit-returns-else-recursive-clause-context t c =
     context_after c.each_bind_fits-else-recursive.result c.args.types.now c.each_bind_fits-else-recursive.new.types c.args.context.now c.requires.context c.each_bind_fits-else-recursive.ensures.grows
 
--- src/lets.rt:84:9
 pub lets::each_bind_fits-returns-in_err-bind_part_fits-clause-says :
     goal.lets::each_bind_fits-returns-in_err-bind_part_fits-clause-says
 lets::each_bind_fits-returns-in_err-bind_part_fits-clause-says t c =
@@ -1584,7 +1503,6 @@ lets::each_bind_fits-returns-in_err-bind_part_fits-clause-says t c =
     (binds_refused (modules_of_context ctx) (context_at old ctx) (context_at mid ctx) c.args.recursive _ l.part c.args.binds.now l.bind-index c.bind-item.result f
     l.invariant.so_far c.loop-bind-test.true c.bind-item.is same c.in_err-bind_part_fits.ensures.says)
 
--- src/lets.rt:83:5
 pub lets::each_bind_fits-loop-bind-preserved : goal.lets::each_bind_fits-loop-bind-preserved
 lets::each_bind_fits-loop-bind-preserved t c =
     let ctx = c.args.context.now in
@@ -1602,13 +1520,11 @@ lets::each_bind_fits-loop-bind-preserved t c =
       so_far = binds_more (modules_of_context ctx) (context_at old ctx) c.args.recursive _ l.part c.in_ok-part.part (nty_of b.ty) c.args.binds.now l.bind-index b l.invariant.so_far c.loop-bind-test.true c.bind-item.is judged c.in_ok-part.ensures.next;
     }
 
--- src/lets.rt:119:1
 pub lets::type_behind_binds-returns-clause-context :
     goal.lets::type_behind_binds-returns-clause-context
 lets::type_behind_binds-returns-clause-context t c =
     context_after c.type_of_part.result c.args.types.now c.type_of_part.new.types c.args.context.now c.requires.context c.type_of_part.ensures.grows
 
--- src/lets.rt:161:16
 pub lets::type_of_let-binds_fit-requires : goal.lets::type_of_let-binds_fit-requires
 lets::type_of_let-binds_fit-requires t c =
     let ctx = c.args.context.now in
@@ -1629,7 +1545,6 @@ lets::type_of_let-binds_fit-requires t c =
       ),
     )
 
--- src/lets.rt:161:16
 pub lets::type_of_let-returns-in_err-part-clause-says :
     goal.lets::type_of_let-returns-in_err-part-clause-says
 lets::type_of_let-returns-in_err-part-clause-says t c =
@@ -1642,7 +1557,6 @@ lets::type_of_let-returns-in_err-part-clause-says t c =
     says_err _ f c.from_residual-in_err-part.result _ given
     (let_refused (modules_of_context ctx) (context_at old ctx) (context_at mid ctx) c.args.recursive (nbinds_of c.args.binds.now) (nexpr_of c.args.body.now) same f c.in_err-part.ensures.says)
 
--- src/lets.rt:162:5
 pub lets::type_of_let-type_behind_binds-requires :
     goal.lets::type_of_let-type_behind_binds-requires
 lets::type_of_let-type_behind_binds-requires t c =
@@ -1667,7 +1581,6 @@ lets::type_of_let-type_behind_binds-requires t c =
       ),
     )
 
--- src/lets.rt:143:1
 pub lets::type_of_let-returns-clause-says : goal.lets::type_of_let-returns-clause-says
 lets::type_of_let-returns-clause-says t c =
     let ctx = c.args.context.now in

@@ -120,8 +120,8 @@ decreases-expressions::type_of_primitive l = 10 * most (size-Expr ℕ Ref) l.arg
 abbrev pub decreases-expressions::type_of_jump : goal.decreases-expressions::type_of_jump
 decreases-expressions::type_of_jump l = 10 * most (size-Arg ℕ Ref) l.args.now + 3
 
-abbrev pub decreases-expressions::type_of : goal.decreases-expressions::type_of
-decreases-expressions::type_of l = 10 * size-Expr ℕ Ref l.e.now
+abbrev pub decreases-expressions::judge : goal.decreases-expressions::judge
+decreases-expressions::judge l = 10 * size-Expr ℕ Ref l.e.now
 
 abbrev pub decreases-joins::join_fits : goal.decreases-joins::join_fits
 decreases-joins::join_fits l = 10 * size-JoinBind ℕ Ref l.bind.now

@@ -9,12 +9,14 @@ use Rattle.fc_model.specs.Kinding.{Modules}
 use Rattle.fc_model.specs.Nameless.{NGAll, NGAx, NGCapp, NGCoAll, NGFun, NGInst, NGLeft, NGNth, NGRefl, NGRight, NGSub, NGSym, NGTc, NGTrans, NGUniv, NGVar}
 use Rattle.fc_model.specs.NamelessView.{nco_of, ncos_of, nty_of}
 use Rattle.fc_model.specs.Typing.{Context}
-use Rattle.fc_lint_context.proofs.Contexts.{context_at-grows, scope_is}
+use Rattle.fc_lint_context.proofs.Contexts.{IsContextAt-grows, context_at-grows, scope_is}
 use Rattle.fc_lint_context.specs.ContextViews.{context_at, context_in, modules_of_context}
 use Rattle.fc_type_scope.proofs.Proven.{AreEndsAt-none, AreEndsAt-push, shown_all_ends-none, shown_all_ends-push, shown_ends-grows}
 use Rattle.fc_type_scope.specs.EndViews.{AreEndsAt, IsEnds, shown_all_ends_at, shown_ends, shown_ends_at}
 use Rattle.fc_type_scope.specs.Scopes.{scope_in}
 use Rattle.fc_type_scope.specs.declared.ends.Ends.{Ends}
+use Rattle.fc_type_table.specs.InScope.{numbered_of}
+use Rattle.fc_type_table.proofs.KindsInScope.{AreNumbered-one}
 use Rattle.fc_type_table.proofs.Numbers.{Grows-further, Grows-refl}
 use Rattle.fc_type_table.specs.TypeTables.{modules_in, nodes_of}
 use Rattle.fc_coercion.specs.Pairs.{two_ends, with_ends}
@@ -69,9 +71,12 @@ ends_behind-ends_of_part-requires t c =
     let ks = scope_in ctx.scope in
     let inner = c.behind_type-inner.result in
     let k = kind_of c.args.kind.now in
-    let k0 = nodes_of c.args.types.now in
+    let k0 = nodes_of c.read_kind.new.self in
+    let read = c.in_ok-read_kind.ensures in
+    let kept = IsContextAt-grows (nodes_of c.args.types.now) k0 ctx read.grows.nodes c.requires.context in
     let past = ap (λ js. kind_of c.args.kind.now ∷ js) (sym (scope_is ctx.scope)) in
-    (omega arith, (c.behind_type-inner.ensures.valid k0 k past c.requires.context, c.requires.modules ∙ sym c.behind_type-inner.ensures.declared))
+    let numbered = AreNumbered-one k0 _ (numbered_of ctx.scope.kinds.now) (record { is_kind = read.valid; shows = read.view }) kept.scope in
+    (omega arith, (c.behind_type-inner.ensures.valid k0 k past numbered kept, read.grows.modules ∙ c.requires.modules ∙ sym c.behind_type-inner.ensures.declared))
 
 pub ends_behind-returns-in_err-body-clause-says : goal.ends_behind-returns-in_err-body-clause-says
 ends_behind-returns-in_err-body-clause-says t c =
@@ -81,13 +86,16 @@ ends_behind-returns-in_err-body-clause-says t c =
     let cs = (context_in c.args.types.now ctx).coercions in
     let inner = c.behind_type-inner.result in
     let k = kind_of c.args.kind.now in
-    let k0 = nodes_of c.args.types.now in
+    let k0 = nodes_of c.read_kind.new.self in
+    let read = c.in_ok-read_kind.ensures in
+    let kept = IsContextAt-grows (nodes_of c.args.types.now) k0 ctx read.grows.nodes c.requires.context in
     let past = ap (λ js. kind_of c.args.kind.now ∷ js) (sym (scope_is ctx.scope)) in
     let scope : scope_in inner.scope ≡ k ∷ ks = c.behind_type-inner.ensures.scope ∙ past in
-    let view : (context_at k0 inner).coercions ≡ map shifted_ends cs = ap (λ (x : Context). x.coercions) (c.behind_type-inner.ensures.view k0 k past c.requires.context) in
+    let view : (context_at k0 inner).coercions ≡ map shifted_ends cs = ap (λ (x : Context). x.coercions) (c.behind_type-inner.ensures.view k0 k past kept)
+    ∙ ap (λ (x : Context). map shifted_ends x.coercions) (context_at-grows (nodes_of c.args.types.now) k0 ctx read.grows.nodes c.requires.context) in
     let f = c.in_err-body.field-0.0 in
-    let given : c.from_residual.result ≡ Err f = search rules in
-    says_err _ f c.from_residual.result _ given
+    let given : c.from_residual-in_err-body.result ≡ Err f = search rules in
+    says_err _ f c.from_residual-in_err-body.result _ given
     (all_refused ms (modules_of_context inner) ks (scope_in inner.scope) cs (context_at k0 inner).coercions k (nco_of c.args.g.now) c.behind_type-inner.ensures.declared scope
     view f c.in_err-body.ensures.says)
 
@@ -103,7 +111,9 @@ ends_behind-quantified-requires-clause-ends_in t c =
     let ks = scope_in ctx.scope in
     let inner = c.behind_type-inner.result in
     let k = kind_of c.args.kind.now in
-    let k0 = nodes_of c.args.types.now in
+    let k0 = nodes_of c.read_kind.new.self in
+    let read = c.in_ok-read_kind.ensures in
+    let kept = IsContextAt-grows (nodes_of c.args.types.now) k0 ctx read.grows.nodes c.requires.context in
     let past = ap (λ js. kind_of c.args.kind.now ∷ js) (sym (scope_is ctx.scope)) in
     let scope : scope_in inner.scope ≡ k ∷ ks = c.behind_type-inner.ensures.scope ∙ past in
     subst (λ js. IsEnds c.ends_of_part.new.types js c.in_ok-body.body) scope c.in_ok-body.ensures.valid
@@ -116,13 +126,16 @@ ends_behind-returns-clause-says t c =
     let cs = (context_in c.args.types.now ctx).coercions in
     let inner = c.behind_type-inner.result in
     let k = kind_of c.args.kind.now in
-    let k0 = nodes_of c.args.types.now in
+    let k0 = nodes_of c.read_kind.new.self in
+    let read = c.in_ok-read_kind.ensures in
+    let kept = IsContextAt-grows (nodes_of c.args.types.now) k0 ctx read.grows.nodes c.requires.context in
     let past = ap (λ js. kind_of c.args.kind.now ∷ js) (sym (scope_is ctx.scope)) in
     let scope : scope_in inner.scope ≡ k ∷ ks = c.behind_type-inner.ensures.scope ∙ past in
-    let view : (context_at k0 inner).coercions ≡ map shifted_ends cs = ap (λ (x : Context). x.coercions) (c.behind_type-inner.ensures.view k0 k past c.requires.context) in
+    let view : (context_at k0 inner).coercions ≡ map shifted_ends cs = ap (λ (x : Context). x.coercions) (c.behind_type-inner.ensures.view k0 k past kept)
+    ∙ ap (λ (x : Context). map shifted_ends x.coercions) (context_at-grows (nodes_of c.args.types.now) k0 ctx read.grows.nodes c.requires.context) in
     let mid = c.ends_of_part.new.types in
     let e = c.in_ok-body.body in
-    let mods : modules_in mid ≡ ms = c.in_ok-body.ensures.grows.modules ∙ c.requires.modules in
+    let mods : modules_in mid ≡ ms = c.in_ok-body.ensures.grows.modules ∙ read.grows.modules ∙ c.requires.modules in
     let whole : ends_or_fault ms ks cs (NGAll k (nco_of c.args.g.now)) ≡ forall_ends (modules_in mid) ks k (shown_ends mid (k ∷ ks) e) =
     all_proven ms (modules_of_context inner) ks (scope_in inner.scope) cs (context_at k0 inner).coercions k (nco_of c.args.g.now) c.behind_type-inner.ensures.declared scope view
     (shown_ends mid (scope_in inner.scope) e) c.in_ok-body.ensures.says
@@ -132,7 +145,7 @@ ends_behind-returns-clause-says t c =
 pub ends_behind-returns-clause-context : goal.ends_behind-returns-clause-context
 ends_behind-returns-clause-context t c =
     context-on c.quantified.result c.args.types.now c.quantified.new.types c.args.context.now
-    (grows-on c.quantified.result c.args.types.now c.ends_of_part.new.types c.quantified.new.types c.in_ok-body.ensures.grows c.quantified.ensures.grows) c.requires.context
+    (grows-on c.quantified.result c.args.types.now c.ends_of_part.new.types c.quantified.new.types (Grows-further c.args.types.now c.read_kind.new.self c.ends_of_part.new.types c.in_ok-read_kind.ensures.grows c.in_ok-body.ensures.grows) c.quantified.ensures.grows) c.requires.context
 
 pub ends_of-returns-in_err-e-in-Sym-clause-says : goal.ends_of-returns-in_err-e-in-Sym-clause-says
 ends_of-returns-in_err-e-in-Sym-clause-says t c =

@@ -1,11 +1,15 @@
 use Rattle.std.proofs.Common.{◌≡◌, Some, None, drop, sym, arith, rules}
 use Rattle.fc_model.specs.NamelessView.{nargs_of}
+use Rattle.fc_type_scope.proofs.ScopeKinds.{scope_grows}
 use Rattle.fc_type_scope.specs.Scopes.{scope_in}
 use Rattle.fc_type_table.proofs.Numbers.{Grows-further}
-use Rattle.fc_type_table.specs.TypeTables.{IsType, shown}
+use Rattle.fc_type_table.specs.TypeTables.{IsType, nodes_of, shown}
 use Rattle.fc_type_reading.specs.Readings.{applied_to_first}
 use Rattle.fc_type_reading.proofs.Constructed.{turn-at}
 use Rattle.fc_type_reading.proofs.constructors.applied_to.Goals as goal
+
+pub applied_at-requires-clause-scope : goal.applied_at-requires-clause-scope
+applied_at-requires-clause-scope c = scope_grows (nodes_of c.args.types.now) (nodes_of c.loop-place.types) c.args.scope.now.kinds.now c.loop-place.invariant.grows.nodes c.requires.scope
 
 pub returns-in-None-clause-view : goal.returns-in-None-clause-view
 returns-in-None-clause-view c =

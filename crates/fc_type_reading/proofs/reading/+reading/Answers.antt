@@ -7,8 +7,10 @@ use Rattle.fc_model.specs.Typing.{type_read_off, with_binder}
 use Rattle.fc_type_reading.proofs.Readable.{IsReadable-grows}
 use Rattle.fc_type_reading.proofs.Steps.{lambda-none, lambda-some, let-is, reads-as}
 use Rattle.fc_type_scope.proofs.Growing.{IsEntered-grows}
+use Rattle.fc_type_scope.proofs.ScopeKinds.{scope_grows}
 use Rattle.fc_type_scope.specs.Behind.{kinds_past}
 use Rattle.fc_type_scope.specs.Scopes.{AreTypesAt, scope_in, shown_all_at}
+use Rattle.fc_type_table.proofs.Numbers.{Grows-further}
 use Rattle.fc_type_table.specs.TypeTables.{Grows, nodes_of, shown}
 use Rattle.fc_type_table.specs.declared.node.TypeId.{TypeId}
 use Rattle.fc_type_reading.proofs.reading.+reading.Goals as goal
@@ -28,6 +30,15 @@ lambda_type-returns-in-None-clause-view t c =
     let same : context_at mid ctx ≡ context_at old ctx = context_at-grows old mid ctx c.in_ok-entered.ensures.grows.nodes c.requires.context in
     let none : None ≡ type_read_off ms (with_binder b (context_at mid ctx)) e = search rules in
     lambda-none ms (context_at old ctx) (context_at mid ctx) same b e none
+
+pub lambda_type-function_over_one-requires-clause-scope : goal.lambda_type-function_over_one-requires-clause-scope
+lambda_type-function_over_one-requires-clause-scope t c =
+    let first = c.args.types.now in
+    let mid = c.enter_one.new.types in
+    let below = c.type_below.new.types in
+    let grows : Grows mid below = search rules in
+    let further : Grows first below = Grows-further first mid below c.in_ok-entered.ensures.grows grows in
+    scope_grows (nodes_of first) (nodes_of below) c.args.context.now.scope.kinds.now further.nodes c.requires.context.scope
 
 pub lambda_type-function_over_one-requires-clause-entered_in : goal.lambda_type-function_over_one-requires-clause-entered_in
 lambda_type-function_over_one-requires-clause-entered_in t c =
@@ -73,3 +84,10 @@ let_type-returns-clause-view t c =
     let same : context_at mid ctx ≡ context_at old ctx = context_at-grows old mid ctx c.in_ok-ids.ensures.grows.nodes c.requires.context in
     reads-as (λ (id : TypeId). shown c.type_behind_binds.new.types (scope_in ctx.scope) id) c.type_behind_binds.result _ _
     (sym (let-is (modules_of_context ctx) (context_at old ctx) (context_at mid ctx) same (nbinds_of c.args.binds.now) (nexpr_of c.args.body.now))) c.type_behind_binds.ensures.view
+
+pub type_in-applied_type-requires-clause-scope : goal.type_in-applied_type-requires-clause-scope
+type_in-applied_type-requires-clause-scope t c =
+    let old = c.args.types.now in
+    let new = c.type_in.new.types in
+    let grows : Grows old new = search rules in
+    scope_grows (nodes_of old) (nodes_of new) c.args.context.now.scope.kinds.now grows.nodes c.requires.context.scope

@@ -4,7 +4,11 @@ use Rattle.fc_type_table.proofs.Numbers.{Extends-further, IsTypeAt-grows, shown_
 use Rattle.fc_type_table.specs.TypeTables.{nodes_of, shown}
 use Rattle.fc_lint_context.proofs.Joined.{points_more}
 use Rattle.fc_lint_context.proofs.Reached.{AreJoinsAt-push}
+use Rattle.fc_type_scope.proofs.ScopeKinds.{scope_grows}
 use Rattle.fc_lint_context.proofs.context.Context.join_points.Goals as goal
+
+pub join_point-requires-clause-scope : goal.join_point-requires-clause-scope
+join_point-requires-clause-scope c = scope_grows (nodes_of c.args.types.now) (nodes_of c.loop-join.types) c.args.self.now.scope.kinds.now c.loop-join.invariant.grows.nodes c.requires.scope
 
 pub loop-join-preserved : goal.loop-join-preserved
 loop-join-preserved c =

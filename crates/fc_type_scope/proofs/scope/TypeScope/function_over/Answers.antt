@@ -5,8 +5,8 @@ use Rattle.fc_model.specs.Calling.{over_binder, over_binders, type_count}
 use Rattle.fc_model.specs.NamelessView.{nbinder_of, nbinders_of}
 use Rattle.fc_model.specs.Typing.{kinds_behind}
 use Rattle.fc_syntax.specs.View.{kind_of}
-use Rattle.fc_types.specs.KindViews.{kinds_of, own_kinds}
-use Rattle.fc_types.specs.declared.kind_scope.LocalKind.{LocalKind}
+use Rattle.fc_type_table.specs.InScope.{AreNumbered, kinds_of, numbered_of, own_kinds}
+use Rattle.fc_type_table.specs.declared.numbered.NumberedKind.{NumberedKind}
 use Rattle.fc_type_table.specs.Scopes.{IsTypeAt}
 use Rattle.fc_type_table.specs.TypeTables.{nodes_of, shown}
 use Rattle.fc_type_scope.specs.Behind.{IsEntered, IsValueAt, binder_kinds, kinds_past, value_count}
@@ -14,6 +14,7 @@ use Rattle.fc_type_scope.specs.Scopes.{scope_in}
 use Rattle.fc_type_table.proofs.Reached.{Reached, kinds_before, kinds_counted, kinds_there, kinds_upto, reached}
 use Rattle.fc_type_scope.proofs.Backwards.{counted_values, entered_at, over_upto, values_counted}
 use Rattle.fc_type_table.proofs.BinderKinds.{kinds_past-none, length-binder_kinds}
+use Rattle.fc_type_table.proofs.KindsInScope.{AreNumbered-behind, AreNumbered-grows, AreNumbered-take}
 use Rattle.fc_type_table.proofs.Numbers.{Grows-refl, Grows-further}
 use Rattle.fc_type_scope.proofs.OneMore.{entered_grows}
 use Rattle.fc_type_scope.proofs.scope.TypeScope.function_over.Goals as goal
@@ -26,7 +27,7 @@ loop-at-init c =
     let ids = c.args.entered.now in record {
       within = omega arith;
       kinds =
-          ap length c.as_slice-own.ensures ∙ sym (length-map ids.kinds (λ (j : LocalKind). kind_of j.kind.now)) ∙ ap length c.requires.entered_in.kinds ∙ length-binder_kinds (nbinders_of xs)
+          ap length c.as_slice-own.ensures ∙ sym (length-map ids.kinds (λ (j : NumberedKind). kind_of j.kind.now)) ∙ ap length c.requires.entered_in.kinds ∙ length-binder_kinds (nbinders_of xs)
           ∙ ap (λ ys. type_count (nbinders_of ys)) (sym all);
       values = ap length c.as_slice-values.ensures ∙ counted_values (nodes_of c.args.types.now) ks (nbinders_of xs) ids c.requires.entered_in ∙ ap (λ ys. value_count (nbinders_of ys)) (sym all);
       valid = subst (λ ys. IsTypeAt (nodes_of c.args.types.now) (kinds_past (nbinders_of ys) ks) c.args.answer.0) (sym all) c.requires.answer_in;
@@ -72,6 +73,16 @@ slice_bounds-kinds-end c =
     let kinds : c.before-counts.result.kinds ≡ type_count p = omega (arith, kinds_counted bs upto p b rest r) in
     let same : own_kinds own ≡ binder_kinds bs = ap own_kinds c.as_slice-own.ensures ∙ c.requires.entered_in.kinds in
     omega (arith, length-take c.before-counts.result.kinds own, kinds_before bs upto p b rest r own same)
+
+pub over_binder-requires-clause-scope : goal.over_binder-requires-clause-scope
+over_binder-requires-clause-scope c =
+    let old = nodes_of c.args.types.now in
+    let ns = nodes_of c.loop-at.types in
+    let own = c.as_slice-own.result.now in
+    let outer = numbered_of c.args.self.now.kinds.now in
+    let count = c.before-counts.result.kinds in
+    let numbered = AreNumbered-grows old ns own c.loop-at.invariant.grows.nodes (subst (AreNumbered old) (sym c.as_slice-own.ensures) c.requires.entered_in.numbered) in
+    AreNumbered-behind ns (take count own) outer (AreNumbered-take ns count own numbered) (AreNumbered-grows old ns outer c.loop-at.invariant.grows.nodes c.requires.scope)
 
 pub over_binder-requires-clause-value_in : goal.over_binder-requires-clause-value_in
 unfolding scope_in

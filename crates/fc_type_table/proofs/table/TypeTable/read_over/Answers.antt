@@ -6,13 +6,14 @@ use Rattle.fc_model.specs.Nameless.{NTy}
 use Rattle.fc_model.specs.NamelessView.{nbinder_of, nbinders_of}
 use Rattle.fc_model.specs.Substituting.{raised_type}
 use Rattle.fc_syntax.specs.View.{kind_of}
-use Rattle.fc_types.specs.KindViews.{kinds_of, own_kinds}
-use Rattle.fc_types.specs.declared.kind_scope.LocalKind.{LocalKind}
+use Rattle.fc_type_table.specs.InScope.{kinds_of, numbered_of, own_kinds}
+use Rattle.fc_type_table.specs.declared.numbered.NumberedKind.{NumberedKind}
 use Rattle.fc_type_table.specs.Binders.{kinds_past, tree_over}
 use Rattle.fc_type_table.specs.Nodes.{tree_at}
 use Rattle.fc_type_table.specs.Scopes.{leveled, shown_at}
-use Rattle.fc_type_table.specs.TypeTables.{shown}
+use Rattle.fc_type_table.specs.TypeTables.{nodes_of, shown}
 use Rattle.fc_type_table.proofs.BinderKinds.{length-binder_kinds}
+use Rattle.fc_type_table.proofs.KindsInScope.{AreNumbered-behind, AreNumbered-grows, AreNumbered-take}
 use Rattle.fc_type_table.proofs.Numbers.{Extends-further, Extends-refl}
 use Rattle.fc_type_table.proofs.Overs.{answer_scoped, answer_tree, binder_first, binder_tree, whole_tree}
 use Rattle.fc_type_table.proofs.Reached.{Reached, kinds_before, kinds_counted, kinds_there, kinds_upto, reached}
@@ -27,7 +28,7 @@ loop-at-init c =
     let all : take (length xs) xs ≡ xs = take-length xs in
     let none : drop (length xs) xs ≡ [] = drop-length xs in
     let counted : c.in-Ok.count ≡ type_count (nbinders_of xs) =
-    c.in-Ok.ensures.1 ∙ sym (length-map c.args.own.now (λ (j : LocalKind). kind_of j.kind.now)) ∙ ap length c.requires.own ∙ length-binder_kinds (nbinders_of xs) in
+    c.in-Ok.ensures.1 ∙ sym (length-map c.args.own.now (λ (j : NumberedKind). kind_of j.kind.now)) ∙ ap length c.requires.own ∙ length-binder_kinds (nbinders_of xs) in
     let t : NTy = raised_type (type_count (nbinders_of xs)) (shown c.args.self.now ks c.args.answer) in
     record {
       in_range = omega arith;
@@ -130,3 +131,12 @@ returns-clause-view c =
     let w = tree_at c.loop-at.self.nodes.keys c.loop-at.whole.0 in
     read_view {E = ℕ} (Ok c.loop-at.whole) c.loop-at.self.nodes.keys ks n (binders_to bs answer) c.requires.count (answer_scoped ks n bs t c.requires.count c.requires.scoped c.requires.answer_in.scoped)
     (whole_tree n ks xs c.loop-at.at c.loop-at.count (raised_type (type_count bs) answer) w (omega arith) i.count i.so_far)
+
+pub over_binder-requires-clause-numbered : goal.over_binder-requires-clause-numbered
+over_binder-requires-clause-numbered c =
+    let old = nodes_of c.args.self.now in
+    let ns = nodes_of c.loop-at.self in
+    let outer = numbered_of c.args.outer.now in
+    let own = AreNumbered-grows old ns c.args.own.now c.loop-at.invariant.extends c.requires.own_numbered in
+    AreNumbered-behind ns (take c.count_before-count.result c.args.own.now) outer (AreNumbered-take ns c.count_before-count.result c.args.own.now own)
+    (AreNumbered-grows old ns outer c.loop-at.invariant.extends c.requires.outer_numbered)

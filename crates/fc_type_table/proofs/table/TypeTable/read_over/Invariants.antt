@@ -2,7 +2,7 @@ use Rattle.std.proofs.Common.{◌≡◌, ◌<◌, ◌≤◌, drop, length, take}
 use Rattle.fc_model.specs.Calling.{over_binders, type_count}
 use Rattle.fc_model.specs.NamelessView.{nbinders_of}
 use Rattle.fc_model.specs.Substituting.{raised_type}
-use Rattle.fc_types.specs.KindViews.{kinds_of}
+use Rattle.fc_type_table.specs.InScope.{kinds_of}
 use Rattle.fc_types.specs.ModuleViews.{modules_of}
 use Rattle.fc_type_table.specs.Binders.{kinds_past}
 use Rattle.fc_type_table.specs.Nodes.{Extends, tree_at}

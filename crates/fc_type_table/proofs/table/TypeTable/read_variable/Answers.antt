@@ -1,4 +1,4 @@
-use Rattle.fc_types.specs.KindViews.{kinds_of}
+use Rattle.fc_type_table.specs.InScope.{kinds_of}
 use Rattle.fc_type_table.proofs.Labels.{label_is_kind}
 use Rattle.fc_type_table.proofs.table.TypeTable.read_variable.Goals as goal
 

@@ -1,5 +1,5 @@
 use Rattle.fc_model.specs.Nameless.{NTVar}
-use Rattle.fc_types.specs.KindViews.{kinds_of}
+use Rattle.fc_type_table.specs.InScope.{kinds_of}
 use Rattle.fc_type_table.proofs.Shown.{read_valid, read_view}
 use Rattle.fc_type_table.proofs.table.TypeTable.variable.Goals as goal
 

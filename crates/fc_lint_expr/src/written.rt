@@ -1,0 +1,88 @@
+//! Types and binders that are written in an expression, in its context.
+ghost use Rattle.std.specs.Prelude.{◌≡◌, None, IfOk, OnOk};
+ghost use Rattle.fc_model.specs.Faulting.{under};
+ghost use Rattle.fc_model.specs.Kinding.{kind_or_fault};
+ghost use Rattle.fc_model.specs.NamelessView.{nbinders_of, nty_of};
+ghost use Rattle.fc_model.specs.Says.{Says};
+ghost use Rattle.fc_model.specs.Typing.{binders_judged};
+ghost use Rattle.fc_lint_context.specs.ContextViews.{IsContext, modules_of_context};
+ghost use Rattle.fc_type_scope.specs.Behind.{IsEntered};
+ghost use Rattle.fc_type_scope.specs.Scopes.{scope_in};
+ghost use Rattle.fc_type_table.specs.TypeTables.{Grows, IsKindId, IsType, kind_shown, modules_in, nodes_of, shown};
+
+use fc_lint_context::Context;
+use fc_model::{Flawed, deeper};
+use fc_syntax::{FaultKind, NBinder, NTy};
+use fc_type_scope::{Entered, Kinded};
+use fc_type_table::TypeTable;
+use std::alloc::Global;
+
+/// A type with its kind, or the first premise of its kind that fails.
+pub(crate) fn kinded<'x, 'd, 'a>(
+    alloc: Global,
+    t: &'a NTy,
+    types: &mut TypeTable<'a>,
+    context: &'x Context<'x, 'd, 'a>,
+) -> Result<Kinded, Flawed>
+    requires context { IsContext types.old context.now }
+    requires modules { modules_in types.old ≡ modules_of_context context.now }
+    ensures valid { IfOk result (λ k. IsType types.new (scope_in context.now.scope) k.ty) }
+    ensures view { IfOk result (λ k. shown types.new (scope_in context.now.scope) k.ty ≡ nty_of t.now) }
+    ensures is_kind { IfOk result (λ k. IsKindId types.new k.kind) }
+    ensures says { Says (λ k. kind_shown types.new k.kind) result (kind_or_fault (modules_of_context context.now) (scope_in context.now.scope) (nty_of t.now)) }
+    ensures grows { OnOk result (Grows types.old types.new) }
+    ensures context { OnOk result (IsContext types.new context.now) }
+{
+    context.scope.kinded(alloc, t, types)
+}
+
+/// The same of the part of this number.
+pub(crate) fn kinded_part<'x, 'd, 'a>(
+    alloc: Global,
+    t: &'a NTy,
+    types: &mut TypeTable<'a>,
+    context: &'x Context<'x, 'd, 'a>,
+    part: u32,
+) -> Result<Kinded, Flawed>
+    requires context { IsContext types.old context.now }
+    requires modules { modules_in types.old ≡ modules_of_context context.now }
+    ensures valid { IfOk result (λ k. IsType types.new (scope_in context.now.scope) k.ty) }
+    ensures view { IfOk result (λ k. shown types.new (scope_in context.now.scope) k.ty ≡ nty_of t.now) }
+    ensures is_kind { IfOk result (λ k. IsKindId types.new k.kind) }
+    ensures says { Says (λ k. kind_shown types.new k.kind) result (under part (kind_or_fault (modules_of_context context.now) (scope_in context.now.scope) (nty_of t.now))) }
+    ensures grows { OnOk result (Grows types.old types.new) }
+    ensures context { OnOk result (IsContext types.new context.now) }
+{
+    match kinded(alloc, t, types, &*context) {
+        Ok(kinded) => Ok(kinded),
+        Err(flawed) => Err(deeper(flawed, part)),
+    }
+}
+
+/// Binders that are judged.
+#[derive(Drop)]
+pub(crate) struct Judged<'a> {
+    /// The fault of the first premise that is asked of them only behind what stands below them, where it fails.
+    pub(crate) owed: Option<FaultKind>,
+    /// What they bind.
+    pub(crate) entered: Entered<'a>,
+}
+
+/// The premises of binders, and what they bind.
+pub(crate) fn judged_binders<'x, 'd, 'a>(
+    alloc: Global,
+    binders: &'a [NBinder],
+    types: &mut TypeTable<'a>,
+    context: &'x Context<'x, 'd, 'a>,
+) -> Result<Judged<'a>, Flawed>
+    requires context { IsContext types.old context.now }
+    requires modules { modules_in types.old ≡ modules_of_context context.now }
+    ensures says { Says (λ b. b.owed) result (binders_judged (modules_of_context context.now) (scope_in context.now.scope) 0 None (nbinders_of binders.now)) }
+    ensures entered { IfOk result (λ b. IsEntered (nodes_of types.new) (scope_in context.now.scope) (nbinders_of binders.now) b.entered) }
+    ensures grows { OnOk result (Grows types.old types.new) }
+    ensures context { OnOk result (IsContext types.new context.now) }
+{
+    let owed = context.scope.binders_owe(alloc, binders, types)?;
+    let entered = context.scope.enter(alloc, binders, types)?;
+    Ok(Judged { owed, entered })
+}
