@@ -6,12 +6,18 @@ ghost use Rattle.fc_model.specs.Linting.{con_binder_judged, con_judged, cons_jud
 ghost use Rattle.fc_model.specs.Typing.{kinds_behind};
 ghost use Rattle.fc_model.specs.NamelessView.{nbinder_of, ncon_of, ncons_of, ntys_of};
 ghost use Rattle.fc_model.specs.Says.{Says};
-ghost use Rattle.fc_types.specs.KindViews.{behind_group, kinds_of, own_kinds};
+ghost use Rattle.fc_types.specs.KindViews.{behind_group};
 ghost use Rattle.fc_types.specs.ModuleViews.{modules_of};
+ghost use Rattle.fc_type_scope.specs.Scopes.{IsScope, scope_in};
+ghost use Rattle.fc_type_table.specs.InScope.{AreNumbered, own_kinds};
+ghost use Rattle.fc_type_table.specs.TypeTables.{Grows, modules_in, nodes_of};
 
+use crate::written::kind_of_part;
 use fc_model::{Flawed, deeper, flaw_here, next_part};
 use fc_syntax::{FaultKind, Memory, NBinder, NConDecl, NTy, Seq};
-use fc_types::{Declarations, Kinds, LocalKind, is_lifted, is_value_kind, kind_of_part, same_kind};
+use fc_type_scope::TypeScope;
+use fc_type_table::{NumberedKind, NumberedKinds, TypeTable};
+use fc_types::{Declarations, is_lifted};
 use std::alloc::Global;
 
 /// Whether both hold.
@@ -23,13 +29,20 @@ fn both(first: bool, second: bool) -> bool
 
 /// A binder of a constructor: `UnliftedVariable` for a type variable of a kind with `#`. Whether its ends have one kind, where it is a
 /// coercion.
-fn lint_con_binder(
+#[tactic(auto, using(fc_syntax::proofs::View::view_rules, fc_type_table::proofs::Numbers::number_rules))]
+fn lint_con_binder<'a>(
     alloc: Global,
-    binder: &NBinder,
+    binder: &'a NBinder,
     declared: &Declarations,
-    kinds: &Kinds,
+    types: &mut TypeTable<'a>,
+    scope: &TypeScope<'_>,
 ) -> Result<bool, Flawed>
-    ensures { Says (λ b. b) result (con_binder_judged (modules_of declared.now) (kinds_of kinds.now) (nbinder_of binder.now)) }
+    requires scope { IsScope types.old scope.now }
+    requires modules { modules_in types.old ≡ modules_of declared.now }
+    ensures says { Says (λ b. b) result (con_binder_judged (modules_of declared.now) (scope_in scope.now) (nbinder_of binder.now)) }
+    ensures scope { OnOk result (IsScope types.new scope.now) }
+    ensures modules { OnOk result (modules_in types.new ≡ modules_of declared.now) }
+    ensures grows { OnOk result (Grows types.old types.new) }
 {
     match binder {
         NBinder::Value(_, _) => Err(flaw_here(alloc, FaultKind::BadForm)),
@@ -41,56 +54,79 @@ fn lint_con_binder(
             }
         }
         NBinder::OfCo(_, _, left, right) => {
-            let left = kind_of_part(alloc, left, declared, kinds, 0)?;
-            let right = kind_of_part(alloc, right, declared, kinds, 1)?;
-            Ok(same_kind(&left, &right))
+            let left = kind_of_part(alloc, left, declared, types, scope, 0)?;
+            let right = kind_of_part(alloc, right, declared, types, scope, 1)?;
+            Ok(types.same_kind(left, right))
         }
     }
 }
 
 /// The same of the binder that is the part of this number.
-fn lint_con_binder_part(
+fn lint_con_binder_part<'a>(
     alloc: Global,
-    binder: &NBinder,
+    binder: &'a NBinder,
     declared: &Declarations,
-    kinds: &Kinds,
+    types: &mut TypeTable<'a>,
+    scope: &TypeScope<'_>,
     part: u32,
 ) -> Result<bool, Flawed>
-    ensures { Says (λ b. b) result (under part (con_binder_judged (modules_of declared.now) (kinds_of kinds.now) (nbinder_of binder.now))) }
+    requires scope { IsScope types.old scope.now }
+    requires modules { modules_in types.old ≡ modules_of declared.now }
+    ensures says { Says (λ b. b) result (under part (con_binder_judged (modules_of declared.now) (scope_in scope.now) (nbinder_of binder.now))) }
+    ensures scope { OnOk result (IsScope types.new scope.now) }
+    ensures modules { OnOk result (modules_in types.new ≡ modules_of declared.now) }
+    ensures grows { OnOk result (Grows types.old types.new) }
 {
-    match lint_con_binder(alloc, binder, declared, kinds) {
+    match lint_con_binder(alloc, binder, declared, types, scope) {
         Ok(same) => Ok(same),
         Err(flawed) => Err(deeper(flawed, part)),
     }
 }
 
 /// Puts the kind of a binder of types behind the others.
-fn add_kind<'a>(own: &mut Seq<LocalKind<'a>>, binder: &'a NBinder) -> Result<(), Memory>
-    ensures { OnOk result ((outer : List Kind) → behind_group (own_kinds own.new) outer ≡ kinds_behind (nbinder_of binder.now) (behind_group (own_kinds own.old) outer)) }
+fn add_kind<'b, 'a>(
+    own: &mut Seq<NumberedKind<'b>>,
+    binder: &'b NBinder,
+    types: &mut TypeTable<'a>,
+) -> Result<(), Memory>
+    requires numbered { AreNumbered (nodes_of types.old) own.old }
+    ensures numbered { OnOk result (AreNumbered (nodes_of types.new) own.new) }
+    ensures kinds { OnOk result ((outer : List Kind) → behind_group (own_kinds own.new) outer ≡ kinds_behind (nbinder_of binder.now) (behind_group (own_kinds own.old) outer)) }
+    ensures grows { OnOk result (Grows types.old types.new) }
 {
     match binder {
         NBinder::Value(_, _) => Ok(()),
-        NBinder::OfType(_, kind) => own.push(LocalKind { kind }),
+        NBinder::OfType(_, kind) => {
+            let id = types.read_kind(kind)?;
+            own.push(NumberedKind { kind, id })?;
+            Ok(())
+        }
         NBinder::OfCo(_, _, _, _) => Ok(()),
     }
 }
 
 /// Fields, of which the first is the part of this number, behind fields that are all of the kinds of values; whether all are.
-fn lint_fields(
+fn lint_fields<'a>(
     alloc: Global,
-    fields: &[NTy],
+    fields: &'a [NTy],
     declared: &Declarations,
-    kinds: &Kinds,
+    types: &mut TypeTable<'a>,
+    scope: &TypeScope<'_>,
     first: u32,
 ) -> Result<bool, Flawed>
-    ensures { Says (λ b. b) result (fields_judged (modules_of declared.now) (kinds_of kinds.now) first true (ntys_of fields.now)) }
+    requires scope { IsScope types.old scope.now }
+    requires modules { modules_in types.old ≡ modules_of declared.now }
+    ensures says { Says (λ b. b) result (fields_judged (modules_of declared.now) (scope_in scope.now) first true (ntys_of fields.now)) }
+    ensures scope { OnOk result (IsScope types.new scope.now) }
+    ensures modules { OnOk result (modules_in types.new ≡ modules_of declared.now) }
+    ensures grows { OnOk result (Grows types.old types.new) }
 {
     let mut part = first;
     let mut all = true;
     for field in fields {
         let next = next_part(part)?;
-        let kind = kind_of_part(alloc, field, declared, &*kinds, part)?;
-        all = both(all, is_value_kind(&kind));
+        let kind = kind_of_part(alloc, field, declared, types, scope, part)?;
+        all = both(all, types.is_value_kind(kind));
         part = next;
     }
     Ok(all)
@@ -98,26 +134,35 @@ fn lint_fields(
 
 /// A constructor: its binders, each among the type variables before it, its fields among all, and then `KindsDiffer` where the ends of a
 /// coercion have two kinds; whether its fields are of the kinds of values.
-fn lint_constructor<'x>(
+#[tactic(auto, unfolding(fc_type_scope::specs::Scopes::scope_in))]
+fn lint_constructor<'a>(
     alloc: Global,
-    con: &'x NConDecl,
+    con: &'a NConDecl,
     declared: &Declarations,
-    outer: &'x Kinds<'x>,
+    types: &mut TypeTable<'a>,
+    outer: &TypeScope<'_>,
 ) -> Result<bool, Flawed>
-    ensures { Says (λ b. b) result (con_judged (modules_of declared.now) (kinds_of outer.now) (ncon_of con.now)) }
+    requires scope { IsScope types.old outer.now }
+    requires modules { modules_in types.old ≡ modules_of declared.now }
+    ensures says { Says (λ b. b) result (con_judged (modules_of declared.now) (scope_in outer.now) (ncon_of con.now)) }
+    ensures scope { OnOk result (IsScope types.new outer.now) }
+    ensures modules { OnOk result (modules_in types.new ≡ modules_of declared.now) }
+    ensures grows { OnOk result (Grows types.old types.new) }
 {
     let mut own = Seq::new(alloc);
     let mut part = 0u32;
     let mut one = true;
     for binder in con.binders.as_slice() {
-        let kinds = Kinds::Group(own.as_slice(), &*outer);
-        let same = lint_con_binder_part(alloc, binder, declared, &kinds, part)?;
+        let kinds = NumberedKinds::Group(own.as_slice(), outer.kinds);
+        let scope = TypeScope { kinds: &kinds };
+        let same = lint_con_binder_part(alloc, binder, declared, types, &scope, part)?;
         one = both(one, same);
         part = next_part(part)?;
-        add_kind(&mut own, binder)?;
+        add_kind(&mut own, binder, types)?;
     }
-    let kinds = Kinds::Group(own.as_slice(), &*outer);
-    let values = lint_fields(alloc, con.fields.as_slice(), declared, &kinds, part)?;
+    let kinds = NumberedKinds::Group(own.as_slice(), outer.kinds);
+    let scope = TypeScope { kinds: &kinds };
+    let values = lint_fields(alloc, con.fields.as_slice(), declared, types, &scope, part)?;
     if one {
         Ok(values)
     } else {
@@ -126,35 +171,47 @@ fn lint_constructor<'x>(
 }
 
 /// The same of the constructor that is the part of this number.
-fn lint_constructor_part<'x>(
+fn lint_constructor_part<'a>(
     alloc: Global,
-    con: &'x NConDecl,
+    con: &'a NConDecl,
     declared: &Declarations,
-    outer: &'x Kinds<'x>,
+    types: &mut TypeTable<'a>,
+    outer: &TypeScope<'_>,
     part: u32,
 ) -> Result<bool, Flawed>
-    ensures { Says (λ b. b) result (under part (con_judged (modules_of declared.now) (kinds_of outer.now) (ncon_of con.now))) }
+    requires scope { IsScope types.old outer.now }
+    requires modules { modules_in types.old ≡ modules_of declared.now }
+    ensures says { Says (λ b. b) result (under part (con_judged (modules_of declared.now) (scope_in outer.now) (ncon_of con.now))) }
+    ensures scope { OnOk result (IsScope types.new outer.now) }
+    ensures modules { OnOk result (modules_in types.new ≡ modules_of declared.now) }
+    ensures grows { OnOk result (Grows types.old types.new) }
 {
-    match lint_constructor(alloc, &*con, declared, &*outer) {
+    match lint_constructor(alloc, con, declared, types, outer) {
         Ok(values) => Ok(values),
         Err(flawed) => Err(deeper(flawed, part)),
     }
 }
 
 /// The constructors of a data type, of which the first is the part of this number; whether all their fields are of the kinds of values.
-pub fn lint_constructors<'x>(
+pub fn lint_constructors<'a>(
     alloc: Global,
-    cons: &'x [NConDecl],
+    cons: &'a [NConDecl],
     declared: &Declarations,
-    outer: &'x Kinds<'x>,
+    types: &mut TypeTable<'a>,
+    outer: &TypeScope<'_>,
     first: u32,
 ) -> Result<bool, Flawed>
-    ensures { Says (λ b. b) result (cons_judged (modules_of declared.now) (kinds_of outer.now) first true (ncons_of cons.now)) }
+    requires scope { IsScope types.old outer.now }
+    requires modules { modules_in types.old ≡ modules_of declared.now }
+    ensures says { Says (λ b. b) result (cons_judged (modules_of declared.now) (scope_in outer.now) first true (ncons_of cons.now)) }
+    ensures scope { OnOk result (IsScope types.new outer.now) }
+    ensures modules { OnOk result (modules_in types.new ≡ modules_of declared.now) }
+    ensures grows { OnOk result (Grows types.old types.new) }
 {
     let mut part = first;
     let mut all = true;
     for con in cons {
-        let values = lint_constructor_part(alloc, con, declared, &*outer, part)?;
+        let values = lint_constructor_part(alloc, con, declared, types, outer, part)?;
         all = both(all, values);
         part = next_part(part)?;
     }

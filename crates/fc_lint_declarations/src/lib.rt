@@ -7,6 +7,7 @@ mod definition_types;
 mod exports;
 mod type_declarations;
 mod variables;
+mod written;
 
 pub use definition_types::lint_definition_types;
 pub use exports::lint_exports;

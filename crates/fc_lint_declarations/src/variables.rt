@@ -1,44 +1,22 @@
 //! The type variables of declarations: their kinds, and their roles.
-ghost use Rattle.std.specs.Prelude.{◌≡◌, ◌++◌, [], ◌∷◌, Ok, IfOk, OnOk};
+ghost use Rattle.std.specs.Prelude.{Ok};
 ghost use Rattle.fc_syntax.specs.View.{kind_of};
 ghost use Rattle.fc_syntax.specs.Roles.{role_below};
 ghost use Rattle.fc_syntax.specs.declared.fault.FaultKind.TheVariants.{RoleTooWeak, UnliftedVariable};
 ghost use Rattle.fc_model.specs.Faulting.{need, under};
 ghost use Rattle.fc_model.specs.Kinding as kinds;
-ghost use Rattle.fc_model.specs.Kinding.{param_kinds};
 ghost use Rattle.fc_model.specs.Linting.{done, roles_judged, variables_judged};
-ghost use Rattle.fc_model.specs.NamelessView.{nparams_of, nplains_of};
+ghost use Rattle.fc_model.specs.NamelessView.{nparams_of};
 ghost use Rattle.fc_model.specs.Says.{Says};
-ghost use Rattle.fc_types.specs.KindViews.{own_kinds};
+ghost use Rattle.fc_type_table.specs.InScope.{own_kinds};
 ghost use Rattle.fc_roles.specs.NeedViews.{need_at};
 
 use fc_model::{Flawed, deeper, flaw_here, next_part};
 use fc_roles::Needs;
-use fc_syntax::{FaultKind, Kind, Memory, Param, Plain, Role, Seq};
-use fc_types::{LocalKind, is_lifted};
+use fc_syntax::{FaultKind, Kind, Param, Role};
+use fc_type_table::NumberedKind;
+use fc_types::is_lifted;
 use std::alloc::Global;
-
-/// The kinds of parameters with roles, in their order. Fails only where memory runs out.
-pub fn kinds_of_params<'a>(alloc: Global, params: &'a [Param]) -> Result<Seq<LocalKind<'a>>, Memory>
-    ensures { IfOk result (λ ks. own_kinds ks ≡ param_kinds (nparams_of params.now)) }
-{
-    let mut kinds = Seq::new(alloc);
-    for param in params {
-        kinds.push(LocalKind { kind: &param.kind })?;
-    }
-    Ok(kinds)
-}
-
-/// The kinds of parameters without roles, in their order. Fails only where memory runs out.
-pub fn kinds_of_plains<'a>(alloc: Global, params: &'a [Plain]) -> Result<Seq<LocalKind<'a>>, Memory>
-    ensures { IfOk result (λ ks. own_kinds ks ≡ nplains_of params.now) }
-{
-    let mut kinds = Seq::new(alloc);
-    for param in params {
-        kinds.push(LocalKind { kind: &param.kind })?;
-    }
-    Ok(kinds)
-}
 
 /// The type variable that is the part of this number: `UnliftedVariable` where its kind has `#`.
 fn lint_variable(alloc: Global, kind: &Kind, part: u32) -> Result<(), Flawed>
@@ -52,7 +30,7 @@ fn lint_variable(alloc: Global, kind: &Kind, part: u32) -> Result<(), Flawed>
 }
 
 /// The type variables of a declaration, which are its first parts; the number of the part behind them.
-pub fn lint_variables(alloc: Global, variables: &[LocalKind]) -> Result<u32, Flawed>
+pub fn lint_variables(alloc: Global, variables: &[NumberedKind]) -> Result<u32, Flawed>
     ensures { Says (λ i. i) result (variables_judged 0 (own_kinds variables.now)) }
 {
     let mut part = 0u32;

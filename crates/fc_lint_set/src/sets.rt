@@ -174,8 +174,8 @@ fn lint_declarations<'d, 'a>(
     ensures modules { OnOk result (modules_in types.new ≡ modules_read declared.now) }
 {
     let decls = form.decls.as_slice();
-    lint_types(alloc, decls, declared.declared)?;
-    lint_definition_types(alloc, decls, declared.declared)?;
+    lint_types(alloc, decls, declared.declared, types)?;
+    lint_definition_types(alloc, decls, declared.declared, types)?;
     lint_rights(alloc, decls, types, declared)
 }
 

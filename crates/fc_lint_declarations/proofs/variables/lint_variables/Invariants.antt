@@ -1,6 +1,6 @@
 use Rattle.std.proofs.Common.{◌≡◌, drop}
 use Rattle.fc_model.specs.Linting.{variables_judged}
-use Rattle.fc_types.specs.KindViews.{own_kinds}
+use Rattle.fc_type_table.specs.InScope.{own_kinds}
 use Rattle.fc_lint_declarations.proofs.variables.lint_variables.Given as goal
 
 -- what is still to come answers as the whole
