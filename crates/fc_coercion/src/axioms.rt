@@ -22,11 +22,11 @@ use std::alloc::Global;
 
 /// Whether coercions fit the parameters of the axiom of a declaration; the answer is the role at which it relates its sides.
 #[tactic(auto, using(fc_syntax::proofs::View::view_rules))]
-fn fit_declared<'a>(
+fn fit_declared(
     alloc: Global,
     decl: &NDecl,
     group: &[Ends],
-    types: &mut TypeTable<'a>,
+    types: &mut TypeTable,
     scope: &TypeScope<'_>,
 ) -> Result<Role, Flawed>
     requires { AreEndsAt (nodes_of types.old) (scope_in scope.now) group.now }
@@ -59,12 +59,12 @@ fn fit_declared<'a>(
 }
 
 /// An axiom at what coercions relate: `Unbound` for a name without an axiom, then `AxiomArity`, `RoleWrong` and `KindsDiffer`.
-pub(crate) fn axiom_at<'x, 'd, 'a>(
+pub(crate) fn axiom_at(
     alloc: Global,
     name: &Name,
     group: &[Ends],
-    types: &mut TypeTable<'a>,
-    context: &Context<'x, 'd, 'a>,
+    types: &mut TypeTable,
+    context: &Context,
 ) -> Result<Ends, Flawed>
     requires context { IsContext types.old context.now }
     requires modules { modules_in types.old ≡ modules_of_context context.now }

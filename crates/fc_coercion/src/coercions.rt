@@ -26,12 +26,12 @@ use std::alloc::Global;
 
 /// A type is equal to itself: the faults of the type, which is the part 0.
 #[tactic(auto, using(fc_lint_context::proofs::Contexts::context_rules))]
-fn reflexive<'x, 'd, 'a>(
+fn reflexive(
     alloc: Global,
     role: Role,
-    t: &'a NTy,
-    types: &mut TypeTable<'a>,
-    context: &Context<'x, 'd, 'a>,
+    t: &NTy,
+    types: &mut TypeTable,
+    context: &Context,
 ) -> Result<Ends, Flawed>
     requires context { IsContext types.old context.now }
     requires modules { modules_in types.old ≡ modules_of_context context.now }
@@ -50,12 +50,12 @@ fn reflexive<'x, 'd, 'a>(
 
 /// Any two types of one kind at P: the faults of the types, which are the parts 0 and 1, and then `KindsDiffer`.
 #[tactic(auto, using(fc_lint_context::proofs::Contexts::context_rules))]
-fn universal<'x, 'd, 'a>(
+fn universal(
     alloc: Global,
-    t: &'a NTy,
-    u: &'a NTy,
-    types: &mut TypeTable<'a>,
-    context: &Context<'x, 'd, 'a>,
+    t: &NTy,
+    u: &NTy,
+    types: &mut TypeTable,
+    context: &Context,
 ) -> Result<Ends, Flawed>
     requires context { IsContext types.old context.now }
     requires modules { modules_in types.old ≡ modules_of_context context.now }
@@ -78,11 +78,11 @@ fn universal<'x, 'd, 'a>(
 
 /// What a coercion proves that is the part of this number.
 #[cycle(coercions)]
-pub fn ends_of_part<'x, 'd, 'a>(
+pub fn ends_of_part(
     alloc: Global,
-    g: &'a NCo,
-    types: &mut TypeTable<'a>,
-    context: &'x Context<'x, 'd, 'a>,
+    g: &NCo,
+    types: &mut TypeTable,
+    context: &Context,
     part: u32,
 ) -> Result<Ends, Flawed>
     requires context { IsContext types.old context.now }
@@ -100,12 +100,12 @@ pub fn ends_of_part<'x, 'd, 'a>(
 
 /// What a coercion proves behind a type variable of this kind, which is the part 0.
 #[cycle(coercions)]
-fn ends_behind<'x, 'd, 'a>(
+fn ends_behind(
     alloc: Global,
-    kind: &'a Kind,
-    g: &'a NCo,
-    types: &mut TypeTable<'a>,
-    context: &'x Context<'x, 'd, 'a>,
+    kind: &Kind,
+    g: &NCo,
+    types: &mut TypeTable,
+    context: &Context,
 ) -> Result<Ends, Flawed>
     requires context { IsContext types.old context.now }
     requires modules { modules_in types.old ≡ modules_of_context context.now }
@@ -126,12 +126,12 @@ fn ends_behind<'x, 'd, 'a>(
 
 /// What two coercions prove that are the parts 0 and 1.
 #[cycle(coercions)]
-fn both_ends<'x, 'd, 'a>(
+fn both_ends(
     alloc: Global,
-    g: &'a NCo,
-    h: &'a NCo,
-    types: &mut TypeTable<'a>,
-    context: &'x Context<'x, 'd, 'a>,
+    g: &NCo,
+    h: &NCo,
+    types: &mut TypeTable,
+    context: &Context,
 ) -> Result<(Ends, Ends), Flawed>
     requires context { IsContext types.old context.now }
     requires modules { modules_in types.old ≡ modules_of_context context.now }
@@ -147,11 +147,11 @@ fn both_ends<'x, 'd, 'a>(
 
 /// What coercions prove that are the parts from 0 on.
 #[cycle(coercions)]
-fn each_ends<'x, 'd, 'a>(
+fn each_ends(
     alloc: Global,
-    gs: &'a [NCo],
-    types: &mut TypeTable<'a>,
-    context: &'x Context<'x, 'd, 'a>,
+    gs: &[NCo],
+    types: &mut TypeTable,
+    context: &Context,
 ) -> Result<Seq<Ends>, Flawed>
     requires context { IsContext types.old context.now }
     requires modules { modules_in types.old ≡ modules_of_context context.now }
@@ -175,11 +175,11 @@ fn each_ends<'x, 'd, 'a>(
 /// `EndsDiffer`, `NotInjective`, `NthRange`, `AxiomArity` and `KindsDiffer`, those of the types that it mentions, and `KindMismatch`,
 /// `NotAType`, `FamilyArity` and `UnliftedVariable` for the types that it makes; each with the part numbers to the piece.
 #[cycle(coercions)]
-pub fn ends_of<'x, 'd, 'a>(
+pub fn ends_of(
     alloc: Global,
-    g: &'a NCo,
-    types: &mut TypeTable<'a>,
-    context: &'x Context<'x, 'd, 'a>,
+    g: &NCo,
+    types: &mut TypeTable,
+    context: &Context,
 ) -> Result<Ends, Flawed>
     requires context { IsContext types.old context.now }
     requires modules { modules_in types.old ≡ modules_of_context context.now }

@@ -22,7 +22,7 @@ use fc_type_table::{NumberedKind, TypeId, TypeTable};
 use std::alloc::Global;
 
 /// Whether both ends of a coercion are of a kind.
-fn is_between<'a>(kind: TypeId, ends: &Ends, types: &TypeTable<'a>, scope: &TypeScope<'_>) -> bool
+fn is_between(kind: TypeId, ends: &Ends, types: &TypeTable, scope: &TypeScope<'_>) -> bool
     requires kind_in { IsKindId types.now kind }
     requires ends_in { IsEnds types.now (scope_in scope.now) ends.now }
     ensures { result ≡ (words.is_of_kind (modules_in types.now) (scope_in scope.now) (kind_shown types.now kind) (shown types.now (scope_in scope.now) ends.now.left) && words.is_of_kind (modules_in types.now) (scope_in scope.now) (kind_shown types.now kind) (shown types.now (scope_in scope.now) ends.now.right)) }
@@ -32,10 +32,10 @@ fn is_between<'a>(kind: TypeId, ends: &Ends, types: &TypeTable<'a>, scope: &Type
 }
 
 /// Whether both ends of each coercion are of the kind of its parameter.
-fn are_of_kinds<'a>(
+fn are_of_kinds(
     kinds: &[NumberedKind],
     group: &[Ends],
-    types: &TypeTable<'a>,
+    types: &TypeTable,
     scope: &TypeScope<'_>,
 ) -> bool
     requires kinds_in { AreNumbered (nodes_of types.now) kinds.now }
@@ -54,13 +54,13 @@ fn are_of_kinds<'a>(
 
 /// Whether coercions fit parameters of these kinds and roles, in what stands at a role: `AxiomArity`, `RoleWrong` and `KindsDiffer`, in this
 /// order. The answer is that role.
-pub fn fit<'a>(
+pub fn fit(
     alloc: Global,
     role: Role,
     params: &[Param],
     kinds: &[NumberedKind],
     group: &[Ends],
-    types: &TypeTable<'a>,
+    types: &TypeTable,
     scope: &TypeScope<'_>,
 ) -> Result<Role, Flawed>
     requires kinds_in { AreNumbered (nodes_of types.now) kinds.now }
@@ -91,11 +91,11 @@ pub struct Pair {
 /// Two `forall`s at one type more, the first at the left end of a coercion and the second at its right end; nothing where one is no
 /// `forall`.
 #[tactic(auto, using(fc_type_scope::proofs::Proven::table_rules))]
-fn at_ends<'a>(
+fn at_ends(
     alloc: Global,
     pair: Pair,
     ends: &Ends,
-    types: &mut TypeTable<'a>,
+    types: &mut TypeTable,
     scope: &TypeScope<'_>,
 ) -> Result<Option<Pair>, Memory>
     requires left_in { IsType types.old (scope_in scope.now) pair.left }
@@ -115,11 +115,11 @@ fn at_ends<'a>(
 }
 
 /// The same at all coercions, one after the other.
-pub fn at_all_ends<'a>(
+pub fn at_all_ends(
     alloc: Global,
     pair: Pair,
     group: &[Ends],
-    types: &mut TypeTable<'a>,
+    types: &mut TypeTable,
     scope: &TypeScope<'_>,
 ) -> Result<Option<Pair>, Memory>
     requires left_in { IsType types.old (scope_in scope.now) pair.left }

@@ -22,11 +22,11 @@ use fc_types::{Declarations, kind_of_name};
 use std::alloc::Global;
 
 /// A type applied to the left ends of coercions, and to their right ends.
-fn applied_to<'a>(
+fn applied_to(
     role: Role,
     head: TypeId,
     group: &[Ends],
-    types: &mut TypeTable<'a>,
+    types: &mut TypeTable,
     scope: &TypeScope<'_>,
 ) -> Result<Ends, Memory>
     requires head_in { IsType types.old (scope_in scope.now) head }
@@ -48,11 +48,11 @@ fn applied_to<'a>(
 
 /// A declared type at what coercions relate, whatever the kinds.
 #[tactic(auto, using(fc_type_scope::proofs::Proven::table_rules))]
-fn named<'a>(
+fn named(
     role: Role,
-    name: &'a Name,
+    name: &Name,
     group: &[Ends],
-    types: &mut TypeTable<'a>,
+    types: &mut TypeTable,
     scope: &TypeScope<'_>,
 ) -> Result<Ends, Memory>
     requires { AreEndsAt (nodes_of types.old) (scope_in scope.now) group.now }
@@ -75,13 +75,13 @@ fn takes(alloc: Global, name: &Name, count: usize, declared: &Declarations) -> R
 /// A declared type at what coercions relate: `RoleWrong` where one is not at the role of its parameter, then the fault of a name that takes
 /// more arguments, and `KindMismatch` where one of the types has no kind.
 #[tactic(auto, using(fc_type_scope::proofs::Proven::table_rules))]
-pub fn constructed<'a>(
+pub fn constructed(
     alloc: Global,
     role: Role,
-    name: &'a Name,
+    name: &Name,
     group: &[Ends],
-    types: &mut TypeTable<'a>,
-    declared: &Declarations<'a>,
+    types: &mut TypeTable,
+    declared: &Declarations,
     scope: &TypeScope<'_>,
 ) -> Result<Ends, Flawed>
     requires group_in { AreEndsAt (nodes_of types.old) (scope_in scope.now) group.now }

@@ -18,11 +18,11 @@ use fc_types::same_role;
 use std::alloc::Global;
 
 /// One coercion and then another: `RoleWrong` where they are at two roles, and then `EndsDiffer` where they do not meet.
-pub fn joined<'a>(
+pub fn joined(
     alloc: Global,
     first: Ends,
     second: Ends,
-    types: &TypeTable<'a>,
+    types: &TypeTable,
     scope: &TypeScope<'_>,
 ) -> Result<Ends, Flawed>
     requires first_in { IsEnds types.now (scope_in scope.now) first }
@@ -44,10 +44,10 @@ pub fn joined<'a>(
 }
 
 /// A coercion at N as one at R: `RoleWrong` from another role.
-pub fn represented<'a>(
+pub fn represented(
     alloc: Global,
     ends: Ends,
-    types: &TypeTable<'a>,
+    types: &TypeTable,
     scope: &TypeScope<'_>,
 ) -> Result<Ends, Flawed>
     requires { IsEnds types.now (scope_in scope.now) ends }
@@ -66,10 +66,10 @@ pub fn represented<'a>(
 
 /// Two types, each applied to one more.
 #[tactic(auto, using(fc_type_scope::proofs::Proven::table_rules))]
-pub(crate) fn applied_once<'a>(
+pub(crate) fn applied_once(
     so_far: Ends,
     ends: Ends,
-    types: &mut TypeTable<'a>,
+    types: &mut TypeTable,
     scope: &TypeScope<'_>,
 ) -> Result<Ends, Memory>
     requires so_far_in { IsEnds types.old (scope_in scope.now) so_far }
@@ -88,10 +88,10 @@ pub(crate) fn applied_once<'a>(
 }
 
 /// What a coercion relates, if both ends have kinds: `KindMismatch`.
-pub(crate) fn kinded<'a>(
+pub(crate) fn kinded(
     alloc: Global,
     ends: Ends,
-    types: &TypeTable<'a>,
+    types: &TypeTable,
     scope: &TypeScope<'_>,
 ) -> Result<Ends, Flawed>
     requires { IsEnds types.now (scope_in scope.now) ends }
@@ -107,11 +107,11 @@ pub(crate) fn kinded<'a>(
 /// Applications of what one coercion relates to what the other does: `RoleWrong` where the first is at P or the second not at N, and then
 /// `KindMismatch` where one of them has no kind.
 #[tactic(auto, using(fc_type_scope::proofs::Proven::table_rules))]
-pub fn applied<'a>(
+pub fn applied(
     alloc: Global,
     head: Ends,
     argument: Ends,
-    types: &mut TypeTable<'a>,
+    types: &mut TypeTable,
     scope: &TypeScope<'_>,
 ) -> Result<Ends, Flawed>
     requires head_in { IsEnds types.old (scope_in scope.now) head }
@@ -130,11 +130,11 @@ pub fn applied<'a>(
 /// Functions from what one coercion relates to what the other does: `RoleWrong` where they are at two roles or at P, and then `NotAType`
 /// where the ends of one of them are not of one kind of values.
 #[tactic(auto, using(fc_type_scope::proofs::Proven::table_rules))]
-pub fn function<'a>(
+pub fn function(
     alloc: Global,
     from: Ends,
     to: Ends,
-    types: &mut TypeTable<'a>,
+    types: &mut TypeTable,
     scope: &TypeScope<'_>,
 ) -> Result<Ends, Flawed>
     requires from_in { IsEnds types.old (scope_in scope.now) from }

@@ -18,7 +18,7 @@ use fc_type_table::{TypeId, TypeTable};
 use std::alloc::Global;
 
 /// The kind of the variables of two `forall`s, if both are `forall`s over variables of one kind.
-fn kind_of_foralls<'a>(ends: &Ends, types: &TypeTable<'a>, scope: &TypeScope<'_>) -> Option<TypeId>
+fn kind_of_foralls(ends: &Ends, types: &TypeTable, scope: &TypeScope<'_>) -> Option<TypeId>
     requires { IsEnds types.now (scope_in scope.now) ends.now }
     ensures valid { IfSome result (λ k. IsKindId types.now k) }
     ensures view { option_map (λ k. kind_shown types.now k) result ≡ one_forall_kind (shown types.now (scope_in scope.now) ends.now.left) (shown types.now (scope_in scope.now) ends.now.right) }
@@ -34,11 +34,11 @@ fn kind_of_foralls<'a>(ends: &Ends, types: &TypeTable<'a>, scope: &TypeScope<'_>
 
 /// The first of two `forall`s at the left end of a coercion, and the second at its right end.
 #[tactic(auto, using(fc_type_scope::proofs::Proven::table_rules))]
-fn instantiated<'a>(
+fn instantiated(
     alloc: Global,
     foralls: Ends,
     at: Ends,
-    types: &mut TypeTable<'a>,
+    types: &mut TypeTable,
     scope: &TypeScope<'_>,
 ) -> Result<Ends, Flawed>
     requires foralls_in { IsEnds types.old (scope_in scope.now) foralls }
@@ -63,11 +63,11 @@ fn instantiated<'a>(
 /// What two `forall`s that a coercion relates are at what another relates: `EndsDiffer` where they are not `forall`s over variables of one
 /// kind, then `RoleWrong` where the other is not at N, and `KindMismatch` where an end of it is not of that kind.
 #[tactic(auto, using(fc_type_scope::proofs::Proven::table_rules))]
-pub fn instance<'a>(
+pub fn instance(
     alloc: Global,
     foralls: Ends,
     at: Ends,
-    types: &mut TypeTable<'a>,
+    types: &mut TypeTable,
     scope: &TypeScope<'_>,
 ) -> Result<Ends, Flawed>
     requires foralls_in { IsEnds types.old (scope_in scope.now) foralls }

@@ -8,10 +8,10 @@ use fc_type_scope::TypeScope;
 use fc_type_table::{TypeId, TypeTable};
 
 /// Whether two types have one kind.
-pub(crate) fn have_one_kind<'a>(
+pub(crate) fn have_one_kind(
     left: TypeId,
     right: TypeId,
-    types: &TypeTable<'a>,
+    types: &TypeTable,
     scope: &TypeScope<'_>,
 ) -> bool
     requires left_in { IsType types.now (scope_in scope.now) left }
@@ -28,10 +28,10 @@ pub(crate) fn have_one_kind<'a>(
 }
 
 /// Whether two types have one kind, which is that of types of values.
-pub(crate) fn have_one_value_kind<'a>(
+pub(crate) fn have_one_value_kind(
     left: TypeId,
     right: TypeId,
-    types: &TypeTable<'a>,
+    types: &TypeTable,
     scope: &TypeScope<'_>,
 ) -> bool
     requires left_in { IsType types.now (scope_in scope.now) left }
@@ -48,12 +48,7 @@ pub(crate) fn have_one_value_kind<'a>(
 }
 
 /// Whether a type is of a kind.
-pub(crate) fn is_of_kind<'a>(
-    kind: TypeId,
-    id: TypeId,
-    types: &TypeTable<'a>,
-    scope: &TypeScope<'_>,
-) -> bool
+pub(crate) fn is_of_kind(kind: TypeId, id: TypeId, types: &TypeTable, scope: &TypeScope<'_>) -> bool
     requires kind_in { IsKindId types.now kind }
     requires type_in { IsType types.now (scope_in scope.now) id }
     ensures { result ≡ words.is_of_kind (modules_in types.now) (scope_in scope.now) (kind_shown types.now kind) (shown types.now (scope_in scope.now) id) }
@@ -65,7 +60,7 @@ pub(crate) fn is_of_kind<'a>(
 }
 
 /// Whether a type is one of values.
-pub(crate) fn is_value_type<'a>(id: TypeId, types: &TypeTable<'a>, scope: &TypeScope<'_>) -> bool
+pub(crate) fn is_value_type(id: TypeId, types: &TypeTable, scope: &TypeScope<'_>) -> bool
     requires { IsType types.now (scope_in scope.now) id }
     ensures { result ≡ words.is_value_type (modules_in types.now) (scope_in scope.now) (shown types.now (scope_in scope.now) id) }
 {
@@ -76,10 +71,10 @@ pub(crate) fn is_value_type<'a>(id: TypeId, types: &TypeTable<'a>, scope: &TypeS
 }
 
 /// Whether two types have kinds.
-pub(crate) fn are_kinded<'a>(
+pub(crate) fn are_kinded(
     left: TypeId,
     right: TypeId,
-    types: &TypeTable<'a>,
+    types: &TypeTable,
     scope: &TypeScope<'_>,
 ) -> bool
     requires left_in { IsType types.now (scope_in scope.now) left }

@@ -23,13 +23,13 @@ use fc_types::same_role;
 use std::alloc::Global;
 
 /// The arguments of two types in pairs, each at the role of its parameter; both come the last one first.
-fn pairs<'a>(
+fn pairs(
     alloc: Global,
     role: Role,
     params: &[Param],
     lefts: &[TypeId],
     rights: &[TypeId],
-    types: &TypeTable<'a>,
+    types: &TypeTable,
     scope: &TypeScope<'_>,
 ) -> Result<Seq<Ends>, Memory>
     requires lefts_in { AreTypes types.now (scope_in scope.now) lefts.now }
@@ -69,12 +69,12 @@ fn is_injective(role: Role, decl: &NDecl) -> bool
 }
 
 /// The parts of two types that are heads at arguments, where both are of one declared type that can be taken apart.
-fn named_parts<'a>(
+fn named_parts(
     alloc: Global,
     role: Role,
     left: &Spine,
     right: &Spine,
-    types: &TypeTable<'a>,
+    types: &TypeTable,
     scope: &TypeScope<'_>,
 ) -> Result<Option<Seq<Ends>>, Memory>
     requires left_head { IsType types.now (scope_in scope.now) left.now.head }
@@ -99,12 +99,12 @@ fn named_parts<'a>(
 }
 
 /// Two parts of functions, in pairs.
-fn function_parts<'a>(
+fn function_parts(
     alloc: Global,
     role: Role,
     left: (TypeId, TypeId),
     right: (TypeId, TypeId),
-    types: &TypeTable<'a>,
+    types: &TypeTable,
     scope: &TypeScope<'_>,
 ) -> Result<Seq<Ends>, Memory>
     requires left_in { IsType types.now (scope_in scope.now) left.0 × IsType types.now (scope_in scope.now) left.1 }
@@ -128,12 +128,12 @@ fn function_parts<'a>(
 }
 
 /// Three parts of types that take coercions at one role, in pairs.
-fn equality_parts<'a>(
+fn equality_parts(
     alloc: Global,
     role: Role,
     left: (Ends, TypeId),
     right: (Ends, TypeId),
-    types: &TypeTable<'a>,
+    types: &TypeTable,
     scope: &TypeScope<'_>,
 ) -> Result<Seq<Ends>, Memory>
     requires left_in { IsEnds types.now (scope_in scope.now) left.0 × IsType types.now (scope_in scope.now) left.1 }
@@ -162,10 +162,10 @@ fn equality_parts<'a>(
 }
 
 /// The parts of two types that are related at a role, in pairs; nothing where they cannot be taken apart alike.
-fn parts<'a>(
+fn parts(
     alloc: Global,
     ends: &Ends,
-    types: &TypeTable<'a>,
+    types: &TypeTable,
     scope: &TypeScope<'_>,
 ) -> Result<Option<Seq<Ends>>, Memory>
     requires { IsEnds types.now (scope_in scope.now) ends.now }
@@ -196,11 +196,11 @@ fn parts<'a>(
 
 /// The part of a number of what a coercion relates: `NotInjective` at P and where the types cannot be taken apart alike, then `NthRange`,
 /// and `KindsDiffer` where the parts are not of one kind.
-pub fn part<'a>(
+pub fn part(
     alloc: Global,
     number: u32,
     ends: Ends,
-    types: &TypeTable<'a>,
+    types: &TypeTable,
     scope: &TypeScope<'_>,
 ) -> Result<Ends, Flawed>
     requires { IsEnds types.now (scope_in scope.now) ends }

@@ -22,11 +22,11 @@ use std::alloc::Global;
 /// The `forall`s over what a coercion relates behind a variable of a kind: `UnliftedVariable`, and then `NotAType` where one of them is not
 /// of kind `*`.
 #[tactic(auto, using(fc_type_scope::proofs::Proven::table_rules))]
-pub fn quantified<'a>(
+pub fn quantified(
     alloc: Global,
     kind: &Kind,
     ends: Ends,
-    types: &mut TypeTable<'a>,
+    types: &mut TypeTable,
     inner: &TypeScope<'_>,
     scope: &TypeScope<'_>,
 ) -> Result<Ends, Flawed>
@@ -52,12 +52,12 @@ pub fn quantified<'a>(
 }
 
 /// Whether a type may take a coercion between the first two types and then be of the third: `KindsDiffer`, and then `NotAType`.
-fn coforall_kinded<'a>(
+fn coforall_kinded(
     alloc: Global,
     left: TypeId,
     right: TypeId,
     body: TypeId,
-    types: &TypeTable<'a>,
+    types: &TypeTable,
     scope: &TypeScope<'_>,
 ) -> Result<(), Flawed>
     requires left_in { IsType types.now (scope_in scope.now) left }
@@ -84,12 +84,12 @@ fn parts_at_roles(outer: Role, role: Role, left: &Ends, right: &Ends, body: &End
 }
 
 /// The type that takes a coercion at a role between the first two types, and is then the third.
-fn coforall<'a>(
+fn coforall(
     role: Role,
     left: TypeId,
     right: TypeId,
     body: TypeId,
-    types: &mut TypeTable<'a>,
+    types: &mut TypeTable,
     scope: &TypeScope<'_>,
 ) -> Result<TypeId, Memory>
     requires left_in { IsType types.old (scope_in scope.now) left }
@@ -104,13 +104,13 @@ fn coforall<'a>(
 
 /// The types that take coercions at a role between what two coercions relate, and are then what the third relates.
 #[tactic(auto, using(fc_type_scope::proofs::Proven::table_rules))]
-fn coforalls<'a>(
+fn coforalls(
     outer: Role,
     role: Role,
     left: Ends,
     right: Ends,
     body: Ends,
-    types: &mut TypeTable<'a>,
+    types: &mut TypeTable,
     scope: &TypeScope<'_>,
 ) -> Result<Ends, Memory>
     requires left_in { IsEnds types.old (scope_in scope.now) left }
@@ -131,14 +131,14 @@ fn coforalls<'a>(
 
 /// The types that take coercions at a role between what two coercions relate, and are then what the third relates: `RoleWrong`, and then
 /// `KindsDiffer` and `NotAType`, the left end first.
-pub fn taking<'a>(
+pub fn taking(
     alloc: Global,
     outer: Role,
     role: Role,
     left: Ends,
     right: Ends,
     body: Ends,
-    types: &mut TypeTable<'a>,
+    types: &mut TypeTable,
     scope: &TypeScope<'_>,
 ) -> Result<Ends, Flawed>
     requires left_in { IsEnds types.old (scope_in scope.now) left }

@@ -21,10 +21,10 @@ use fc_types::params_of_family;
 use std::alloc::Global;
 
 /// Whether a type is a family applied to exactly as many types as it has parameters.
-fn is_family_applied<'a>(
+fn is_family_applied(
     alloc: Global,
     id: TypeId,
-    types: &TypeTable<'a>,
+    types: &TypeTable,
     scope: &TypeScope<'_>,
 ) -> Result<bool, Memory>
     requires { IsType types.now (scope_in scope.now) id }
@@ -50,11 +50,7 @@ struct Applications {
 }
 
 /// Both ends as applications, if they are.
-fn as_applications<'a>(
-    ends: &Ends,
-    types: &TypeTable<'a>,
-    scope: &TypeScope<'_>,
-) -> Option<Applications>
+fn as_applications(ends: &Ends, types: &TypeTable, scope: &TypeScope<'_>) -> Option<Applications>
     requires { IsEnds types.now (scope_in scope.now) ends.now }
     ensures valid { IfSome result (λ a. IsEnds types.now (scope_in scope.now) a.heads × IsEnds types.now (scope_in scope.now) a.arguments) }
     ensures view { option_map (λ a. (shown_ends types.now (scope_in scope.now) a.heads, shown_ends types.now (scope_in scope.now) a.arguments)) result ≡ both_split (application_ends (shown types.now (scope_in scope.now) ends.now.left)) (application_ends (shown types.now (scope_in scope.now) ends.now.right)) }
@@ -77,10 +73,10 @@ fn as_applications<'a>(
 
 /// Both ends as applications that can be taken apart: `RoleWrong` where they are not related at N, and then `NotInjective` where they are no
 /// applications or one of them makes a family applied in full.
-fn split<'a>(
+fn split(
     alloc: Global,
     ends: &Ends,
-    types: &TypeTable<'a>,
+    types: &TypeTable,
     scope: &TypeScope<'_>,
 ) -> Result<Applications, Flawed>
     requires { IsEnds types.now (scope_in scope.now) ends.now }
@@ -101,10 +97,10 @@ fn split<'a>(
 }
 
 /// What a coercion relates, if it is of one kind: `KindsDiffer`.
-fn of_one_kind<'a>(
+fn of_one_kind(
     alloc: Global,
     ends: Ends,
-    types: &TypeTable<'a>,
+    types: &TypeTable,
     scope: &TypeScope<'_>,
 ) -> Result<Ends, Flawed>
     requires { IsEnds types.now (scope_in scope.now) ends }
@@ -118,10 +114,10 @@ fn of_one_kind<'a>(
 }
 
 /// The heads of the applications that a coercion relates: the faults of `split`, and then `KindsDiffer`.
-pub fn heads<'a>(
+pub fn heads(
     alloc: Global,
     ends: Ends,
-    types: &TypeTable<'a>,
+    types: &TypeTable,
     scope: &TypeScope<'_>,
 ) -> Result<Ends, Flawed>
     requires { IsEnds types.now (scope_in scope.now) ends }
@@ -133,10 +129,10 @@ pub fn heads<'a>(
 }
 
 /// What they are applied to: the same faults.
-pub fn arguments<'a>(
+pub fn arguments(
     alloc: Global,
     ends: Ends,
-    types: &TypeTable<'a>,
+    types: &TypeTable,
     scope: &TypeScope<'_>,
 ) -> Result<Ends, Flawed>
     requires { IsEnds types.now (scope_in scope.now) ends }

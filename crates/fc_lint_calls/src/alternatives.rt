@@ -58,12 +58,12 @@ fn literal_rises(before: Before, literal: i64) -> bool
 }
 
 /// The alternative of a literal: `LitAlt` where the scrutinee is no `Int#`, and then `AltOrder`.
-pub fn literal_goes<'a>(
+pub fn literal_goes(
     alloc: Global,
     scrutinee: TypeId,
     before: Before,
     literal: i64,
-    types: &TypeTable<'a>,
+    types: &TypeTable,
     scope: &TypeScope<'_>,
 ) -> Result<Before, Flawed>
     requires { IsType types.now (scope_in scope.now) scrutinee }
@@ -94,15 +94,15 @@ fn constructor_follows(before: Before, number: usize) -> bool
 /// and is then of the scrutinee's type. `AltConstructor` where the scrutinee is not of the constructor's data type, and then `AltOrder`, and
 /// `ConArity` where the binders do not agree with the constructor at the types of the scrutinee.
 #[tactic(auto, using(crate::proofs::Givens::given_rules))]
-pub fn constructor_goes<'a>(
+pub fn constructor_goes(
     alloc: Global,
-    name: &'a Name,
-    con: &DeclaredCon<'a>,
+    name: &Name,
+    con: &DeclaredCon,
     ty: TypeId,
     scrutinee: TypeId,
     before: Before,
     binders: TypeId,
-    types: &mut TypeTable<'a>,
+    types: &mut TypeTable,
     scope: &TypeScope<'_>,
 ) -> Result<Before, Flawed>
     requires type_in { IsType types.old (scope_in scope.now) ty }

@@ -64,12 +64,12 @@ pub fn is_atom(e: &NExpr) -> bool
 }
 
 /// The type of a head of this type that is applied to a term of the other: `NotFunction`, `ArgType` and `UnliftedNotAtom`, in this order.
-fn applied_to_term<'a>(
+fn applied_to_term(
     alloc: Global,
     head: TypeId,
     ty: TypeId,
     atom: bool,
-    types: &TypeTable<'a>,
+    types: &TypeTable,
     scope: &TypeScope<'_>,
 ) -> Result<TypeId, Flawed>
     requires head_in { IsType types.now (scope_in scope.now) head }
@@ -93,12 +93,12 @@ fn applied_to_term<'a>(
 
 /// The type of a head of this type that is applied to the other type, which is of this kind: `NotForall`, and then `KindMismatch`.
 #[tactic(auto, using(crate::proofs::Givens::given_rules))]
-fn applied_to_type<'a>(
+fn applied_to_type(
     alloc: Global,
     head: TypeId,
     by: TypeId,
     kind: TypeId,
-    types: &mut TypeTable<'a>,
+    types: &mut TypeTable,
     scope: &TypeScope<'_>,
 ) -> Result<TypeId, Flawed>
     requires head_in { IsType types.old (scope_in scope.now) head }
@@ -122,11 +122,11 @@ fn applied_to_type<'a>(
 
 /// The type of a head of this type that is applied to a coercion: `NotFunction`, and then `ArgType` where another role or other ends are
 /// asked.
-fn applied_to_coercion<'a>(
+fn applied_to_coercion(
     alloc: Global,
     head: TypeId,
     ends: &Ends,
-    types: &TypeTable<'a>,
+    types: &TypeTable,
     scope: &TypeScope<'_>,
 ) -> Result<TypeId, Flawed>
     requires head_in { IsType types.now (scope_in scope.now) head }
@@ -147,11 +147,11 @@ fn applied_to_coercion<'a>(
 
 /// The type of a head of this type that is applied to one argument: to a term `NotFunction`, `ArgType` and `UnliftedNotAtom`, to a type
 /// `NotForall` and `KindMismatch`, to a coercion `NotFunction` and `ArgType`, in this order.
-pub fn applied<'a>(
+pub fn applied(
     alloc: Global,
     head: TypeId,
     given: &Given,
-    types: &mut TypeTable<'a>,
+    types: &mut TypeTable,
     scope: &TypeScope<'_>,
 ) -> Result<TypeId, Flawed>
     requires head_in { IsType types.old (scope_in scope.now) head }
@@ -169,11 +169,11 @@ pub fn applied<'a>(
 
 /// What is met with one more argument, a term of this type; nothing where none is asked.
 #[tactic(auto, using(crate::proofs::Meets::term_rules))]
-fn meets_term<'a>(
+fn meets_term(
     so_far: Meeting,
     ty: TypeId,
     atom: bool,
-    types: &TypeTable<'a>,
+    types: &TypeTable,
     scope: &TypeScope<'_>,
 ) -> Option<Meeting>
     requires whole_in { IsType types.now (scope_in scope.now) so_far.whole }
@@ -198,12 +198,12 @@ fn meets_term<'a>(
 
 /// What is met with one more argument, a type of this kind; nothing where none is asked.
 #[tactic(auto, using(crate::proofs::Meets::type_rules))]
-fn meets_type<'a>(
+fn meets_type(
     alloc: Global,
     so_far: Meeting,
     by: TypeId,
     kind: TypeId,
-    types: &mut TypeTable<'a>,
+    types: &mut TypeTable,
     scope: &TypeScope<'_>,
 ) -> Result<Option<Meeting>, Memory>
     requires whole_in { IsType types.old (scope_in scope.now) so_far.whole }
@@ -227,10 +227,10 @@ fn meets_type<'a>(
 
 /// What is met with one more argument, a coercion; nothing where none is asked.
 #[tactic(auto, using(crate::proofs::Meets::coercion_rules))]
-fn meets_coercion<'a>(
+fn meets_coercion(
     so_far: Meeting,
     ends: &Ends,
-    types: &TypeTable<'a>,
+    types: &TypeTable,
     scope: &TypeScope<'_>,
 ) -> Option<Meeting>
     requires whole_in { IsType types.now (scope_in scope.now) so_far.whole }
@@ -253,11 +253,11 @@ fn meets_coercion<'a>(
 }
 
 /// What is met with one more argument; nothing where one of another sort is asked, or none.
-fn meets<'a>(
+fn meets(
     alloc: Global,
     so_far: Meeting,
     given: &Given,
-    types: &mut TypeTable<'a>,
+    types: &mut TypeTable,
     scope: &TypeScope<'_>,
 ) -> Result<Option<Meeting>, Memory>
     requires whole_in { IsType types.old (scope_in scope.now) so_far.whole }
@@ -275,11 +275,11 @@ fn meets<'a>(
 
 /// What is met with all arguments, by what is of this type; nothing where one is of another sort than is asked.
 #[tactic(auto, using(crate::proofs::Givens::given_rules))]
-fn meets_all<'a>(
+fn meets_all(
     alloc: Global,
     ty: TypeId,
     givens: &[Given],
-    types: &mut TypeTable<'a>,
+    types: &mut TypeTable,
     scope: &TypeScope<'_>,
 ) -> Result<Option<Meeting>, Memory>
     requires type_in { IsType types.old (scope_in scope.now) ty }
@@ -306,13 +306,13 @@ fn meets_all<'a>(
 /// The type of what is of this type and takes this many arguments at once. The fault `arity` where there are not as many, or where one is of
 /// another sort than is asked; then `KindMismatch`, `ArgType` and `UnliftedNotAtom`, each judged of all arguments.
 #[tactic(auto, using(crate::proofs::Givens::given_rules))]
-pub fn called<'a>(
+pub fn called(
     alloc: Global,
     arity: FaultKind,
     count: usize,
     ty: TypeId,
     givens: &[Given],
-    types: &mut TypeTable<'a>,
+    types: &mut TypeTable,
     scope: &TypeScope<'_>,
 ) -> Result<TypeId, Flawed>
     requires type_in { IsType types.old (scope_in scope.now) ty }
@@ -341,10 +341,10 @@ pub fn called<'a>(
 
 /// The type of a primitive of these operands: `PrimArity` where they are not two terms, and then `ArgType` and `UnliftedNotAtom`.
 #[tactic(auto, using(crate::proofs::Givens::given_rules))]
-pub fn operated<'a>(
+pub fn operated(
     alloc: Global,
     givens: &[Given],
-    types: &mut TypeTable<'a>,
+    types: &mut TypeTable,
     scope: &TypeScope<'_>,
 ) -> Result<TypeId, Flawed>
     requires { AreGiven types.old (scope_in scope.now) givens.now }

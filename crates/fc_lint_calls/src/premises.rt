@@ -32,12 +32,12 @@ pub fn pays(alloc: Global, owed: Option<FaultKind>) -> Result<(), Flawed>
 
 /// Whether what is of the type `inner` behind type variables is of the type `outer` before them, in the scope: `EscapingType` where `inner`
 /// mentions one of them, and then `differs`.
-pub fn leaves_as<'a>(
+pub fn leaves_as(
     alloc: Global,
     inner: TypeId,
     outer: TypeId,
     differs: FaultKind,
-    types: &TypeTable<'a>,
+    types: &TypeTable,
     scope: &TypeScope<'_>,
 ) -> Result<(), Flawed>
     requires inner_in { IsNumber types.now inner }
@@ -55,13 +55,13 @@ pub fn leaves_as<'a>(
 
 /// Whether a bind of this type, which is one of values or not, takes a right side of the other type, an atom or not: `NotAType`, `LetType` and
 /// `UnliftedNotAtom`, in this order.
-pub fn bind_takes<'a>(
+pub fn bind_takes(
     alloc: Global,
     is_value: bool,
     ty: TypeId,
     right: TypeId,
     atom: bool,
-    types: &TypeTable<'a>,
+    types: &TypeTable,
     scope: &TypeScope<'_>,
 ) -> Result<(), Flawed>
     requires type_in { IsType types.now (scope_in scope.now) ty }
@@ -82,13 +82,13 @@ pub fn bind_takes<'a>(
 
 /// The type of a case whose binder is of the type `of` and whose result is of the type `answer`, which is one of values or not: `ScrutineeType`
 /// where the binder is not of the type of the scrutinee, and then `NotAType`.
-pub fn case_type<'a>(
+pub fn case_type(
     alloc: Global,
     of: TypeId,
     scrutinee: TypeId,
     is_value: bool,
     answer: TypeId,
-    types: &TypeTable<'a>,
+    types: &TypeTable,
     scope: &TypeScope<'_>,
 ) -> Result<TypeId, Flawed>
     requires of_in { IsType types.now (scope_in scope.now) of }
@@ -108,11 +108,11 @@ pub fn case_type<'a>(
 
 /// The type of a cast of what is of this type, by a coercion that proves this: `RoleWrong` where it is not at R, and then `CastFrom` where it
 /// goes from another type. Takes no memory.
-pub fn cast_type<'a>(
+pub fn cast_type(
     alloc: Global,
     ends: &Ends,
     from: TypeId,
-    types: &TypeTable<'a>,
+    types: &TypeTable,
     scope: &TypeScope<'_>,
 ) -> Result<TypeId, Flawed>
     requires ends_in { IsEnds types.now (scope_in scope.now) ends.now }
@@ -130,11 +130,11 @@ pub fn cast_type<'a>(
 }
 
 /// The type of an error at this type: `NotAType` where it is none of values.
-pub fn fail_type<'a>(
+pub fn fail_type(
     alloc: Global,
     is_value: bool,
     ty: TypeId,
-    types: &TypeTable<'a>,
+    types: &TypeTable,
     scope: &TypeScope<'_>,
 ) -> Result<TypeId, Flawed>
     requires { IsType types.now (scope_in scope.now) ty }
@@ -148,12 +148,12 @@ pub fn fail_type<'a>(
 }
 
 /// The type of a join of this type, which is one of values or not, whose body is of the other type: `LetType`, and then `NotAType`.
-pub fn join_type<'a>(
+pub fn join_type(
     alloc: Global,
     body: TypeId,
     is_value: bool,
     ty: TypeId,
-    types: &TypeTable<'a>,
+    types: &TypeTable,
     scope: &TypeScope<'_>,
 ) -> Result<TypeId, Flawed>
     requires body_in { IsType types.now (scope_in scope.now) body }
@@ -172,11 +172,11 @@ pub fn join_type<'a>(
 
 /// Whether a lambda over this binder takes a body of this type, in the scope behind the binder: `NotAType` where it binds a type variable
 /// and the body's type is not of kind `*`.
-pub fn body_fits<'a>(
+pub fn body_fits(
     alloc: Global,
     binder: &NBinder,
     body: TypeId,
-    types: &TypeTable<'a>,
+    types: &TypeTable,
     inner: &TypeScope<'_>,
 ) -> Result<(), Flawed>
     requires { IsType types.now (scope_in inner.now) body }

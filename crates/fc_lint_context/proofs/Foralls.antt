@@ -11,8 +11,7 @@ use Rattle.fc_model.specs.Calling.{applied_to_variables, over_binders, type_coun
 use Rattle.fc_model.specs.Kinding.{param_kinds}
 use Rattle.fc_model.specs.Nameless.{NTy, NTCon, NTForall, NParam, NParamOf, NBinder, NBType, NBValue}
 use Rattle.fc_model.specs.NamelessView.{nparams_of, nplains_of, ntys_of}
-use Rattle.fc_type_table.specs.InScope.{own_kinds}
-use Rattle.fc_types.specs.KindViews.{behind_group}
+use Rattle.fc_type_table.specs.InScope.{behind_group, own_kinds}
 use Rattle.fc_type_table.specs.declared.numbered.NumberedKind.{NumberedKind}
 use Rattle.fc_type_table.proofs.BinderKinds.{length-binder_kinds}
 use Rattle.fc_type_scope.specs.Behind.{binder_kinds}

@@ -27,10 +27,10 @@ pub(crate) struct Sides {
 
 /// The kinds of the parameters of an equation, in their order. Fails only where memory runs out.
 #[tactic(auto, using(crate::proofs::Foralls::plain_rules))]
-pub fn plain_kinds<'p, 'a>(
+pub fn plain_kinds<'p>(
     alloc: Global,
     params: &'p [Plain],
-    types: &mut TypeTable<'a>,
+    types: &mut TypeTable,
 ) -> Result<Seq<NumberedKind<'p>>, Memory>
     ensures kinds { IfOk result (λ kinds. own_kinds kinds ≡ nplains_of params.now) }
     ensures numbered { IfOk result (λ kinds. AreNumbered (nodes_of types.new) kinds) }
@@ -47,11 +47,11 @@ pub fn plain_kinds<'p, 'a>(
 
 /// A written type as a `forall` over variables of these kinds.
 #[tactic(auto, using(crate::proofs::Contexts::context_rules), unfolding(fc_type_scope::specs::Scopes::scope_in))]
-fn closed_over<'a>(
+fn closed_over(
     alloc: Global,
-    kinds: &[NumberedKind<'a>],
-    t: &'a NTy,
-    types: &mut TypeTable<'a>,
+    kinds: &[NumberedKind],
+    t: &NTy,
+    types: &mut TypeTable,
 ) -> Result<TypeId, Memory>
     requires { AreNumbered (nodes_of types.old) kinds.now }
     ensures valid { IfOk result (λ id. IsType types.new [] id) }
@@ -66,12 +66,12 @@ fn closed_over<'a>(
 
 /// A newtype at its parameters as a `forall` over them, by the words of its module and its own.
 #[tactic(auto, using(crate::proofs::Contexts::context_rules), unfolding(fc_type_scope::specs::Scopes::scope_in))]
-fn closed_newtype<'a>(
+fn closed_newtype(
     alloc: Global,
-    kinds: &[NumberedKind<'a>],
-    word: &'a Text,
-    own_word: &'a Text,
-    types: &mut TypeTable<'a>,
+    kinds: &[NumberedKind],
+    word: &Text,
+    own_word: &Text,
+    types: &mut TypeTable,
 ) -> Result<TypeId, Memory>
     requires { AreNumbered (nodes_of types.old) kinds.now }
     ensures valid { IfOk result (λ id. IsType types.new [] id) }
@@ -87,13 +87,13 @@ fn closed_newtype<'a>(
 
 /// The sides of the axiom of a newtype: it at its parameters, and what it holds.
 #[tactic(auto, using(crate::proofs::Contexts::context_rules, crate::proofs::Foralls::kinds_count))]
-fn newtype_sides<'a>(
+fn newtype_sides(
     alloc: Global,
-    params: &'a [Param],
-    t: &'a NTy,
-    word: &'a Text,
-    own_word: &'a Text,
-    types: &mut TypeTable<'a>,
+    params: &[Param],
+    t: &NTy,
+    word: &Text,
+    own_word: &Text,
+    types: &mut TypeTable,
 ) -> Result<Sides, Memory>
     ensures left_in { IfOk result (λ s. IsType types.new [] s.left) }
     ensures right_in { IfOk result (λ s. IsType types.new [] s.right) }
@@ -109,12 +109,12 @@ fn newtype_sides<'a>(
 
 /// The sides of an equation of a family.
 #[tactic(auto, using(crate::proofs::Contexts::context_rules))]
-fn equation_sides<'a>(
+fn equation_sides(
     alloc: Global,
-    params: &'a [Plain],
-    left: &'a NTy,
-    right: &'a NTy,
-    types: &mut TypeTable<'a>,
+    params: &[Plain],
+    left: &NTy,
+    right: &NTy,
+    types: &mut TypeTable,
 ) -> Result<Sides, Memory>
     ensures left_in { IfOk result (λ s. IsType types.new [] s.left) }
     ensures right_in { IfOk result (λ s. IsType types.new [] s.right) }
@@ -130,7 +130,7 @@ fn equation_sides<'a>(
 
 /// `Int#` on both sides, of a declaration that has no axiom.
 #[tactic(auto, using(crate::proofs::Contexts::context_rules), unfolding(fc_type_scope::specs::Scopes::scope_in))]
-fn no_sides<'a>(types: &mut TypeTable<'a>) -> Result<Sides, Memory>
+fn no_sides(types: &mut TypeTable) -> Result<Sides, Memory>
     ensures left_in { IfOk result (λ s. IsType types.new [] s.left) }
     ensures right_in { IfOk result (λ s. IsType types.new [] s.right) }
     ensures left { IfOk result (λ s. shown types.new [] s.left ≡ NTInt) }
@@ -149,10 +149,10 @@ fn no_sides<'a>(types: &mut TypeTable<'a>) -> Result<Sides, Memory>
 
 /// The sides of an axiom; `Int#` for both where its declaration has none.
 #[tactic(auto, using(fc_syntax::proofs::View::view_rules))]
-pub(crate) fn axiom_sides<'a>(
+pub(crate) fn axiom_sides(
     alloc: Global,
-    declared: &DeclaredAxiom<'a>,
-    types: &mut TypeTable<'a>,
+    declared: &DeclaredAxiom,
+    types: &mut TypeTable,
 ) -> Result<Sides, Memory>
     ensures left_in { IfOk result (λ s. IsType types.new [] s.left) }
     ensures right_in { IfOk result (λ s. IsType types.new [] s.right) }

@@ -7,9 +7,8 @@ ghost use Rattle.fc_model.specs.Nameless.{NBType, NBValue, NTApp, NTForall, NTFu
 ghost use Rattle.fc_model.specs.NamelessView.{nparams_of, nty_of, ntys_of};
 ghost use Rattle.fc_type_scope.specs.Behind.{binder_kinds, kinds_past};
 ghost use Rattle.fc_type_scope.specs.Scopes.{IsScope, scope_in};
-ghost use Rattle.fc_type_table.specs.InScope.{AreNumbered, own_kinds};
+ghost use Rattle.fc_type_table.specs.InScope.{AreNumbered, behind_group, own_kinds};
 ghost use Rattle.fc_type_table.specs.TypeTables.{Grows, IsType, nodes_of, shown};
-ghost use Rattle.fc_types.specs.KindViews.{behind_group};
 ghost use Rattle.fc_types.specs.TableViews.{constructor_of};
 ghost use Rattle.fc_lint_context.specs.DeclaredViews.{name_in, own_constructor_type};
 
@@ -21,10 +20,10 @@ use std::alloc::Global;
 
 /// The kinds of parameters, in their order. Fails only where memory runs out.
 #[tactic(auto, using(crate::proofs::Foralls::param_rules))]
-pub fn param_kinds<'p, 'a>(
+pub fn param_kinds<'p>(
     alloc: Global,
     params: &'p [Param],
-    types: &mut TypeTable<'a>,
+    types: &mut TypeTable,
 ) -> Result<Seq<NumberedKind<'p>>, Memory>
     ensures kinds { IfOk result (λ kinds. own_kinds kinds ≡ words.param_kinds (nparams_of params.now)) }
     ensures numbered { IfOk result (λ kinds. AreNumbered (nodes_of types.new) kinds) }
@@ -41,12 +40,12 @@ pub fn param_kinds<'p, 'a>(
 
 /// A type applied to the variable that stands so many binders further out than another.
 #[tactic(auto, using(crate::proofs::Contexts::context_rules))]
-fn applied_to_variable<'a>(
+fn applied_to_variable(
     scope: &TypeScope,
     head: TypeId,
     place: usize,
     outer: usize,
-    types: &mut TypeTable<'a>,
+    types: &mut TypeTable,
 ) -> Result<TypeId, Memory>
     requires scope { IsScope types.old scope.now }
     requires head_in { IsType types.old (scope_in scope.now) head }
@@ -66,12 +65,12 @@ fn applied_to_variable<'a>(
 }
 
 /// A type applied to this many variables, the innermost of which stands so far out.
-pub(crate) fn applied_to_params<'a>(
+pub(crate) fn applied_to_params(
     scope: &TypeScope,
     head: TypeId,
     count: usize,
     outer: usize,
-    types: &mut TypeTable<'a>,
+    types: &mut TypeTable,
 ) -> Result<TypeId, Memory>
     requires scope { IsScope types.old scope.now }
     requires head_in { IsType types.old (scope_in scope.now) head }
@@ -90,11 +89,11 @@ pub(crate) fn applied_to_params<'a>(
 
 /// The type of functions from a written type to another.
 #[tactic(auto, using(crate::proofs::Contexts::context_rules))]
-fn over_field<'a>(
+fn over_field(
     scope: &TypeScope,
-    field: &'a NTy,
+    field: &NTy,
     answer: TypeId,
-    types: &mut TypeTable<'a>,
+    types: &mut TypeTable,
 ) -> Result<TypeId, Memory>
     requires scope { IsScope types.old scope.now }
     requires answer_in { IsType types.old (scope_in scope.now) answer }
@@ -107,11 +106,11 @@ fn over_field<'a>(
 }
 
 /// The type of functions of fields.
-fn over_fields<'a>(
+fn over_fields(
     scope: &TypeScope,
-    fields: &'a [NTy],
+    fields: &[NTy],
     answer: TypeId,
-    types: &mut TypeTable<'a>,
+    types: &mut TypeTable,
 ) -> Result<TypeId, Memory>
     requires scope { IsScope types.old scope.now }
     requires answer_in { IsType types.old (scope_in scope.now) answer }
@@ -129,11 +128,11 @@ fn over_fields<'a>(
 }
 
 /// What a constructor of a module makes, as a function of its fields, behind its parameters and its own binders.
-fn over_own_fields<'x, 'a>(
-    con: &DeclaredCon<'a>,
-    entered: &'x Entered<'a>,
-    scope: &'x TypeScope<'x>,
-    types: &mut TypeTable<'a>,
+fn over_own_fields(
+    con: &DeclaredCon,
+    entered: &Entered,
+    scope: &TypeScope,
+    types: &mut TypeTable,
 ) -> Result<TypeId, Memory>
     requires scope { IsScope types.old scope.now }
     requires numbered { AreNumbered (nodes_of types.old) entered.now.kinds }
@@ -151,11 +150,11 @@ fn over_own_fields<'x, 'a>(
 
 /// The same as a function of its own binders and its fields, behind its parameters.
 #[tactic(auto, using(crate::proofs::Contexts::context_rules))]
-fn over_own_binders<'x, 'a>(
+fn over_own_binders(
     alloc: Global,
-    con: &DeclaredCon<'a>,
-    scope: &'x TypeScope<'x>,
-    types: &mut TypeTable<'a>,
+    con: &DeclaredCon,
+    scope: &TypeScope,
+    types: &mut TypeTable,
 ) -> Result<TypeId, Memory>
     requires { IsScope types.old scope.now }
     ensures valid { IfOk result (λ id. IsType types.new (scope_in scope.now) id) }
@@ -171,12 +170,12 @@ fn over_own_binders<'x, 'a>(
 
 /// The `forall` over a variable of a kind, behind variables of other kinds.
 #[tactic(auto, unfolding(fc_type_scope::specs::Scopes::scope_in))]
-fn forall_behind<'a>(
+fn forall_behind(
     alloc: Global,
     outer: &[NumberedKind],
     kind: &Kind,
     body: TypeId,
-    types: &mut TypeTable<'a>,
+    types: &mut TypeTable,
 ) -> Result<TypeId, Memory>
     requires { IsType types.old (kind_of kind.now ∷ behind_group (own_kinds outer.now) []) body }
     ensures valid { IfOk result (λ id. IsType types.new (behind_group (own_kinds outer.now) []) id) }
@@ -189,11 +188,11 @@ fn forall_behind<'a>(
 }
 
 /// The `forall`s over variables of these kinds, the last one the innermost.
-pub(crate) fn over_params<'a>(
+pub(crate) fn over_params(
     alloc: Global,
     kinds: &[NumberedKind],
     body: TypeId,
-    types: &mut TypeTable<'a>,
+    types: &mut TypeTable,
 ) -> Result<TypeId, Memory>
     requires { IsType types.old (behind_group (own_kinds kinds.now) []) body }
     ensures valid { IfOk result (λ id. IsType types.new [] id) }
@@ -211,10 +210,10 @@ pub(crate) fn over_params<'a>(
 
 /// The type of a constructor of a module as a function of its binders: the parameters of its data type, its own types and coercions,
 /// and its fields.
-pub(crate) fn constructor_type<'a>(
+pub(crate) fn constructor_type(
     alloc: Global,
-    con: &DeclaredCon<'a>,
-    types: &mut TypeTable<'a>,
+    con: &DeclaredCon,
+    types: &mut TypeTable,
 ) -> Result<TypeId, Memory>
     ensures valid { IfOk result (λ id. IsType types.new [] id) }
     ensures view { IfOk result (λ id. shown types.new [] id ≡ own_constructor_type con.now.module.now (constructor_of con.now)) }

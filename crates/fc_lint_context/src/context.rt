@@ -35,9 +35,9 @@ use std::alloc::Global;
 
 /// What is in scope where an expression is judged.
 #[derive(Clone, Copy)]
-pub struct Context<'x, 'd, 'a> {
+pub struct Context<'x> {
     /// What the modules declare.
-    pub declared: &'x DeclaredTypes<'d, 'a>,
+    pub declared: &'x DeclaredTypes<'x>,
     /// The type variables in scope.
     pub scope: TypeScope<'x>,
     /// What the local variables of coercions prove.
@@ -48,12 +48,9 @@ pub struct Context<'x, 'd, 'a> {
     pub joins: Joins<'x>,
 }
 
-impl<'x, 'd, 'a> Context<'x, 'd, 'a> {
+impl<'x> Context<'x> {
     /// Where nothing is in scope but what the modules declare; `kinds` has no type variable.
-    pub fn closed(
-        declared: &'x DeclaredTypes<'d, 'a>,
-        kinds: &'x NumberedKinds<'x>,
-    ) -> Context<'x, 'd, 'a>
+    pub fn closed(declared: &'x DeclaredTypes<'x>, kinds: &'x NumberedKinds<'x>) -> Context<'x>
         requires kinds { kinds_of kinds.now ≡ [] }
         requires numbered { numbered_of kinds.now ≡ [] }
         ensures declared { modules_of_context result ≡ modules_read declared.now }
@@ -106,7 +103,7 @@ impl<'x, 'd, 'a> Context<'x, 'd, 'a> {
     }
 
     /// The constructor of a name, with its type as a function of its binders.
-    pub fn constructor_named(&self, name: &Name) -> Option<TypedCon<'a>>
+    pub fn constructor_named(&self, name: &Name) -> Option<TypedCon<'x>>
         ensures view { (ns : List nodes.Node) → IsContextAt ns self.now → option_map (λ k. constructor_of k.con) result ≡ constructor (modules_of_context self.now) name.now }
         ensures valid { (ns : List nodes.Node) → IsContextAt ns self.now → IfSome result (λ k. IsTypeAt ns (scope_in self.now.scope) k.ty.0) }
         ensures ty { (ns : List nodes.Node) → IsContextAt ns self.now → IfSome result (λ k. shown_at ns (scope_in self.now.scope) k.ty.0 ≡ calls.constructor_type name.now (constructor_of k.con)) }
@@ -115,7 +112,7 @@ impl<'x, 'd, 'a> Context<'x, 'd, 'a> {
     }
 
     /// The axiom of a name, with its sides as `forall`s over its parameters.
-    pub fn axiom_named(&self, name: &Name) -> Option<TypedAxiom<'a>>
+    pub fn axiom_named(&self, name: &Name) -> Option<TypedAxiom<'x>>
         ensures view { (ns : List nodes.Node) → IsContextAt ns self.now → option_and_then (λ k. axiom_of name.now.module (ndecl_of k.decl.now)) result ≡ axiom_named (modules_of_context self.now) name.now }
         ensures valid { (ns : List nodes.Node) → IsContextAt ns self.now → IfSome result (λ k. AreSidesAt ns (scope_in self.now.scope) k) }
         ensures sides { (ns : List nodes.Node) → IsContextAt ns self.now → IfSome result (λ k. (a : Axiom) → axiom_of name.now.module (ndecl_of k.decl.now) ≡ Some a → ShowSides ns (scope_in self.now.scope) k a) }
@@ -124,7 +121,7 @@ impl<'x, 'd, 'a> Context<'x, 'd, 'a> {
     }
 
     /// The same where no join point is in tail reach.
-    pub fn without_joins(&self) -> Context<'x, 'd, 'a>
+    pub fn without_joins(&self) -> Context<'x>
         ensures declared { modules_of_context result ≡ modules_of_context self.now }
         ensures scope { scope_in result.scope ≡ scope_in self.now.scope }
         ensures valid { (ns : List nodes.Node) → IsContextAt ns self.now → IsContextAt ns result }
@@ -140,7 +137,7 @@ impl<'x, 'd, 'a> Context<'x, 'd, 'a> {
     }
 
     /// Behind a variable of a value of this type.
-    pub fn behind_value(&'x self, t: TypeId) -> Context<'x, 'd, 'a>
+    pub fn behind_value(&'x self, t: TypeId) -> Context<'x>
         ensures declared { modules_of_context result ≡ modules_of_context self.now }
         ensures scope { scope_in result.scope ≡ scope_in self.now.scope }
         ensures valid { (ns : List nodes.Node) → IsContextAt ns self.now → IsTypeAt ns (scope_in self.now.scope) t.0 → IsContextAt ns result }
@@ -156,7 +153,7 @@ impl<'x, 'd, 'a> Context<'x, 'd, 'a> {
     }
 
     /// Behind the variables of binds of these types.
-    pub fn behind_binds(&'x self, ids: &'x [TypeId]) -> Context<'x, 'd, 'a>
+    pub fn behind_binds(&'x self, ids: &'x [TypeId]) -> Context<'x>
         ensures declared { modules_of_context result ≡ modules_of_context self.now }
         ensures scope { scope_in result.scope ≡ scope_in self.now.scope }
         ensures valid { (ns : List nodes.Node) → IsContextAt ns self.now → AreTypesAt ns (scope_in self.now.scope) ids.now → IsContextAt ns result }
@@ -172,7 +169,7 @@ impl<'x, 'd, 'a> Context<'x, 'd, 'a> {
     }
 
     /// Behind these join points.
-    pub fn behind_joins(&'x self, points: &'x [JoinPoint]) -> Context<'x, 'd, 'a>
+    pub fn behind_joins(&'x self, points: &'x [JoinPoint]) -> Context<'x>
         ensures declared { modules_of_context result ≡ modules_of_context self.now }
         ensures scope { scope_in result.scope ≡ scope_in self.now.scope }
         ensures valid { (ns : List nodes.Node) → IsContextAt ns self.now → AreJoinsAt ns (scope_in self.now.scope) points.now → IsContextAt ns result }
@@ -188,7 +185,7 @@ impl<'x, 'd, 'a> Context<'x, 'd, 'a> {
     }
 
     /// Behind a type variable, with the kinds of the type variables in scope there.
-    pub fn behind_type(&'x self, kinds: &'x NumberedKinds<'x>) -> Context<'x, 'd, 'a>
+    pub fn behind_type(&'x self, kinds: &'x NumberedKinds<'x>) -> Context<'x>
         ensures declared { modules_of_context result ≡ modules_of_context self.now }
         ensures scope { scope_in result.scope ≡ kinds_of kinds.now }
         ensures valid { (ns : List nodes.Node) (k : trees.Kind) → kinds_of kinds.now ≡ k ∷ scope_in self.now.scope → IsScopeAt ns kinds.now → IsContextAt ns self.now → IsContextAt ns result }
@@ -206,9 +203,9 @@ impl<'x, 'd, 'a> Context<'x, 'd, 'a> {
     /// Behind binders that were entered here, with the kinds of the type variables in scope there.
     pub fn behind_binders(
         &'x self,
-        entered: &'x Entered<'a>,
+        entered: &'x Entered<'x>,
         kinds: &'x NumberedKinds<'x>,
-    ) -> Context<'x, 'd, 'a>
+    ) -> Context<'x>
         requires kinds { kinds_of kinds.now ≡ reverse (own_kinds entered.now.kinds) ++ kinds_of self.now.scope.kinds.now }
         requires numbered { numbered_of kinds.now ≡ reverse entered.now.kinds ++ numbered_of self.now.scope.kinds.now }
         ensures declared { modules_of_context result ≡ modules_of_context self.now }

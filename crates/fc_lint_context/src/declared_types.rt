@@ -29,9 +29,9 @@ use std::alloc::Global;
 /// What modules declare, with the types of their definitions, of their constructors and of the sides of their axioms in a table. Each is put there once, however often
 /// it is used.
 #[derive(Drop)]
-pub struct DeclaredTypes<'d, 'a> {
+pub struct DeclaredTypes<'a> {
     /// What the modules declare.
-    pub declared: &'d Declarations<'a>,
+    pub declared: &'a Declarations<'a>,
     /// The types of the definitions.
     definition_types: Seq<TypeId>,
     /// The types of the constructors as functions of their binders.
@@ -64,11 +64,7 @@ pub struct TypedCon<'a> {
 
 /// Puts a written type without type variables of others behind others.
 #[tactic(auto, unfolding(fc_type_scope::specs::Scopes::scope_in))]
-fn add_closed<'a>(
-    ids: &mut Seq<TypeId>,
-    t: &'a NTy,
-    types: &mut TypeTable<'a>,
-) -> Result<(), Memory>
+fn add_closed(ids: &mut Seq<TypeId>, t: &NTy, types: &mut TypeTable) -> Result<(), Memory>
     requires { AreTypesAt (nodes_of types.old) [] ids.old }
     ensures types_in { OnOk result (AreTypesAt (nodes_of types.new) [] ids.new) }
     ensures added { OnOk result (shown_all_at (nodes_of types.new) [] ids.new ≡ shown_all_at (nodes_of types.old) [] ids.old ++ nty_of t.now ∷ []) }
@@ -81,11 +77,11 @@ fn add_closed<'a>(
 }
 
 /// Puts the type of the definition of a number behind those of the definitions before it.
-fn add_definition<'a>(
+fn add_definition(
     ids: &mut Seq<TypeId>,
     number: usize,
-    declared: &Declarations<'a>,
-    types: &mut TypeTable<'a>,
+    declared: &Declarations,
+    types: &mut TypeTable,
 ) -> Result<(), Memory>
     requires within { number < length (listed.definition_types declared.now) }
     requires types_in { AreTypesAt (nodes_of types.old) [] ids.old }
@@ -102,10 +98,10 @@ fn add_definition<'a>(
 
 /// The types of the definitions.
 #[tactic(auto, using(crate::proofs::Contexts::context_rules))]
-fn definition_types<'a>(
+fn definition_types(
     alloc: Global,
-    declared: &Declarations<'a>,
-    types: &mut TypeTable<'a>,
+    declared: &Declarations,
+    types: &mut TypeTable,
 ) -> Result<Seq<TypeId>, Memory>
     ensures types_in { IfOk result (λ ids. AreTypesAt (nodes_of types.new) [] ids) }
     ensures all { IfOk result (λ ids. shown_all_at (nodes_of types.new) [] ids ≡ listed.definition_types declared.now) }
@@ -120,12 +116,12 @@ fn definition_types<'a>(
 
 /// Puts the type of the constructor of a number behind those of the constructors before it.
 #[tactic(auto, using(crate::proofs::Contexts::context_rules))]
-fn add_constructor<'a>(
+fn add_constructor(
     alloc: Global,
     ids: &mut Seq<TypeId>,
     number: usize,
-    declared: &Declarations<'a>,
-    types: &mut TypeTable<'a>,
+    declared: &Declarations,
+    types: &mut TypeTable,
 ) -> Result<(), Memory>
     requires within { number < length (listed.constructors_in declared.now) }
     requires types_in { AreTypesAt (nodes_of types.old) [] ids.old }
@@ -145,10 +141,10 @@ fn add_constructor<'a>(
 
 /// The types of the constructors.
 #[tactic(auto, using(crate::proofs::Contexts::context_rules))]
-fn constructor_types<'a>(
+fn constructor_types(
     alloc: Global,
-    declared: &Declarations<'a>,
-    types: &mut TypeTable<'a>,
+    declared: &Declarations,
+    types: &mut TypeTable,
 ) -> Result<Seq<TypeId>, Memory>
     ensures types_in { IfOk result (λ ids. AreTypesAt (nodes_of types.new) [] ids) }
     ensures all { IfOk result (λ ids. shown_all_at (nodes_of types.new) [] ids ≡ views.constructor_types declared.now) }
@@ -172,12 +168,12 @@ struct AxiomSides {
 
 /// Puts the sides of the axiom of a number behind those of the axioms before it.
 #[tactic(auto, using(crate::proofs::Contexts::context_rules))]
-fn add_axiom<'a>(
+fn add_axiom(
     alloc: Global,
     sides: &mut AxiomSides,
     number: usize,
-    declared: &Declarations<'a>,
-    types: &mut TypeTable<'a>,
+    declared: &Declarations,
+    types: &mut TypeTable,
 ) -> Result<(), Memory>
     requires within { number < length (listed.axioms_in declared.now) }
     requires lefts_in { AreTypesAt (nodes_of types.old) [] sides.old.lefts }
@@ -202,10 +198,10 @@ fn add_axiom<'a>(
 
 /// The sides of the axioms.
 #[tactic(auto, using(crate::proofs::Contexts::context_rules))]
-fn sides_of_axioms<'a>(
+fn sides_of_axioms(
     alloc: Global,
-    declared: &Declarations<'a>,
-    types: &mut TypeTable<'a>,
+    declared: &Declarations,
+    types: &mut TypeTable,
 ) -> Result<AxiomSides, Memory>
     ensures lefts_in { IfOk result (λ s. AreTypesAt (nodes_of types.new) [] s.lefts) }
     ensures rights_in { IfOk result (λ s. AreTypesAt (nodes_of types.new) [] s.rights) }
@@ -223,13 +219,13 @@ fn sides_of_axioms<'a>(
     Ok(sides)
 }
 
-impl<'d, 'a> DeclaredTypes<'d, 'a> {
+impl<'a> DeclaredTypes<'a> {
     /// Puts the types of what modules declare into a table. A type that names a variable out of scope is answered as out of memory.
     pub fn new(
         alloc: Global,
-        declared: &'d Declarations<'a>,
-        types: &mut TypeTable<'a>,
-    ) -> Result<DeclaredTypes<'d, 'a>, Memory>
+        declared: &'a Declarations<'a>,
+        types: &mut TypeTable,
+    ) -> Result<DeclaredTypes<'a>, Memory>
         ensures read { IfOk result (λ d. AreRead (nodes_of types.new) d) }
         ensures declared { IfOk result (λ d. modules_read d ≡ modules_of declared.now) }
         ensures grows { OnOk result (Grows types.old types.new) }

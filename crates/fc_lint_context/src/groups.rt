@@ -14,14 +14,14 @@ use fc_syntax::{Memory, NBind, NBinder, NJoinBind, Seq};
 use fc_type_table::{TypeId, TypeTable};
 use std::alloc::Global;
 
-impl<'x, 'd, 'a> Context<'x, 'd, 'a> {
+impl Context<'_> {
     /// The written types of binds, in their order. Fails only where memory runs out.
     #[tactic(auto, using(crate::proofs::Contexts::context_rules))]
     pub fn types_of_binds(
         &self,
         alloc: Global,
-        binds: &'a [NBind],
-        types: &mut TypeTable<'a>,
+        binds: &[NBind],
+        types: &mut TypeTable,
     ) -> Result<Seq<TypeId>, Memory>
         requires { IsScope types.old self.now.scope }
         ensures valid { IfOk result (λ ids. AreTypes types.new (scope_in self.now.scope) ids) }
@@ -40,9 +40,9 @@ impl<'x, 'd, 'a> Context<'x, 'd, 'a> {
     pub fn join_point(
         &self,
         alloc: Global,
-        params: &'a [NBinder],
+        params: &[NBinder],
         answer: TypeId,
-        types: &mut TypeTable<'a>,
+        types: &mut TypeTable,
     ) -> Result<JoinPoint, Memory>
         requires scope { IsScope types.old self.now.scope }
         requires answer_in { IsType types.old (scope_in self.now.scope) answer }
@@ -61,9 +61,9 @@ impl<'x, 'd, 'a> Context<'x, 'd, 'a> {
     pub fn join_points(
         &self,
         alloc: Global,
-        joins: &'a [NJoinBind],
+        joins: &[NJoinBind],
         answer: TypeId,
-        types: &mut TypeTable<'a>,
+        types: &mut TypeTable,
     ) -> Result<Seq<JoinPoint>, Memory>
         requires scope { IsScope types.old self.now.scope }
         requires answer_in { IsType types.old (scope_in self.now.scope) answer }

@@ -1,6 +1,7 @@
 -- Kinds and roles of parameters, and the binders of constructors.
 use Rattle.std.proofs.Common.{◌≡◌, refl, ap, ◌∙◌, ℕ, ◌+◌, ◌-◌, ◌<◌, Bool, ◌&&◌, ◌++◌, List, [], ◌∷◌, drop, get_or, length, reverse, Ok, arith, length-drop}
 use Rattle.std.proofs.lemmas.List.{length-map}
+use Rattle.fc_type_table.specs.InScope.{behind_group}
 use Rattle.fc_syntax.specs.declared.fault.FaultKind.TheVariants.{RoleTooWeak}
 use Rattle.fc_syntax.specs.declared.module.Param.{Param}
 use Rattle.fc_syntax.specs.declared.ty.Role.{Role}
@@ -15,7 +16,6 @@ use Rattle.fc_model.specs.Nameless.{NBinder}
 use Rattle.fc_model.specs.NamelessView.{nparams_of}
 use Rattle.fc_model.specs.Worded.{bare_param}
 use Rattle.fc_model.proofs.Lists.{drop_item}
-use Rattle.fc_types.specs.KindViews.{behind_group}
 
 append_none : {X : Type 0} (xs : List X) → xs ++ [] ≡ xs
 append_none [] = refl

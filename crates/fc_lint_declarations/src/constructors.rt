@@ -1,22 +1,18 @@
 //! Constructors of data types: their binders and their fields.
-ghost use Rattle.std.specs.Prelude.{◌≡◌, true, ◌&&◌, List, OnOk};
-ghost use Rattle.fc_syntax.specs.Tree.{Kind};
+ghost use Rattle.std.specs.Prelude.{◌≡◌, true, ◌&&◌, OnOk};
 ghost use Rattle.fc_model.specs.Faulting.{under};
 ghost use Rattle.fc_model.specs.Linting.{con_binder_judged, con_judged, cons_judged, fields_judged};
-ghost use Rattle.fc_model.specs.Typing.{kinds_behind};
 ghost use Rattle.fc_model.specs.NamelessView.{nbinder_of, ncon_of, ncons_of, ntys_of};
 ghost use Rattle.fc_model.specs.Says.{Says};
-ghost use Rattle.fc_types.specs.KindViews.{behind_group};
 ghost use Rattle.fc_types.specs.ModuleViews.{modules_of};
 ghost use Rattle.fc_type_scope.specs.Scopes.{IsScope, scope_in};
-ghost use Rattle.fc_type_table.specs.InScope.{AreNumbered, own_kinds};
-ghost use Rattle.fc_type_table.specs.TypeTables.{Grows, modules_in, nodes_of};
+ghost use Rattle.fc_type_table.specs.TypeTables.{Grows, modules_in};
 
 use crate::written::kind_of_part;
 use fc_model::{Flawed, deeper, flaw_here, next_part};
-use fc_syntax::{FaultKind, Memory, NBinder, NConDecl, NTy, Seq};
-use fc_type_scope::TypeScope;
-use fc_type_table::{NumberedKind, NumberedKinds, TypeTable};
+use fc_syntax::{FaultKind, NBinder, NConDecl, NTy, Seq};
+use fc_type_scope::{TypeScope, add_kind};
+use fc_type_table::{NumberedKinds, TypeTable};
 use fc_types::{Declarations, is_lifted};
 use std::alloc::Global;
 
@@ -30,11 +26,11 @@ fn both(first: bool, second: bool) -> bool
 /// A binder of a constructor: `UnliftedVariable` for a type variable of a kind with `#`. Whether its ends have one kind, where it is a
 /// coercion.
 #[tactic(auto, using(fc_syntax::proofs::View::view_rules, fc_type_table::proofs::Numbers::number_rules))]
-fn lint_con_binder<'a>(
+fn lint_con_binder(
     alloc: Global,
-    binder: &'a NBinder,
+    binder: &NBinder,
     declared: &Declarations,
-    types: &mut TypeTable<'a>,
+    types: &mut TypeTable,
     scope: &TypeScope<'_>,
 ) -> Result<bool, Flawed>
     requires scope { IsScope types.old scope.now }
@@ -62,11 +58,11 @@ fn lint_con_binder<'a>(
 }
 
 /// The same of the binder that is the part of this number.
-fn lint_con_binder_part<'a>(
+fn lint_con_binder_part(
     alloc: Global,
-    binder: &'a NBinder,
+    binder: &NBinder,
     declared: &Declarations,
-    types: &mut TypeTable<'a>,
+    types: &mut TypeTable,
     scope: &TypeScope<'_>,
     part: u32,
 ) -> Result<bool, Flawed>
@@ -83,34 +79,12 @@ fn lint_con_binder_part<'a>(
     }
 }
 
-/// Puts the kind of a binder of types behind the others.
-fn add_kind<'b, 'a>(
-    own: &mut Seq<NumberedKind<'b>>,
-    binder: &'b NBinder,
-    types: &mut TypeTable<'a>,
-) -> Result<(), Memory>
-    requires numbered { AreNumbered (nodes_of types.old) own.old }
-    ensures numbered { OnOk result (AreNumbered (nodes_of types.new) own.new) }
-    ensures kinds { OnOk result ((outer : List Kind) → behind_group (own_kinds own.new) outer ≡ kinds_behind (nbinder_of binder.now) (behind_group (own_kinds own.old) outer)) }
-    ensures grows { OnOk result (Grows types.old types.new) }
-{
-    match binder {
-        NBinder::Value(_, _) => Ok(()),
-        NBinder::OfType(_, kind) => {
-            let id = types.read_kind(kind)?;
-            own.push(NumberedKind { kind, id })?;
-            Ok(())
-        }
-        NBinder::OfCo(_, _, _, _) => Ok(()),
-    }
-}
-
 /// Fields, of which the first is the part of this number, behind fields that are all of the kinds of values; whether all are.
-fn lint_fields<'a>(
+fn lint_fields(
     alloc: Global,
-    fields: &'a [NTy],
+    fields: &[NTy],
     declared: &Declarations,
-    types: &mut TypeTable<'a>,
+    types: &mut TypeTable,
     scope: &TypeScope<'_>,
     first: u32,
 ) -> Result<bool, Flawed>
@@ -135,11 +109,11 @@ fn lint_fields<'a>(
 /// A constructor: its binders, each among the type variables before it, its fields among all, and then `KindsDiffer` where the ends of a
 /// coercion have two kinds; whether its fields are of the kinds of values.
 #[tactic(auto, unfolding(fc_type_scope::specs::Scopes::scope_in))]
-fn lint_constructor<'a>(
+fn lint_constructor(
     alloc: Global,
-    con: &'a NConDecl,
+    con: &NConDecl,
     declared: &Declarations,
-    types: &mut TypeTable<'a>,
+    types: &mut TypeTable,
     outer: &TypeScope<'_>,
 ) -> Result<bool, Flawed>
     requires scope { IsScope types.old outer.now }
@@ -171,11 +145,11 @@ fn lint_constructor<'a>(
 }
 
 /// The same of the constructor that is the part of this number.
-fn lint_constructor_part<'a>(
+fn lint_constructor_part(
     alloc: Global,
-    con: &'a NConDecl,
+    con: &NConDecl,
     declared: &Declarations,
-    types: &mut TypeTable<'a>,
+    types: &mut TypeTable,
     outer: &TypeScope<'_>,
     part: u32,
 ) -> Result<bool, Flawed>
@@ -193,11 +167,11 @@ fn lint_constructor_part<'a>(
 }
 
 /// The constructors of a data type, of which the first is the part of this number; whether all their fields are of the kinds of values.
-pub fn lint_constructors<'a>(
+pub fn lint_constructors(
     alloc: Global,
-    cons: &'a [NConDecl],
+    cons: &[NConDecl],
     declared: &Declarations,
-    types: &mut TypeTable<'a>,
+    types: &mut TypeTable,
     outer: &TypeScope<'_>,
     first: u32,
 ) -> Result<bool, Flawed>

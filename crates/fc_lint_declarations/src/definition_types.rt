@@ -34,11 +34,11 @@ fn definition_kind(alloc: Global, kind: TypeId, types: &TypeTable) -> Result<(),
 
 /// The type that a definition or a wrap is written with, which is its part 0.
 #[tactic(auto, unfolding(fc_type_scope::specs::Scopes::scope_in))]
-fn lint_type_of<'a>(
+fn lint_type_of(
     alloc: Global,
-    t: &'a NTy,
+    t: &NTy,
     declared: &Declarations,
-    types: &mut TypeTable<'a>,
+    types: &mut TypeTable,
 ) -> Result<(), Flawed>
     requires modules { modules_in types.old ≡ modules_of declared.now }
     ensures says { Says (λ _. done) result (and_then (under 0 (kind_or_fault (modules_of declared.now) [] (nty_of t.now))) (λ k. words.definition_kind k)) }
@@ -53,11 +53,11 @@ fn lint_type_of<'a>(
 }
 
 /// The type of a declaration that has one.
-fn lint_definition_type<'a>(
+fn lint_definition_type(
     alloc: Global,
-    decl: &'a NDecl,
+    decl: &NDecl,
     declared: &Declarations,
-    types: &mut TypeTable<'a>,
+    types: &mut TypeTable,
 ) -> Result<(), Flawed>
     requires modules { modules_in types.old ≡ modules_of declared.now }
     ensures says { Says (λ _. done) result (def_type_judged (modules_of declared.now) (ndecl_of decl.now)) }
@@ -76,11 +76,11 @@ fn lint_definition_type<'a>(
 
 /// The same, with the word of the declaration in a flaw.
 #[tactic(auto, using(fc_model::proofs::Declares::bare_decl_word))]
-fn lint_definition_type_within<'a>(
+fn lint_definition_type_within(
     alloc: Global,
-    decl: &'a NDecl,
+    decl: &NDecl,
     declared: &Declarations,
-    types: &mut TypeTable<'a>,
+    types: &mut TypeTable,
 ) -> Result<(), Flawed>
     requires modules { modules_in types.old ≡ modules_of declared.now }
     ensures says { Says (λ _. done) result (within (ndecl_word (ndecl_of decl.now)) (def_type_judged (modules_of declared.now) (ndecl_of decl.now))) }
@@ -94,11 +94,11 @@ fn lint_definition_type_within<'a>(
 }
 
 /// The types of the definitions of a module, in their order: `Unbound` in one, `UnliftedTop` and `NotAType`.
-pub fn lint_definition_types<'a>(
+pub fn lint_definition_types(
     alloc: Global,
-    decls: &'a [NDecl],
+    decls: &[NDecl],
     declared: &Declarations,
-    types: &mut TypeTable<'a>,
+    types: &mut TypeTable,
 ) -> Result<(), Flawed>
     requires modules { modules_in types.old ≡ modules_of declared.now }
     ensures says { Says (λ _. done) result (def_types_judged (modules_of declared.now) (ndecls_of decls.now)) }

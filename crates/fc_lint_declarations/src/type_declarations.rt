@@ -65,12 +65,12 @@ fn lint_newtype_roles(
 
 /// A data type: its parameters, its constructors, then `NotAType` where a field is of no kind of values, and then its roles.
 #[tactic(auto, using(crate::proofs::Params::scope_rules, fc_type_table::proofs::Numbers::number_rules), unfolding(fc_type_scope::specs::Scopes::scope_in))]
-fn lint_data<'a>(
+fn lint_data(
     alloc: Global,
-    params: &'a [Param],
-    cons: &'a [NConDecl],
+    params: &[Param],
+    cons: &[NConDecl],
     declared: &Declarations,
-    types: &mut TypeTable<'a>,
+    types: &mut TypeTable,
 ) -> Result<(), Flawed>
     requires modules { modules_in types.old ≡ modules_of declared.now }
     ensures says { Says (λ _. done) result (type_decl_judged (modules_of declared.now) (NData [] (nparams_of params.now) (ncons_of cons.now))) }
@@ -88,12 +88,12 @@ fn lint_data<'a>(
 
 /// A newtype: its parameters, its type, then `NotAType` where this is not of kind `*`, and then its roles.
 #[tactic(auto, using(crate::proofs::Params::scope_rules, fc_type_table::proofs::Numbers::number_rules), unfolding(fc_type_scope::specs::Scopes::scope_in))]
-fn lint_newtype<'a>(
+fn lint_newtype(
     alloc: Global,
-    params: &'a [Param],
-    t: &'a NTy,
+    params: &[Param],
+    t: &NTy,
     declared: &Declarations,
-    types: &mut TypeTable<'a>,
+    types: &mut TypeTable,
 ) -> Result<(), Flawed>
     requires modules { modules_in types.old ≡ modules_of declared.now }
     ensures says { Says (λ _. done) result (type_decl_judged (modules_of declared.now) (NNew [] (nparams_of params.now) (nty_of t.now) [])) }
@@ -112,11 +112,11 @@ fn lint_newtype<'a>(
 }
 
 /// A family: its parameters, and then `UnliftedVariable` where the kind of its result has `#`.
-fn lint_family<'a>(
+fn lint_family(
     alloc: Global,
-    params: &'a [Plain],
+    params: &[Plain],
     result_kind: &Kind,
-    types: &mut TypeTable<'a>,
+    types: &mut TypeTable,
 ) -> Result<(), Flawed>
     ensures says { Says (λ _. done) result (and_then (variables_judged 0 (nplains_of params.now)) (λ _. need (kinds.is_lifted (kind_of result_kind.now)) UnliftedVariable (Ok done))) }
     ensures grows { OnOk result (Grows types.old types.new) }
@@ -133,13 +133,13 @@ fn lint_family<'a>(
 /// An axiom: its parameters, its sides, then `FamilyArity` where the left side is no family that is applied in full, and then
 /// `KindsDiffer` where the sides have two kinds.
 #[tactic(auto, using(crate::proofs::Params::scope_rules, fc_type_table::proofs::Numbers::number_rules), unfolding(fc_type_scope::specs::Scopes::scope_in))]
-fn lint_axiom<'a>(
+fn lint_axiom(
     alloc: Global,
-    params: &'a [Plain],
-    left: &'a NTy,
-    right: &'a NTy,
+    params: &[Plain],
+    left: &NTy,
+    right: &NTy,
     declared: &Declarations,
-    types: &mut TypeTable<'a>,
+    types: &mut TypeTable,
 ) -> Result<(), Flawed>
     requires modules { modules_in types.old ≡ modules_of declared.now }
     ensures says { Says (λ _. done) result (type_decl_judged (modules_of declared.now) (NAxiom [] (nplains_of params.now) (nty_of left.now) (nty_of right.now))) }
@@ -165,11 +165,11 @@ fn lint_axiom<'a>(
 
 /// A type declaration.
 #[tactic(auto, using(fc_syntax::proofs::View::view_rules))]
-fn lint_type<'a>(
+fn lint_type(
     alloc: Global,
-    decl: &'a NDecl,
+    decl: &NDecl,
     declared: &Declarations,
-    types: &mut TypeTable<'a>,
+    types: &mut TypeTable,
 ) -> Result<(), Flawed>
     requires modules { modules_in types.old ≡ modules_of declared.now }
     ensures says { Says (λ _. done) result (type_decl_judged (modules_of declared.now) (ndecl_of decl.now)) }
@@ -198,11 +198,11 @@ fn lint_type<'a>(
 
 /// The same, with the word of the declaration in a flaw.
 #[tactic(auto, using(fc_model::proofs::Declares::bare_decl_word))]
-fn lint_type_within<'a>(
+fn lint_type_within(
     alloc: Global,
-    decl: &'a NDecl,
+    decl: &NDecl,
     declared: &Declarations,
-    types: &mut TypeTable<'a>,
+    types: &mut TypeTable,
 ) -> Result<(), Flawed>
     requires modules { modules_in types.old ≡ modules_of declared.now }
     ensures says { Says (λ _. done) result (within (ndecl_word (ndecl_of decl.now)) (type_decl_judged (modules_of declared.now) (ndecl_of decl.now))) }
@@ -217,11 +217,11 @@ fn lint_type_within<'a>(
 
 /// The type declarations of a module, in their order: the faults of kinds in a type, `UnliftedVariable`, `KindsDiffer`, `NotAType`,
 /// `RoleTooWeak` and `FamilyArity`, each declaration's parts from left to right before its own premises.
-pub fn lint_types<'a>(
+pub fn lint_types(
     alloc: Global,
-    decls: &'a [NDecl],
+    decls: &[NDecl],
     declared: &Declarations,
-    types: &mut TypeTable<'a>,
+    types: &mut TypeTable,
 ) -> Result<(), Flawed>
     requires modules { modules_in types.old ≡ modules_of declared.now }
     ensures says { Says (λ _. done) result (type_decls_judged (modules_of declared.now) (ndecls_of decls.now)) }

@@ -16,11 +16,11 @@ use fc_types::Declarations;
 use std::alloc::Global;
 
 /// The kind of the type that is the part of this number, or the first premise of its kind that fails.
-pub(crate) fn kind_of_part<'a>(
+pub(crate) fn kind_of_part(
     alloc: Global,
-    t: &'a NTy,
+    t: &NTy,
     declared: &Declarations,
-    types: &mut TypeTable<'a>,
+    types: &mut TypeTable,
     scope: &TypeScope<'_>,
     part: u32,
 ) -> Result<TypeId, Flawed>

@@ -22,11 +22,11 @@ use std::alloc::Global;
 
 /// What is given as an argument.
 #[cycle(lint)]
-pub(crate) fn argument<'x, 'd, 'a>(
+pub(crate) fn argument(
     alloc: Global,
-    arg: &'a NArg,
-    types: &mut TypeTable<'a>,
-    context: &'x Context<'x, 'd, 'a>,
+    arg: &NArg,
+    types: &mut TypeTable,
+    context: &Context,
 ) -> Result<Given, Flawed>
     requires context { IsContext types.old context.now }
     requires modules { modules_in types.old ≡ modules_of_context context.now }
@@ -53,11 +53,11 @@ pub(crate) fn argument<'x, 'd, 'a>(
 
 /// The same of the argument that is the part of this number.
 #[cycle(lint)]
-pub(crate) fn argument_of_part<'x, 'd, 'a>(
+pub(crate) fn argument_of_part(
     alloc: Global,
-    arg: &'a NArg,
-    types: &mut TypeTable<'a>,
-    context: &'x Context<'x, 'd, 'a>,
+    arg: &NArg,
+    types: &mut TypeTable,
+    context: &Context,
     part: u32,
 ) -> Result<Given, Flawed>
     requires context { IsContext types.old context.now }
@@ -75,11 +75,11 @@ pub(crate) fn argument_of_part<'x, 'd, 'a>(
 
 /// What is given as arguments, in their order.
 #[cycle(lint)]
-pub(crate) fn arguments<'x, 'd, 'a>(
+pub(crate) fn arguments(
     alloc: Global,
-    args: &'a [NArg],
-    types: &mut TypeTable<'a>,
-    context: &'x Context<'x, 'd, 'a>,
+    args: &[NArg],
+    types: &mut TypeTable,
+    context: &Context,
 ) -> Result<Seq<Given>, Flawed>
     requires context { IsContext types.old context.now }
     requires modules { modules_in types.old ≡ modules_of_context context.now }
@@ -100,11 +100,11 @@ pub(crate) fn arguments<'x, 'd, 'a>(
 
 /// What is given as the operand that is the part of this number.
 #[cycle(lint)]
-pub(crate) fn operand_of_part<'x, 'd, 'a>(
+pub(crate) fn operand_of_part(
     alloc: Global,
-    e: &'a NExpr,
-    types: &mut TypeTable<'a>,
-    context: &'x Context<'x, 'd, 'a>,
+    e: &NExpr,
+    types: &mut TypeTable,
+    context: &Context,
     part: u32,
 ) -> Result<Given, Flawed>
     requires context { IsContext types.old context.now }
@@ -122,11 +122,11 @@ pub(crate) fn operand_of_part<'x, 'd, 'a>(
 
 /// What is given to a primitive, in their order.
 #[cycle(lint)]
-pub(crate) fn operands<'x, 'd, 'a>(
+pub(crate) fn operands(
     alloc: Global,
-    operands: &'a [NExpr],
-    types: &mut TypeTable<'a>,
-    context: &'x Context<'x, 'd, 'a>,
+    operands: &[NExpr],
+    types: &mut TypeTable,
+    context: &Context,
 ) -> Result<Seq<Given>, Flawed>
     requires context { IsContext types.old context.now }
     requires modules { modules_in types.old ≡ modules_of_context context.now }

@@ -24,13 +24,13 @@ use std::alloc::Global;
 
 /// The type of the part of this number behind binders that were entered here.
 #[cycle(lint)]
-pub(crate) fn type_behind<'x, 'd, 'a>(
+pub(crate) fn type_behind(
     alloc: Global,
-    body: &'a NExpr,
-    binders: &'a [NBinder],
-    entered: &'x Entered<'a>,
-    types: &mut TypeTable<'a>,
-    context: &'x Context<'x, 'd, 'a>,
+    body: &NExpr,
+    binders: &[NBinder],
+    entered: &Entered,
+    types: &mut TypeTable,
+    context: &Context,
     part: u32,
 ) -> Result<TypeId, Flawed>
     requires context { IsContext types.old context.now }
@@ -42,21 +42,21 @@ pub(crate) fn type_behind<'x, 'd, 'a>(
     ensures context { OnOk result (IsContext types.new context.now) }
     ensures entered_in { OnOk result (IsEntered (nodes_of types.new) (scope_in context.now.scope) (nbinders_of binders.now) entered.now) }
 {
-    let kinds = entered.kinds_behind(context.scope.kinds);
+    let kinds = (&*entered).kinds_behind(&*context.scope.kinds);
     let inner = (&*context).behind_binders(&*entered, &kinds);
     type_of_part(alloc, body, types, &inner, part)
 }
 
 /// The type of what stands below a lambda over a binder that was entered here, which is its part 1, and what was still asked of the binder.
 #[cycle(lint)]
-pub(crate) fn type_below<'x, 'd, 'a>(
+pub(crate) fn type_below(
     alloc: Global,
-    body: &'a NExpr,
-    binder: &'a NBinder,
-    entered: &'x Entered<'a>,
+    body: &NExpr,
+    binder: &NBinder,
+    entered: &Entered,
     owed: Option<FaultKind>,
-    types: &mut TypeTable<'a>,
-    context: &'x Context<'x, 'd, 'a>,
+    types: &mut TypeTable,
+    context: &Context,
 ) -> Result<TypeId, Flawed>
     requires context { IsContext types.old context.now }
     requires modules { modules_in types.old ≡ modules_of_context context.now }
@@ -67,7 +67,7 @@ pub(crate) fn type_below<'x, 'd, 'a>(
     ensures context { OnOk result (IsContext types.new context.now) }
     ensures entered_in { OnOk result (IsEntered (nodes_of types.new) (scope_in context.now.scope) (nbinder_of binder.now ∷ []) entered.now) }
 {
-    let kinds = entered.kinds_behind(context.scope.kinds);
+    let kinds = (&*entered).kinds_behind(&*context.scope.kinds);
     let inner = (&*context).behind_binders(&*entered, &kinds);
     let ty = type_of_part(alloc, body, types, &inner, 1)?;
     pays(alloc, owed)?;
@@ -77,11 +77,11 @@ pub(crate) fn type_below<'x, 'd, 'a>(
 
 /// What is asked of the binder of a lambda, its part 0, and what is asked of it behind its body.
 #[tactic(auto, using(crate::proofs::Judging::judging_rules))]
-fn binder_of_lambda<'x, 'd, 'a>(
+fn binder_of_lambda(
     alloc: Global,
-    binder: &'a NBinder,
-    types: &mut TypeTable<'a>,
-    context: &'x Context<'x, 'd, 'a>,
+    binder: &NBinder,
+    types: &mut TypeTable,
+    context: &Context,
 ) -> Result<Option<FaultKind>, Flawed>
     requires context { IsContext types.old context.now }
     requires modules { modules_in types.old ≡ modules_of_context context.now }
@@ -97,12 +97,12 @@ fn binder_of_lambda<'x, 'd, 'a>(
 
 /// The type of a lambda.
 #[cycle(lint)]
-pub(crate) fn type_of_lambda<'x, 'd, 'a>(
+pub(crate) fn type_of_lambda(
     alloc: Global,
-    body: &'a NExpr,
-    binder: &'a NBinder,
-    types: &mut TypeTable<'a>,
-    context: &'x Context<'x, 'd, 'a>,
+    body: &NExpr,
+    binder: &NBinder,
+    types: &mut TypeTable,
+    context: &Context,
 ) -> Result<TypeId, Flawed>
     requires context { IsContext types.old context.now }
     requires modules { modules_in types.old ≡ modules_of_context context.now }

@@ -34,15 +34,15 @@ pub(crate) struct Expected {
 /// the scrutinee's type: `AltOrder` for the default, `LitAlt` and `AltOrder` for a literal, `AltConstructor`, `AltOrder` and `ConArity` for a
 /// constructor. What stands before the next alternative.
 #[tactic(auto, using(crate::proofs::Judging::judging_rules))]
-fn head_goes<'x, 'd, 'a>(
+fn head_goes(
     alloc: Global,
-    head: &'a Head,
-    binders: &'a [NBinder],
+    head: &Head,
+    binders: &[NBinder],
     over: TypeId,
     scrutinee: TypeId,
     before: Before,
-    types: &mut TypeTable<'a>,
-    context: &'x Context<'x, 'd, 'a>,
+    types: &mut TypeTable,
+    context: &Context,
 ) -> Result<Before, Flawed>
     requires context { IsContext types.old context.now }
     requires modules { modules_in types.old ≡ modules_of_context context.now }
@@ -75,13 +75,13 @@ fn head_goes<'x, 'd, 'a>(
 
 /// Whether an alternative fits its case; what stands before the next one.
 #[cycle(lint)]
-pub(crate) fn alternative_fits<'x, 'd, 'a>(
+pub(crate) fn alternative_fits(
     alloc: Global,
-    alternative: &'a NAlt,
+    alternative: &NAlt,
     wanted: Expected,
     before: Before,
-    types: &mut TypeTable<'a>,
-    context: &'x Context<'x, 'd, 'a>,
+    types: &mut TypeTable,
+    context: &Context,
 ) -> Result<Before, Flawed>
     requires context { IsContext types.old context.now }
     requires modules { modules_in types.old ≡ modules_of_context context.now }
@@ -129,13 +129,13 @@ pub(crate) fn alternative_fits<'x, 'd, 'a>(
 
 /// The same of the alternative that is the part of this number of its case.
 #[cycle(lint)]
-pub(crate) fn alternative_part_fits<'x, 'd, 'a>(
+pub(crate) fn alternative_part_fits(
     alloc: Global,
-    alternative: &'a NAlt,
+    alternative: &NAlt,
     wanted: Expected,
     before: Before,
-    types: &mut TypeTable<'a>,
-    context: &'x Context<'x, 'd, 'a>,
+    types: &mut TypeTable,
+    context: &Context,
     number: u32,
 ) -> Result<Before, Flawed>
     requires context { IsContext types.old context.now }
@@ -154,12 +154,12 @@ pub(crate) fn alternative_part_fits<'x, 'd, 'a>(
 
 /// Whether the alternatives fit a case in whose scope they stand; what stands behind the last one.
 #[cycle(lint)]
-pub(crate) fn each_alternative_fits<'x, 'd, 'a>(
+pub(crate) fn each_alternative_fits(
     alloc: Global,
-    alternatives: &'a [NAlt],
+    alternatives: &[NAlt],
     wanted: Expected,
-    types: &mut TypeTable<'a>,
-    context: &'x Context<'x, 'd, 'a>,
+    types: &mut TypeTable,
+    context: &Context,
 ) -> Result<Before, Flawed>
     requires context { IsContext types.old context.now }
     requires modules { modules_in types.old ≡ modules_of_context context.now }
@@ -180,13 +180,13 @@ pub(crate) fn each_alternative_fits<'x, 'd, 'a>(
 
 /// The same of a case whose binder is of this type.
 #[cycle(lint)]
-pub(crate) fn alternatives_fit<'x, 'd, 'a>(
+pub(crate) fn alternatives_fit(
     alloc: Global,
-    alternatives: &'a [NAlt],
+    alternatives: &[NAlt],
     of: TypeId,
     wanted: Expected,
-    types: &mut TypeTable<'a>,
-    context: &'x Context<'x, 'd, 'a>,
+    types: &mut TypeTable,
+    context: &Context,
 ) -> Result<Before, Flawed>
     requires context { IsContext types.old context.now }
     requires modules { modules_in types.old ≡ modules_of_context context.now }
@@ -203,14 +203,14 @@ pub(crate) fn alternatives_fit<'x, 'd, 'a>(
 
 /// The type of a case whose scrutinee is of this type.
 #[cycle(lint)]
-pub(crate) fn type_of_case<'x, 'd, 'a>(
+pub(crate) fn type_of_case(
     alloc: Global,
-    alternatives: &'a [NAlt],
-    of: &'a NTy,
-    answer: &'a NTy,
+    alternatives: &[NAlt],
+    of: &NTy,
+    answer: &NTy,
     found: TypeId,
-    types: &mut TypeTable<'a>,
-    context: &'x Context<'x, 'd, 'a>,
+    types: &mut TypeTable,
+    context: &Context,
 ) -> Result<TypeId, Flawed>
     requires context { IsContext types.old context.now }
     requires modules { modules_in types.old ≡ modules_of_context context.now }

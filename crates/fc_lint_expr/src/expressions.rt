@@ -30,11 +30,11 @@ use std::alloc::Global;
 
 /// The type of the part of this number.
 #[cycle(lint)]
-pub(crate) fn type_of_part<'x, 'd, 'a>(
+pub(crate) fn type_of_part(
     alloc: Global,
-    e: &'a NExpr,
-    types: &mut TypeTable<'a>,
-    context: &'x Context<'x, 'd, 'a>,
+    e: &NExpr,
+    types: &mut TypeTable,
+    context: &Context,
     part: u32,
 ) -> Result<TypeId, Flawed>
     requires context { IsContext types.old context.now }
@@ -52,11 +52,11 @@ pub(crate) fn type_of_part<'x, 'd, 'a>(
 
 /// The type of the first part, which is not in tail reach.
 #[cycle(lint)]
-fn type_of_first<'x, 'd, 'a>(
+fn type_of_first(
     alloc: Global,
-    e: &'a NExpr,
-    types: &mut TypeTable<'a>,
-    context: &'x Context<'x, 'd, 'a>,
+    e: &NExpr,
+    types: &mut TypeTable,
+    context: &Context,
 ) -> Result<TypeId, Flawed>
     requires context { IsContext types.old context.now }
     requires modules { modules_in types.old ≡ modules_of_context context.now }
@@ -71,12 +71,12 @@ fn type_of_first<'x, 'd, 'a>(
 
 /// The type of an application whose head is of this type.
 #[cycle(lint)]
-fn type_of_applied<'x, 'd, 'a>(
+fn type_of_applied(
     alloc: Global,
-    arg: &'a NArg,
+    arg: &NArg,
     head: TypeId,
-    types: &mut TypeTable<'a>,
-    context: &'x Context<'x, 'd, 'a>,
+    types: &mut TypeTable,
+    context: &Context,
 ) -> Result<TypeId, Flawed>
     requires context { IsContext types.old context.now }
     requires modules { modules_in types.old ≡ modules_of_context context.now }
@@ -93,12 +93,12 @@ fn type_of_applied<'x, 'd, 'a>(
 
 /// The type of a constructor with its arguments.
 #[cycle(lint)]
-fn type_of_constructor<'x, 'd, 'a>(
+fn type_of_constructor(
     alloc: Global,
-    name: &'a Name,
-    args: &'a [NArg],
-    types: &mut TypeTable<'a>,
-    context: &'x Context<'x, 'd, 'a>,
+    name: &Name,
+    args: &[NArg],
+    types: &mut TypeTable,
+    context: &Context,
 ) -> Result<TypeId, Flawed>
     requires context { IsContext types.old context.now }
     requires modules { modules_in types.old ≡ modules_of_context context.now }
@@ -128,12 +128,12 @@ fn type_of_constructor<'x, 'd, 'a>(
 
 /// The type of a primitive with its operands.
 #[cycle(lint)]
-fn type_of_primitive<'x, 'd, 'a>(
+fn type_of_primitive(
     alloc: Global,
     op: PrimOp,
-    args: &'a [NExpr],
-    types: &mut TypeTable<'a>,
-    context: &'x Context<'x, 'd, 'a>,
+    args: &[NExpr],
+    types: &mut TypeTable,
+    context: &Context,
 ) -> Result<TypeId, Flawed>
     requires context { IsContext types.old context.now }
     requires modules { modules_in types.old ≡ modules_of_context context.now }
@@ -149,12 +149,12 @@ fn type_of_primitive<'x, 'd, 'a>(
 
 /// The type of a jump to the join point at a distance.
 #[cycle(lint)]
-fn type_of_jump<'x, 'd, 'a>(
+fn type_of_jump(
     alloc: Global,
     distance: u32,
-    args: &'a [NArg],
-    types: &mut TypeTable<'a>,
-    context: &'x Context<'x, 'd, 'a>,
+    args: &[NArg],
+    types: &mut TypeTable,
+    context: &Context,
 ) -> Result<TypeId, Flawed>
     requires context { IsContext types.old context.now }
     requires modules { modules_in types.old ≡ modules_of_context context.now }
@@ -184,12 +184,12 @@ fn type_of_jump<'x, 'd, 'a>(
 
 /// The type of a cast of what is of this type, by the coercion that is the part 1.
 #[tactic(auto, using(crate::proofs::Judging::judging_rules))]
-fn type_of_cast<'x, 'd, 'a>(
+fn type_of_cast(
     alloc: Global,
-    g: &'a NCo,
+    g: &NCo,
     found: TypeId,
-    types: &mut TypeTable<'a>,
-    context: &'x Context<'x, 'd, 'a>,
+    types: &mut TypeTable,
+    context: &Context,
 ) -> Result<TypeId, Flawed>
     requires context { IsContext types.old context.now }
     requires modules { modules_in types.old ≡ modules_of_context context.now }
@@ -205,11 +205,11 @@ fn type_of_cast<'x, 'd, 'a>(
 
 /// The type of an error.
 #[tactic(auto, using(crate::proofs::Judging::judging_rules))]
-fn type_of_fail<'x, 'd, 'a>(
+fn type_of_fail(
     alloc: Global,
-    t: &'a NTy,
-    types: &mut TypeTable<'a>,
-    context: &'x Context<'x, 'd, 'a>,
+    t: &NTy,
+    types: &mut TypeTable,
+    context: &Context,
 ) -> Result<TypeId, Flawed>
     requires context { IsContext types.old context.now }
     requires modules { modules_in types.old ≡ modules_of_context context.now }
@@ -225,11 +225,11 @@ fn type_of_fail<'x, 'd, 'a>(
 
 /// The type of an expression in a context, or the first premise that fails, as `lint` tells it.
 #[cycle(lint)]
-pub fn judge<'x, 'd, 'a>(
+pub fn judge(
     alloc: Global,
-    e: &'a NExpr,
-    types: &mut TypeTable<'a>,
-    context: &'x Context<'x, 'd, 'a>,
+    e: &NExpr,
+    types: &mut TypeTable,
+    context: &Context,
 ) -> Result<TypeId, Flawed>
     requires context { IsContext types.old context.now }
     requires modules { modules_in types.old ≡ modules_of_context context.now }
@@ -294,11 +294,11 @@ pub fn judge<'x, 'd, 'a>(
 /// error `NotAType`; for a join point `NotAType` and `KindsDiffer`, `EscapingType` and `LetType`; for a join `LetType` and `NotAType`; for a jump
 /// `JumpNotTail`, `JumpArity`, `KindMismatch`, `ArgType` and `UnliftedNotAtom`; in these orders.
 #[tactic(auto, using(crate::proofs::Judging::judging_rules))]
-pub fn lint<'x, 'd, 'a>(
+pub fn lint(
     alloc: Global,
-    e: &'a NExpr,
-    types: &mut TypeTable<'a>,
-    declared: &'x DeclaredTypes<'d, 'a>,
+    e: &NExpr,
+    types: &mut TypeTable,
+    declared: &DeclaredTypes,
 ) -> Result<TypeId, Flawed>
     requires read { AreRead (nodes_of types.old) declared.now }
     requires modules { modules_in types.old ≡ modules_read declared.now }
@@ -314,12 +314,12 @@ pub fn lint<'x, 'd, 'a>(
 
 /// Whether a closed expression is of a type, or the first premise that fails, as `lint` tells it.
 #[tactic(auto, using(crate::proofs::Judging::judging_rules))]
-pub fn has_type<'x, 'd, 'a>(
+pub fn has_type(
     alloc: Global,
-    e: &'a NExpr,
-    t: &'a NTy,
-    types: &mut TypeTable<'a>,
-    declared: &'x DeclaredTypes<'d, 'a>,
+    e: &NExpr,
+    t: &NTy,
+    types: &mut TypeTable,
+    declared: &DeclaredTypes,
 ) -> Result<bool, Flawed>
     requires read { AreRead (nodes_of types.old) declared.now }
     requires modules { modules_in types.old ≡ modules_read declared.now }

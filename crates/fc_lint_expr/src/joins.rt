@@ -24,12 +24,12 @@ use std::alloc::Global;
 
 /// Whether the right side of a join point is of the type of its join.
 #[cycle(lint)]
-pub(crate) fn join_fits<'x, 'd, 'a>(
+pub(crate) fn join_fits(
     alloc: Global,
-    bind: &'a NJoinBind,
+    bind: &NJoinBind,
     answer: TypeId,
-    types: &mut TypeTable<'a>,
-    context: &'x Context<'x, 'd, 'a>,
+    types: &mut TypeTable,
+    context: &Context,
 ) -> Result<(), Flawed>
     requires context { IsContext types.old context.now }
     requires modules { modules_in types.old ≡ modules_of_context context.now }
@@ -56,12 +56,12 @@ pub(crate) fn join_fits<'x, 'd, 'a>(
 
 /// The same of the join point that is the part of this number of its join.
 #[cycle(lint)]
-pub(crate) fn join_part_fits<'x, 'd, 'a>(
+pub(crate) fn join_part_fits(
     alloc: Global,
-    bind: &'a NJoinBind,
+    bind: &NJoinBind,
     answer: TypeId,
-    types: &mut TypeTable<'a>,
-    context: &'x Context<'x, 'd, 'a>,
+    types: &mut TypeTable,
+    context: &Context,
     part: u32,
 ) -> Result<(), Flawed>
     requires context { IsContext types.old context.now }
@@ -79,12 +79,12 @@ pub(crate) fn join_part_fits<'x, 'd, 'a>(
 
 /// Whether the right sides of join points are of the type of the join in the scope of the right sides; the number of the part behind them.
 #[cycle(lint)]
-pub(crate) fn each_join_fits<'x, 'd, 'a>(
+pub(crate) fn each_join_fits(
     alloc: Global,
-    binds: &'a [NJoinBind],
+    binds: &[NJoinBind],
     answer: TypeId,
-    types: &mut TypeTable<'a>,
-    context: &'x Context<'x, 'd, 'a>,
+    types: &mut TypeTable,
+    context: &Context,
 ) -> Result<u32, Flawed>
     requires context { IsContext types.old context.now }
     requires modules { modules_in types.old ≡ modules_of_context context.now }
@@ -103,14 +103,14 @@ pub(crate) fn each_join_fits<'x, 'd, 'a>(
 
 /// The same in the scope of the join: its right sides see the join points where it is recursive.
 #[cycle(lint)]
-pub(crate) fn joins_fit<'x, 'd, 'a>(
+pub(crate) fn joins_fit(
     alloc: Global,
-    binds: &'a [NJoinBind],
-    points: &'x [JoinPoint],
+    binds: &[NJoinBind],
+    points: &[JoinPoint],
     answer: TypeId,
     recursive: bool,
-    types: &mut TypeTable<'a>,
-    context: &'x Context<'x, 'd, 'a>,
+    types: &mut TypeTable,
+    context: &Context,
 ) -> Result<u32, Flawed>
     requires context { IsContext types.old context.now }
     requires modules { modules_in types.old ≡ modules_of_context context.now }
@@ -131,14 +131,14 @@ pub(crate) fn joins_fit<'x, 'd, 'a>(
 
 /// The type of the body behind join points, which is the part of this number.
 #[cycle(lint)]
-pub(crate) fn type_behind_joins<'x, 'd, 'a>(
+pub(crate) fn type_behind_joins(
     alloc: Global,
-    body: &'a NExpr,
-    binds: &'a [NJoinBind],
-    points: &'x [JoinPoint],
+    body: &NExpr,
+    binds: &[NJoinBind],
+    points: &[JoinPoint],
     answer: TypeId,
-    types: &mut TypeTable<'a>,
-    context: &'x Context<'x, 'd, 'a>,
+    types: &mut TypeTable,
+    context: &Context,
     part: u32,
 ) -> Result<TypeId, Flawed>
     requires context { IsContext types.old context.now }
@@ -157,14 +157,14 @@ pub(crate) fn type_behind_joins<'x, 'd, 'a>(
 
 /// The type of a join, of a recursive one or not.
 #[cycle(lint)]
-pub(crate) fn type_of_join<'x, 'd, 'a>(
+pub(crate) fn type_of_join(
     alloc: Global,
-    body: &'a NExpr,
-    binds: &'a [NJoinBind],
-    t: &'a NTy,
+    body: &NExpr,
+    binds: &[NJoinBind],
+    t: &NTy,
     recursive: bool,
-    types: &mut TypeTable<'a>,
-    context: &'x Context<'x, 'd, 'a>,
+    types: &mut TypeTable,
+    context: &Context,
 ) -> Result<TypeId, Flawed>
     requires context { IsContext types.old context.now }
     requires modules { modules_in types.old ≡ modules_of_context context.now }

@@ -22,12 +22,12 @@ use std::alloc::Global;
 
 /// Whether a bind of a let, of a recursive one or not, has its type.
 #[cycle(lint)]
-pub(crate) fn bind_fits<'x, 'd, 'a>(
+pub(crate) fn bind_fits(
     alloc: Global,
-    bind: &'a NBind,
+    bind: &NBind,
     recursive: bool,
-    types: &mut TypeTable<'a>,
-    context: &'x Context<'x, 'd, 'a>,
+    types: &mut TypeTable,
+    context: &Context,
 ) -> Result<(), Flawed>
     requires context { IsContext types.old context.now }
     requires modules { modules_in types.old ≡ modules_of_context context.now }
@@ -44,12 +44,12 @@ pub(crate) fn bind_fits<'x, 'd, 'a>(
 
 /// The same of the bind that is the part of this number of its let.
 #[cycle(lint)]
-pub(crate) fn bind_part_fits<'x, 'd, 'a>(
+pub(crate) fn bind_part_fits(
     alloc: Global,
-    bind: &'a NBind,
+    bind: &NBind,
     recursive: bool,
-    types: &mut TypeTable<'a>,
-    context: &'x Context<'x, 'd, 'a>,
+    types: &mut TypeTable,
+    context: &Context,
     part: u32,
 ) -> Result<(), Flawed>
     requires context { IsContext types.old context.now }
@@ -66,12 +66,12 @@ pub(crate) fn bind_part_fits<'x, 'd, 'a>(
 
 /// Whether the binds of a let have their types in the scope of their right sides; the number of the part behind them.
 #[cycle(lint)]
-pub(crate) fn each_bind_fits<'x, 'd, 'a>(
+pub(crate) fn each_bind_fits(
     alloc: Global,
-    binds: &'a [NBind],
+    binds: &[NBind],
     recursive: bool,
-    types: &mut TypeTable<'a>,
-    context: &'x Context<'x, 'd, 'a>,
+    types: &mut TypeTable,
+    context: &Context,
 ) -> Result<u32, Flawed>
     requires context { IsContext types.old context.now }
     requires modules { modules_in types.old ≡ modules_of_context context.now }
@@ -89,13 +89,13 @@ pub(crate) fn each_bind_fits<'x, 'd, 'a>(
 
 /// The same in the scope of the let: its right sides see the binds where it is recursive, and no join point.
 #[cycle(lint)]
-pub(crate) fn binds_fit<'x, 'd, 'a>(
+pub(crate) fn binds_fit(
     alloc: Global,
-    binds: &'a [NBind],
-    ids: &'x [TypeId],
+    binds: &[NBind],
+    ids: &[TypeId],
     recursive: bool,
-    types: &mut TypeTable<'a>,
-    context: &'x Context<'x, 'd, 'a>,
+    types: &mut TypeTable,
+    context: &Context,
 ) -> Result<u32, Flawed>
     requires context { IsContext types.old context.now }
     requires modules { modules_in types.old ≡ modules_of_context context.now }
@@ -117,13 +117,13 @@ pub(crate) fn binds_fit<'x, 'd, 'a>(
 
 /// The type of the body behind binds of these types, which is the part of this number.
 #[cycle(lint)]
-pub(crate) fn type_behind_binds<'x, 'd, 'a>(
+pub(crate) fn type_behind_binds(
     alloc: Global,
-    body: &'a NExpr,
-    binds: &'a [NBind],
-    ids: &'x [TypeId],
-    types: &mut TypeTable<'a>,
-    context: &'x Context<'x, 'd, 'a>,
+    body: &NExpr,
+    binds: &[NBind],
+    ids: &[TypeId],
+    types: &mut TypeTable,
+    context: &Context,
     part: u32,
 ) -> Result<TypeId, Flawed>
     requires context { IsContext types.old context.now }
@@ -141,13 +141,13 @@ pub(crate) fn type_behind_binds<'x, 'd, 'a>(
 
 /// The type of a let.
 #[cycle(lint)]
-pub(crate) fn type_of_let<'x, 'd, 'a>(
+pub(crate) fn type_of_let(
     alloc: Global,
-    body: &'a NExpr,
-    binds: &'a [NBind],
+    body: &NExpr,
+    binds: &[NBind],
     recursive: bool,
-    types: &mut TypeTable<'a>,
-    context: &'x Context<'x, 'd, 'a>,
+    types: &mut TypeTable,
+    context: &Context,
 ) -> Result<TypeId, Flawed>
     requires context { IsContext types.old context.now }
     requires modules { modules_in types.old ≡ modules_of_context context.now }

@@ -18,11 +18,11 @@ use fc_type_table::TypeTable;
 use std::alloc::Global;
 
 /// A type with its kind, or the first premise of its kind that fails.
-pub(crate) fn kinded<'x, 'd, 'a>(
+pub(crate) fn kinded(
     alloc: Global,
-    t: &'a NTy,
-    types: &mut TypeTable<'a>,
-    context: &'x Context<'x, 'd, 'a>,
+    t: &NTy,
+    types: &mut TypeTable,
+    context: &Context,
 ) -> Result<Kinded, Flawed>
     requires context { IsContext types.old context.now }
     requires modules { modules_in types.old ≡ modules_of_context context.now }
@@ -37,11 +37,11 @@ pub(crate) fn kinded<'x, 'd, 'a>(
 }
 
 /// The same of the part of this number.
-pub(crate) fn kinded_part<'x, 'd, 'a>(
+pub(crate) fn kinded_part(
     alloc: Global,
-    t: &'a NTy,
-    types: &mut TypeTable<'a>,
-    context: &'x Context<'x, 'd, 'a>,
+    t: &NTy,
+    types: &mut TypeTable,
+    context: &Context,
     part: u32,
 ) -> Result<Kinded, Flawed>
     requires context { IsContext types.old context.now }
@@ -69,11 +69,11 @@ pub(crate) struct Judged<'a> {
 }
 
 /// The premises of binders, and what they bind.
-pub(crate) fn judged_binders<'x, 'd, 'a>(
+pub(crate) fn judged_binders<'a>(
     alloc: Global,
     binders: &'a [NBinder],
-    types: &mut TypeTable<'a>,
-    context: &'x Context<'x, 'd, 'a>,
+    types: &mut TypeTable,
+    context: &Context,
 ) -> Result<Judged<'a>, Flawed>
     requires context { IsContext types.old context.now }
     requires modules { modules_in types.old ≡ modules_of_context context.now }

@@ -17,12 +17,12 @@ use std::alloc::Global;
 
 /// The right side of a definition of this type.
 #[tactic(auto, using(crate::proofs::RightSides::right_rules))]
-fn lint_right_side<'d, 'a>(
+fn lint_right_side(
     alloc: Global,
-    t: &'a NTy,
-    e: &'a NExpr,
-    types: &mut TypeTable<'a>,
-    declared: &DeclaredTypes<'d, 'a>,
+    t: &NTy,
+    e: &NExpr,
+    types: &mut TypeTable,
+    declared: &DeclaredTypes,
 ) -> Result<(), Flawed>
     requires read { AreRead (nodes_of types.old) declared.now }
     requires modules { modules_in types.old ≡ modules_read declared.now }
@@ -38,11 +38,11 @@ fn lint_right_side<'d, 'a>(
 }
 
 /// The right side of a declaration that has one.
-fn lint_right<'d, 'a>(
+fn lint_right(
     alloc: Global,
-    decl: &'a NDecl,
-    types: &mut TypeTable<'a>,
-    declared: &DeclaredTypes<'d, 'a>,
+    decl: &NDecl,
+    types: &mut TypeTable,
+    declared: &DeclaredTypes,
 ) -> Result<(), Flawed>
     requires read { AreRead (nodes_of types.old) declared.now }
     requires modules { modules_in types.old ≡ modules_read declared.now }
@@ -62,11 +62,11 @@ fn lint_right<'d, 'a>(
 
 /// The same, with the word of the declaration in a flaw.
 #[tactic(auto, using(fc_model::proofs::Declares::bare_decl_word))]
-fn lint_right_within<'d, 'a>(
+fn lint_right_within(
     alloc: Global,
-    decl: &'a NDecl,
-    types: &mut TypeTable<'a>,
-    declared: &DeclaredTypes<'d, 'a>,
+    decl: &NDecl,
+    types: &mut TypeTable,
+    declared: &DeclaredTypes,
 ) -> Result<(), Flawed>
     requires read { AreRead (nodes_of types.old) declared.now }
     requires modules { modules_in types.old ≡ modules_read declared.now }
@@ -81,11 +81,11 @@ fn lint_right_within<'d, 'a>(
 }
 
 /// The right sides of the definitions of a module, in their order: the faults of `lint` there, and `DefType`.
-pub fn lint_rights<'d, 'a>(
+pub fn lint_rights(
     alloc: Global,
-    decls: &'a [NDecl],
-    types: &mut TypeTable<'a>,
-    declared: &DeclaredTypes<'d, 'a>,
+    decls: &[NDecl],
+    types: &mut TypeTable,
+    declared: &DeclaredTypes,
 ) -> Result<(), Flawed>
     requires read { AreRead (nodes_of types.old) declared.now }
     requires modules { modules_in types.old ≡ modules_read declared.now }

@@ -161,11 +161,11 @@ fn lint_names(alloc: Global, m: &Module, naming: Naming) -> Result<Naming, Flawe
 }
 
 /// The declarations of a module of a set: the type declarations, then the types of the definitions, and then their right sides.
-fn lint_declarations<'d, 'a>(
+fn lint_declarations(
     alloc: Global,
-    form: &'a NModule,
-    types: &mut TypeTable<'a>,
-    declared: &DeclaredTypes<'d, 'a>,
+    form: &NModule,
+    types: &mut TypeTable,
+    declared: &DeclaredTypes,
 ) -> Result<(), Flawed>
     requires read { AreRead (nodes_of types.old) declared.now }
     requires modules { modules_in types.old ≡ modules_read declared.now }
@@ -181,13 +181,13 @@ fn lint_declarations<'d, 'a>(
 
 /// A module of a set behind its own names: exported and hidden words, then names of imports, then declarations. What is known of names of
 /// imports is handed back.
-fn lint_form<'d, 'a>(
+fn lint_form(
     alloc: Global,
     m: &Module,
-    form: &'a NModule,
+    form: &NModule,
     naming: Naming,
-    types: &mut TypeTable<'a>,
-    declared: &DeclaredTypes<'d, 'a>,
+    types: &mut TypeTable,
+    declared: &DeclaredTypes,
 ) -> Result<Naming, Flawed>
     requires read { AreRead (nodes_of types.old) declared.now }
     requires modules { modules_in types.old ≡ modules_read declared.now }
@@ -203,13 +203,13 @@ fn lint_form<'d, 'a>(
 }
 
 /// The modules of a set that have nameless forms, one after the other, up to the first in which a premise fails.
-fn lint_forms<'d, 'a>(
+fn lint_forms(
     alloc: Global,
     modules: &[&Module],
-    forms: &'a [NModule],
+    forms: &[NModule],
     mut naming: Naming,
-    types: &mut TypeTable<'a>,
-    declared: &DeclaredTypes<'d, 'a>,
+    types: &mut TypeTable,
+    declared: &DeclaredTypes,
 ) -> Result<(), SetFlawed>
     requires read { AreRead (nodes_of types.old) declared.now }
     requires modules { modules_in types.old ≡ modules_read declared.now }
@@ -229,12 +229,12 @@ fn lint_forms<'d, 'a>(
 }
 
 /// The same against these declarations, whose types are put into a table once for the whole set.
-fn lint_against<'a>(
+fn lint_against(
     alloc: Global,
     modules: &[&Module],
-    forms: &'a [NModule],
+    forms: &[NModule],
     naming: Naming,
-    declared: &'a Declarations,
+    declared: &Declarations,
 ) -> Result<(), SetFlawed>
     requires against { modules_of declared.now ≡ decls_at (nmodules_of forms.now) }
     requires forms { nmodules_of forms.now ≡ nameless_forms (behind modules.now) }

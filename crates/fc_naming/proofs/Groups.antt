@@ -20,30 +20,30 @@ use Rattle.fc_used_words.proofs.Collecting.{take_item}
 use Rattle.fc_used_words.proofs.Keeping.{by_test}
 use Rattle.fc_naming.specs.Groups.{IsGroup}
 use Rattle.fc_naming.specs.Named.{AreLower, BelowUses, LamUses, IsChosen, IsNamedBelow, IsNamedExpr, IsNamedTy, TakeWords, none_take, more_take, TakesWord, value_takes, type_takes, coercion_takes}
-use Rattle.fc_naming.specs.Taken.{taken_words}
-use Rattle.fc_naming.specs.declared.taken.Taken.{Taken}
+use Rattle.fc_naming.specs.Taken.{hint_of, more_words, space_of, words_of}
 use Rattle.fc_naming.proofs.Lower.{and_keeps, both, chosen_lower, coercion_lower, end_keeps, term_lower, type_lower}
 use Rattle.fc_naming.proofs.Naming.{found_by, takes_coercion, takes_type, takes_value}
 
 -- ONE BINDER
 
-pub named_value_binder : {top : Top} {s : Locals} {taken more : Words} {w v : Word} {a : WTy} {t : Ty} → IsChosen taken.terms w v → IsNamedTy top s a t → more ≡ more_terms v taken
-    → {c : WBinder} → c ≡ BValue w a → TakesWord top s taken c (BValue v t) (with_term (Value v) s) more
-named_value_binder {top = top} {s = s} {taken = taken} {more = more} {w = w} {v = v} {a = a} {t = t} i p is same =
-    subst (λ (c : WBinder). TakesWord top s taken c (BValue v t) (with_term (Value v) s) more) (sym same)
-    (subst (TakesWord top s taken (BValue w a) (BValue v t) (with_term (Value v) s)) (sym is) (value_takes i.free (chosen_lower i) p))
+pub worded_value : {top : Top} {s : Locals} (w : Word) {v : Word} {a : WTy} {t : Ty} {c : WBinder} → c ≡ BValue w a → IsNamedTy top s a t → (taken more : Words) → IsChosen (words_of (space_of c) taken) (hint_of c) v
+    → more ≡ more_words (space_of c) v taken → TakesWord top s taken c (BValue v t) (with_term (Value v) s) more
+worded_value {top = top} {s = s} w {v = v} {a = a} {t = t} {c = c} same p taken more =
+    subst (λ (x : WBinder). IsChosen (words_of (space_of x) taken) (hint_of x) v → more ≡ more_words (space_of x) v taken → TakesWord top s taken x (BValue v t) (with_term (Value v) s) more) (sym same)
+    (λ (i : IsChosen taken.terms w v) (is : more ≡ more_terms v taken). subst (TakesWord top s taken (BValue w a) (BValue v t) (with_term (Value v) s)) (sym is) (value_takes i.free (chosen_lower i) p))
 
-pub named_type_binder : {top : Top} {s : Locals} {taken more : Words} {w v : Word} {k : Kind} → IsChosen taken.types w v → more ≡ more_types v taken
-    → {c : WBinder} → c ≡ BType w k → TakesWord top s taken c (BType v k) (with_type v s) more
-named_type_binder {top = top} {s = s} {taken = taken} {more = more} {w = w} {v = v} {k = k} i is same =
-    subst (λ (c : WBinder). TakesWord top s taken c (BType v k) (with_type v s) more) (sym same)
-    (subst (TakesWord top s taken (BType w k) (BType v k) (with_type v s)) (sym is) (type_takes i.free (chosen_lower i)))
+pub worded_type : {top : Top} {s : Locals} (w : Word) {v : Word} {k : Kind} {c : WBinder} → c ≡ BType w k → (taken more : Words) → IsChosen (words_of (space_of c) taken) (hint_of c) v
+    → more ≡ more_words (space_of c) v taken → TakesWord top s taken c (BType v k) (with_type v s) more
+worded_type {top = top} {s = s} w {v = v} {k = k} {c = c} same taken more =
+    subst (λ (x : WBinder). IsChosen (words_of (space_of x) taken) (hint_of x) v → more ≡ more_words (space_of x) v taken → TakesWord top s taken x (BType v k) (with_type v s) more) (sym same)
+    (λ (i : IsChosen taken.types w v) (is : more ≡ more_types v taken). subst (TakesWord top s taken (BType w k) (BType v k) (with_type v s)) (sym is) (type_takes i.free (chosen_lower i)))
 
-pub named_coercion_binder : {top : Top} {s : Locals} {taken more : Words} {w v : Word} {r : Role} {a b : WTy} {t u : Ty} → IsChosen taken.coercions w v → IsNamedTy top s a t → IsNamedTy top s b u
-    → more ≡ more_coercions v taken → {c : WBinder} → c ≡ BCo w r a b → TakesWord top s taken c (BCo v r t u) (with_coercion v s) more
-named_coercion_binder {top = top} {s = s} {taken = taken} {more = more} {w = w} {v = v} {r = r} {a = a} {b = b} {t = t} {u = u} i p q is same =
-    subst (λ (c : WBinder). TakesWord top s taken c (BCo v r t u) (with_coercion v s) more) (sym same)
-    (subst (TakesWord top s taken (BCo w r a b) (BCo v r t u) (with_coercion v s)) (sym is) (coercion_takes i.free (chosen_lower i) p q))
+pub worded_coercion : {top : Top} {s : Locals} (w : Word) {v : Word} {r : Role} {a b : WTy} {t u : Ty} {c : WBinder} → c ≡ BCo w r a b → IsNamedTy top s a t → IsNamedTy top s b u → (taken more : Words)
+    → IsChosen (words_of (space_of c) taken) (hint_of c) v → more ≡ more_words (space_of c) v taken → TakesWord top s taken c (BCo v r t u) (with_coercion v s) more
+worded_coercion {top = top} {s = s} w {v = v} {r = r} {a = a} {b = b} {t = t} {u = u} {c = c} same p q taken more =
+    subst (λ (x : WBinder). IsChosen (words_of (space_of x) taken) (hint_of x) v → more ≡ more_words (space_of x) v taken → TakesWord top s taken x (BCo v r t u) (with_coercion v s) more) (sym same)
+    (λ (i : IsChosen taken.coercions w v) (is : more ≡ more_coercions v taken).
+    subst (TakesWord top s taken (BCo w r a b) (BCo v r t u) (with_coercion v s)) (sym is) (coercion_takes i.free (chosen_lower i) p q))
 
 -- what is found below a binder without a word, is found below it with its word
 module _ (top : Top) where
@@ -173,11 +173,12 @@ named_lambda {top = top} {s = s} {t = t} {taken = taken} {more = more} {c = c} {
 
 -- BINDERS THAT ARE NAMED IN A LOOP
 
-pub take_start : (top : Top) (s t : Locals) (taken : Taken) (items : List (RustBinder.Binder ℕ)) (out : List (RustBinder.Binder Word)) → out ≡ [] → t ≡ s
-    → TakeWords top s (taken_words top s taken) (binders_of (take 0 items)) (binders_of out) t (taken_words top t taken)
+-- what is taken is told by the locals, or is the same whatever they are
+pub take_start : (top : Top) (s t : Locals) (taken : Locals → Words) (items : List (RustBinder.Binder ℕ)) (out : List (RustBinder.Binder Word)) → out ≡ [] → t ≡ s
+    → TakeWords top s (taken s) (binders_of (take 0 items)) (binders_of out) t (taken t)
 take_start top s t taken items out e same =
-    subst (λ (bs : List (RustBinder.Binder Word)). TakeWords top s (taken_words top s taken) [] (binders_of bs) t (taken_words top t taken)) (sym e)
-    (subst (λ (z : Locals). TakeWords top s (taken_words top s taken) [] [] z (taken_words top z taken)) (sym same) none_take)
+    subst (λ (bs : List (RustBinder.Binder Word)). TakeWords top s (taken s) [] (binders_of bs) t (taken t)) (sym e)
+    (subst (λ (z : Locals). TakeWords top s (taken s) [] [] z (taken z)) (sym same) none_take)
 
 take_end : {top : Top} {s t u : Locals} {taken more last : Words} {cs : List WBinder} {bs : List Binder} {c : WBinder} {b : Binder} → TakeWords top s taken cs bs t more → TakesWord top t more c b u last
     → TakeWords top s taken (cs ++ c ∷ []) (bs ++ b ∷ []) u last
@@ -217,7 +218,7 @@ length_end : {X : Type 0} (xs : List X) (x : X) → length (xs ++ x ∷ []) ≡ 
 length_end [] x = refl
 length_end (y ∷ xs) x = let r = length_end xs x in omega arith
 
-group_start : {X : Type 0} (taken : WordSet) (items : List X) (hint : X → Word) (words names : List Word) → words ≡ [] → names ≡ [] → IsGroup taken (take 0 items) hint words names taken
+pub group_start : {X : Type 0} (taken : WordSet) (items : List X) (hint : X → Word) (words names : List Word) → words ≡ [] → names ≡ [] → IsGroup taken (take 0 items) hint words names taken
 group_start taken items hint words names e f =
     subst (λ (ws : List Word). IsGroup taken (take 0 items) hint ws names taken) (sym e) (subst (λ (ns : List Word). IsGroup taken (take 0 items) hint [] ns taken) (sym f) (record {
       distinct = no_words_left;

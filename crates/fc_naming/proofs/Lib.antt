@@ -7,4 +7,5 @@ pub mod NamedExpressions
 pub mod NamedGroups
 pub mod NamedTypes
 pub mod Naming
+pub mod NewWords
 pub mod ScopeUses

@@ -26,6 +26,7 @@ use Rattle.fc_used_words.proofs.Both.{Follows, both_cons, both_expr, both_ty}
 use Rattle.fc_used_words.proofs.Collecting.{take_item}
 use Rattle.fc_used_words.proofs.Keeping.{Same, below_same, beyond_near}
 use Rattle.fc_naming.specs.Named.{AreLower, IsChosen, IsNamedTy, IsNamedTys, IsNamedExpr, TakeWords, none_take, more_take, value_takes, type_takes, coercion_takes}
+use Rattle.fc_naming.specs.BinderWords.{FieldWords}
 use Rattle.fc_naming.specs.Declarations.{FieldsUse, IsNamedCon, con_named, IsNamedCons, HaveWords, IsNamedDecl, IsNamedDecls}
 use Rattle.fc_naming.proofs.Each.{AreEach, each_more, each_none}
 use Rattle.fc_naming.proofs.Groups.{distinct_end, none_within, plus_all_end, words_enter, words_resolve, words_tys}
@@ -66,11 +67,14 @@ con_from {top = top} {s = s} {t = t} {taken = taken} {more = more} n {cs = cs} {
     (p.resolves (words_tys top s t taken more cs bs d (bare_tys ts) (u.fields g))))
     (λ l h. let k = and_parts _ _ h in let j = and_parts _ _ k.1 in let r = binders_formed d l j.0 in both k.0 (both r.0 (p.formed r.1 j.1)))
 
-pub named_con : {top : Top} {s t : Locals} {taken more : Words} {n m : Word} {cs ds : List WBinder} {bs : List Binder} {ts us : List WTy} {fields : List Ty} → FieldsUse top s (bare_binders cs) (bare_tys ts) taken
-    → TakeWords top s taken ds bs t more → IsNamedTys top t us fields → ds ≡ cs → us ≡ ts → n ≡ m → IsNamedCon top s (ConOf m cs ts) (ConOf n bs fields)
-named_con {top = top} {s = s} {t = t} {taken = taken} {more = more} {n = n} {cs = cs} {bs = bs} {ts = ts} {fields = fields} u d p e f is =
-    subst (λ (w : Word). IsNamedCon top s (ConOf w cs ts) (ConOf n bs fields)) is
-    (con_from n u (subst (λ (xs : List WBinder). TakeWords top s taken xs bs t more) e d) (subst (λ (xs : List WTy). IsNamedTys top t xs fields) f p))
+pub field_words : {top : Top} {s t : Locals} {taken more : Words} {cs ds : List WBinder} {ts : List NTy} {bs : List Binder} → ds ≡ cs → FieldsUse top s (bare_binders cs) ts taken → TakeWords top s taken ds bs t more
+    → FieldWords top s cs ts bs t
+field_words {top = top} {s = s} {t = t} {taken = taken} {more = more} {bs = bs} e u d = record { taken = taken; more = more; uses = u; take = subst (λ (xs : List WBinder). TakeWords top s taken xs bs t more) e d }
+
+pub named_con : {top : Top} {s t : Locals} {n m : Word} {cs : List WBinder} {bs : List Binder} {ts us : List WTy} {fields : List Ty} → FieldWords top s cs (bare_tys ts) bs t → IsNamedTys top t us fields → us ≡ ts → n ≡ m
+    → IsNamedCon top s (ConOf m cs ts) (ConOf n bs fields)
+named_con {top = top} {s = s} {t = t} {n = n} {cs = cs} {bs = bs} {ts = ts} {fields = fields} w p f is =
+    subst (λ (v : Word). IsNamedCon top s (ConOf v cs ts) (ConOf n bs fields)) is (con_from n w.uses w.take (subst (λ (xs : List WTy). IsNamedTys top t xs fields) f p))
 
 first_new : {earlier : WordSet} {w : Word} {ws : List Word} → AreDistinct earlier (w ∷ ws) → earlier w ≡ false
 first_new (one_word_more new rest) = new

@@ -10,11 +10,13 @@ use Rattle.fc_syntax.specs.Tree.{Binder, Binds, ELet, EJoin, Expr, Joins, Ty}
 use Rattle.fc_syntax.specs.View.{binders_of, binds_of, joins_of}
 use Rattle.fc_model.specs.Formed.{binds_formed, is_lower_word, joins_formed, nameless_words}
 use Rattle.fc_model.specs.NamelessView.{nbinds_of, njoins_of}
-use Rattle.fc_model.specs.Resolution.{Locals, Top, Words, bind_words, enter_joins, enter_values, join_words}
+use Rattle.fc_model.specs.Nameless.{NExpr}
+use Rattle.fc_model.specs.Resolution.{Locals, Top, WordSet, Words, bind_words, enter_joins, enter_values, join_words}
 use Rattle.fc_model.specs.ResolutionRules.{AreDistinct}
 use Rattle.fc_model.specs.Worded.{WTy, WBinds, WExpr, WJoins, bare_expr}
 use Rattle.fc_scope.specs.ScopeWords.{with_joins, with_values}
-use Rattle.fc_naming.specs.declared.binders.Group.{Group}
+use Rattle.fc_naming.specs.declared.members.Group.{Group}
+use Rattle.fc_naming.specs.Groups.{IsGroup}
 use Rattle.fc_naming.specs.GroupWords.{JoinWords, LetWords}
 use Rattle.fc_naming.specs.Named.{IsNamedBelow, IsNamedBinds, IsNamedExpr, IsNamedJoins, IsNamedTy, JoinUses, LetUses}
 use Rattle.fc_naming.proofs.Lower.{both}
@@ -72,12 +74,39 @@ named_join_form {top = top} {s = s} {r = r} {a = a} {t = t} {ns = ns} {e = e} {j
     (subst (λ (z : WJoins). IsNamedJoins top (if r then with_joins g.names s else s) z js) (sym w.members) p) q))
 
 -- the hints of members
-pub bind_hints_lower : (items : List (RustBind.Bind ℕ Ref)) → binds_formed nameless_words (binds_of items) ≡ true → list_all (λ x. is_lower_word x.name) items ≡ true
+bind_hints_lower : (items : List (RustBind.Bind ℕ Ref)) → binds_formed nameless_words (binds_of items) ≡ true → list_all (λ x. is_lower_word x.name) items ≡ true
 bind_hints_lower [] h = refl
 bind_hints_lower (x ∷ items) h = let k = and_parts _ _ h in both (and_parts _ _ k.0).0 (bind_hints_lower items k.1)
 
-pub join_hints_lower : (items : List (RustJoin.JoinBind ℕ Ref)) → joins_formed nameless_words (joins_of items) ≡ true → list_all (λ x. is_lower_word x.name) items ≡ true
+join_hints_lower : (items : List (RustJoin.JoinBind ℕ Ref)) → joins_formed nameless_words (joins_of items) ≡ true → list_all (λ x. is_lower_word x.name) items ≡ true
 join_hints_lower [] h = refl
 join_hints_lower (x ∷ items) h = let k = and_parts _ _ h in both (and_parts _ _ k.0).0 (join_hints_lower items k.1)
+
+-- from what members took and what their scope uses
+pub let_words : {top : Top} {s : Locals} {r : Bool} {n : NExpr} {g : Group} {more : WordSet} (taken : Words) (items : List (RustBind.Bind ℕ Ref)) → IsGroup taken.terms items (λ b. b.name) g.words g.names more
+    → LetUses top s r (nbinds_of items) n taken → LetWords top s r (binds_of items) n g
+let_words {s = s} taken items i u = record {
+  items = items;
+  members = refl;
+  taken = taken;
+  distinct = i.distinct;
+  counted = i.counted;
+  lower = λ h. i.lower (bind_hints_lower items h);
+  values = i.values s;
+  uses = u;
+}
+
+pub point_words : {top : Top} {s : Locals} {r : Bool} {n : NExpr} {g : Group} {more : WordSet} (taken : Words) (items : List (RustJoin.JoinBind ℕ Ref)) → IsGroup taken.terms items (λ j. j.name) g.words g.names more
+    → JoinUses top s r (njoins_of items) n taken → JoinWords top s r (joins_of items) n g
+point_words {s = s} taken items i u = record {
+  items = items;
+  members = refl;
+  taken = taken;
+  distinct = i.distinct;
+  counted = i.counted;
+  lower = λ h. i.lower (join_hints_lower items h);
+  joins = i.joins s;
+  uses = u;
+}
 
 pub ruleset group_names = (named_let_form, named_join_form)

@@ -1,4 +1,4 @@
--- What the scope of a binder uses: the words that a walk through it collects, or every word in scope.
+-- What the scope of a binder uses is among all the words around it, and among those that a walk through it collects.
 use Rattle.std.proofs.Common.{◌≡◌, Bool, true, false, ◌||◌, List, Option, None, Ok, is_some, refl, sym, ap, ◌∙◌, subst}
 use Rattle.fc_syntax.specs.declared.fault.FaultKind.TheVariants.{Unbound}
 use Rattle.fc_syntax.specs.declared.ty.Name.{Name}
@@ -69,6 +69,12 @@ module _ {top : Top} {s : Locals} where
   join_around {r = r} {ns = ns} {n = n} = record {
     joins = λ e h. both_joins _ _ _ _ (found_around top s) _ _ refl ns h h;
     body = λ h. both_expr _ _ _ _ (found_around top s) _ _ refl n h h;
+  }
+
+  pub fields_around : {ns : List NBinder} {ts : List NTy} → FieldsUse top s ns ts (words_around top s)
+  fields_around {ns = ns} {ts = ts} = record {
+    binders = λ h. both_binders _ _ _ _ (found_around top s) _ _ refl ns h h;
+    fields = λ h. both_tys _ _ _ _ (found_around top s) _ _ refl ts h h;
   }
 
   -- THE WORDS THAT A WALK COLLECTS

@@ -12,7 +12,7 @@ use Rattle.fc_model.specs.Resolution.{Locals, Top, Words, enter_joins, enter_val
 use Rattle.fc_model.specs.ResolutionRules.{AreDistinct}
 use Rattle.fc_model.specs.Worded.{WBinds, WJoins}
 use Rattle.fc_scope.specs.ScopeWords.{with_joins, with_values}
-use Rattle.fc_naming.specs.declared.binders.Group.{Group}
+use Rattle.fc_naming.specs.declared.members.Group.{Group}
 use Rattle.fc_naming.specs.Named.{JoinUses, LetUses}
 
 pub record LetWords (top : Top) (s : Locals) (r : Bool) (ns : WBinds) (n : NExpr) (g : Group) : Type 0 where

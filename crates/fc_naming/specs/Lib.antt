@@ -1,3 +1,4 @@
+pub mod BinderWords
 pub mod Declarations
 pub mod GroupWords
 pub mod Groups

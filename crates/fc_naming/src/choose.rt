@@ -1,16 +1,37 @@
 //! The word that a binder takes.
-ghost use Rattle.std.specs.Prelude.{◌≡◌, IfOk};
-ghost use Rattle.fc_model.specs.DeclaredWords.{top_by};
+ghost use Rattle.std.specs.Prelude.{◌≡◌, None, Some, if◌then◌else◌, IfOk};
+ghost use Rattle.fc_model.specs.DeclaredWords.{top_by, words_by_space};
 ghost use Rattle.fc_scope.specs.ScopeWords.{locals_of};
 ghost use Rattle.fc_naming.specs.Named.{IsChosen, candidate as is_candidate};
-ghost use Rattle.fc_naming.specs.Taken.{enter_word, more_words, taken_words, words_of};
+ghost use Rattle.fc_naming.specs.Taken.{more_words, words_around, words_of};
 
-use crate::taken::{Space, Taken};
-use fc_model::Declared;
+use crate::taken::{Space, add_word, is_among, is_around};
+use fc_model::{Declared, Spaces};
 use fc_scope::Scope;
 use fc_syntax::{Memory, Text};
 use itoa::Buffer;
 use std::alloc::Global;
+
+// A WORD THAT IS NEW. The scope of a binder uses only words around it. So a binder that was read with a new word keeps it, and its scope is not
+// walked through. A word that is not new may still be kept, where the scope does not use it: only a walk tells.
+
+/// The word that a binder was read with, if it is new: no word in scope and, of a term, none of the module's terms.
+pub fn new_word<'x>(
+    alloc: Global,
+    hint: &Text,
+    space: Space,
+    top: &Declared,
+    scope: &'x Scope<'x>,
+) -> Result<Option<Text>, Memory>
+    ensures { IfOk result (λ o. o ≡ (if words_of space (words_around (top_by top.now) (locals_of scope.now)) hint.now then None else Some hint.now)) }
+{
+    if is_around(space, hint, top, &*scope)? {
+        return Ok(None);
+    }
+    Ok(Some(hint.copy(alloc)?))
+}
+
+// THE FIRST WORD THAT IS FREE
 
 /// The word itself, then `w_1`, `w_2` and so on.
 fn candidate(alloc: Global, hint: &Text, number: u32) -> Result<Text, Memory>
@@ -27,19 +48,12 @@ fn candidate(alloc: Global, hint: &Text, number: u32) -> Result<Text, Memory>
 }
 
 /// The first candidate that is not taken, where a binder was read with the word `hint`.
-pub fn choose<'x>(
-    alloc: Global,
-    hint: &Text,
-    space: Space,
-    top: &Declared,
-    scope: &'x Scope<'x>,
-    taken: &Taken,
-) -> Result<Text, Memory>
-    ensures { IfOk result (λ v. IsChosen (words_of space (taken_words (top_by top.now) (locals_of scope.now) taken.now)) hint.now v) }
+pub fn choose(alloc: Global, hint: &Text, space: Space, taken: &Spaces) -> Result<Text, Memory>
+    ensures { IfOk result (λ v. IsChosen (words_of space (words_by_space taken.now)) hint.now v) }
 {
     for number in 0..u32::MAX {
         let next = candidate(alloc, hint, number)?;
-        if !taken.has(space, &next, top, &*scope)? {
+        if !is_among(taken, space, &next) {
             return Ok(next);
         }
     }
@@ -47,18 +61,16 @@ pub fn choose<'x>(
 }
 
 /// The same, after which the word is taken.
-pub fn take_word<'x>(
+pub fn take_word(
     alloc: Global,
     hint: &Text,
     space: Space,
-    top: &Declared,
-    scope: &'x Scope<'x>,
-    taken: &mut Taken,
+    taken: &mut Spaces,
 ) -> Result<Text, Memory>
-    ensures chosen { IfOk result (λ v. IsChosen (words_of space (taken_words (top_by top.now) (locals_of scope.now) taken.old)) hint.now v) }
-    ensures taken { IfOk result (λ v. taken_words (top_by top.now) (enter_word space v (locals_of scope.now)) taken.new ≡ more_words space v (taken_words (top_by top.now) (locals_of scope.now) taken.old)) }
+    ensures chosen { IfOk result (λ v. IsChosen (words_of space (words_by_space taken.old)) hint.now v) }
+    ensures taken { IfOk result (λ v. words_by_space taken.new ≡ more_words space v (words_by_space taken.old)) }
 {
-    let word = choose(alloc, hint, space, top, &*scope, taken)?;
-    taken.add(alloc, space, &word)?;
+    let word = choose(alloc, hint, space, taken)?;
+    add_word(alloc, taken, space, &word)?;
     Ok(word)
 }

@@ -1,12 +1,12 @@
 //! Coercions with words for their binders.
-ghost use Rattle.std.specs.Prelude.{◌≡◌, slice_get, IfOk};
+ghost use Rattle.std.specs.Prelude.{slice_get, IfOk};
 ghost use Rattle.fc_syntax.specs.View.{co_of, cos_of};
 ghost use Rattle.fc_model.specs.NamelessView.{nco_of};
 ghost use Rattle.fc_model.specs.DeclaredWords.{top_by};
 ghost use Rattle.fc_scope.specs.ScopeWords.{locals_of};
 ghost use Rattle.fc_naming.specs.Named.{IsNamedCo, IsNamedCos, IsWritten, MayTakeCo};
 
-use crate::choose::choose;
+use crate::choose::{choose, new_word};
 use crate::names::{word_or_other, written};
 use crate::taken::Space;
 use crate::types::named_ty;
@@ -33,8 +33,11 @@ fn word_around<'x>(
 ) -> Result<Text, Memory>
     ensures { IfOk result (λ v. MayTakeCo (top_by top.now) (locals_of scope.now) hint.now v (nco_of g.now)) }
 {
-    let taken = used_in_coercion(alloc, g, top, &*scope, hint)?;
-    let word = choose(alloc, hint, Space::Types, top, &*scope, &taken)?;
+    if let Some(kept) = new_word(alloc, hint, Space::Types, top, &*scope)? {
+        return Ok(kept);
+    }
+    let used = used_in_coercion(alloc, g, top, &*scope)?;
+    let word = choose(alloc, hint, Space::Types, &used)?;
     Ok(word)
 }
 

@@ -5,11 +5,10 @@ ghost use Rattle.fc_model.specs.DeclaredWords.{top_by};
 ghost use Rattle.fc_scope.specs.ScopeWords.{locals_of};
 ghost use Rattle.fc_naming.specs.Declarations.{IsNamedCon, IsNamedCons, IsNamedDecl, IsNamedDecls};
 
-use crate::binders::named_binders;
+use crate::binders::con_binders;
 use crate::expressions::named_expr;
 use crate::params::{own_params, own_plains};
 use crate::types::{named_ty, named_tys};
-use crate::used::used_in_con;
 use fc_model::Declared;
 use fc_scope::Scope;
 use fc_syntax::{ConDecl, Decl, Memory, NConDecl, NDecl, Seq};
@@ -26,8 +25,7 @@ fn named_con<'x>(
 ) -> Result<ConDecl, Memory>
     ensures { IfOk result (λ r. IsNamedCon (top_by top.now) (locals_of scope.now) (con_of con.now) (con_of r)) }
 {
-    let mut taken = used_in_con(alloc, con, top, &*scope)?;
-    let named = named_binders(alloc, con.binders.as_slice(), top, &*scope, &mut taken)?;
+    let named = con_binders(alloc, con, top, &*scope)?;
     let inner = Scope::Binders(&named.words, &*scope);
     let fields = named_tys(alloc, con.fields.as_slice(), top, &inner)?;
     let name = con.name.copy(alloc)?;
@@ -65,7 +63,7 @@ fn named_decl(alloc: Global, decl: &NDecl, top: &Declared) -> Result<Decl, Memor
     let none = Scope::End;
     match decl {
         NDecl::DataType(name, params, cons) => {
-            let own = own_params(alloc, params.as_slice(), top)?;
+            let own = own_params(alloc, params.as_slice())?;
             let scope = Scope::Types(&own.names, &none);
             let cons = named_cons(alloc, cons.as_slice(), top, &scope)?;
             let name = name.copy(alloc)?;
@@ -73,7 +71,7 @@ fn named_decl(alloc: Global, decl: &NDecl, top: &Declared) -> Result<Decl, Memor
             Ok(Decl::DataType(name, params, cons))
         }
         NDecl::NewType(name, params, t, con) => {
-            let own = own_params(alloc, params.as_slice(), top)?;
+            let own = own_params(alloc, params.as_slice())?;
             let scope = Scope::Types(&own.names, &none);
             let t = named_ty(alloc, t, top, &scope)?;
             let name = name.copy(alloc)?;
@@ -82,14 +80,14 @@ fn named_decl(alloc: Global, decl: &NDecl, top: &Declared) -> Result<Decl, Memor
             Ok(Decl::NewType(name, params, t, con))
         }
         NDecl::Family(name, params, kind) => {
-            let own = own_plains(alloc, params.as_slice(), top)?;
+            let own = own_plains(alloc, params.as_slice())?;
             let name = name.copy(alloc)?;
             let kind = kind.copy(alloc)?;
             let params = own.params;
             Ok(Decl::Family(name, params, kind))
         }
         NDecl::Axiom(name, params, t, u) => {
-            let own = own_plains(alloc, params.as_slice(), top)?;
+            let own = own_plains(alloc, params.as_slice())?;
             let scope = Scope::Types(&own.names, &none);
             let t = named_ty(alloc, t, top, &scope)?;
             let u = named_ty(alloc, u, top, &scope)?;

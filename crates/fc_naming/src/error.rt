@@ -1,5 +1,4 @@
 //! Why names are not put back.
-use fc_syntax::Memory;
 
 /// Why a nameless module is not written with names.
 #[derive(Debug, Drop)]
@@ -9,10 +8,4 @@ pub enum NotNamed {
     Unscoped,
     /// Out of memory, or a count of 32 bits was too small.
     Memory,
-}
-
-impl From<Memory> for NotNamed {
-    fn from(_error: Memory) -> NotNamed {
-        NotNamed::Memory
-    }
 }

@@ -7,12 +7,11 @@ ghost use Rattle.fc_model.specs.DeclaredWords.{top_by};
 ghost use Rattle.fc_scope.specs.ScopeWords.{locals_of, with_joins, with_values};
 ghost use Rattle.fc_naming.specs.Named.{IsNamedAlts, IsNamedArg, IsNamedArgs, IsNamedBelow, IsNamedBinds, IsNamedExpr, IsNamedExprs, IsNamedJoins};
 
-use crate::binders::{Group, add_binder, named_binder, named_binders};
+use crate::binders::{add_binder, binders_below, lambda_binder};
 use crate::coercions::named_co;
-use crate::members::{let_words, point_words};
+use crate::members::{Group, let_words, point_words};
 use crate::names::written;
 use crate::types::named_ty;
-use crate::used::{used_below, used_in_lambda};
 use crate::variables::{join_point, local, named_head, word_around};
 use fc_model::Declared;
 use fc_scope::{Binders, Scope};
@@ -155,8 +154,7 @@ fn lambda<'x>(
 ) -> Result<Expr, Memory>
     ensures { IfOk result (λ r. IsNamedExpr (top_by top.now) (locals_of scope.now) (ELam (binder_of binder.now) (expr_of e.now)) (expr_of r)) }
 {
-    let mut taken = used_in_lambda(alloc, e, top, &*scope, binder)?;
-    let binder = named_binder(alloc, binder, top, &*scope, &mut taken)?;
+    let binder = lambda_binder(alloc, e, top, &*scope, binder)?;
     let mut words = Binders::new(alloc);
     add_binder(alloc, &mut words, &binder)?;
     let inner = Scope::Binders(&words, &*scope);
@@ -233,8 +231,7 @@ fn named_below<'x>(
 ) -> Result<Below, Memory>
     ensures { IfOk result (λ r. IsNamedBelow (top_by top.now) (locals_of scope.now) (binders_of binders.now) (expr_of e.now) (binders_of r.binders) (expr_of r.body)) }
 {
-    let mut taken = used_below(alloc, e, top, &*scope, binders)?;
-    let named = named_binders(alloc, binders, top, &*scope, &mut taken)?;
+    let named = binders_below(alloc, e, top, &*scope, binders)?;
     let inner = Scope::Binders(&named.words, &*scope);
     let body = named_expr(alloc, e, top, &inner)?;
     let binders = named.binders;

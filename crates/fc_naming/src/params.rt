@@ -6,9 +6,9 @@ ghost use Rattle.fc_model.specs.Worded.{bare_param, bare_plain};
 ghost use Rattle.fc_naming.specs.Declarations.{HaveWords};
 
 use crate::choose::take_word;
-use crate::taken::{Space, Taken};
-use fc_model::{Declared, Spaces};
-use fc_scope::{Names, Scope};
+use crate::taken::Space;
+use fc_model::Spaces;
+use fc_scope::Names;
 use fc_syntax::{Memory, Param, Plain, Seq};
 use std::alloc::Global;
 
@@ -31,16 +31,14 @@ pub struct OwnPlains {
 }
 
 /// Parameters, each with its word, or another one where a parameter before it has that.
-pub fn own_params(alloc: Global, params: &[Param], top: &Declared) -> Result<OwnParams, Memory>
+pub fn own_params(alloc: Global, params: &[Param]) -> Result<OwnParams, Memory>
     ensures { IfOk result (λ r. HaveWords param_hint bare_param (params_of params.now) (params_of r.params) r.names) }
 {
-    let none = Scope::End;
-    let mut taken = Taken::Words(Spaces::new(alloc));
+    let mut taken = Spaces::new(alloc);
     let mut names = Names::new(alloc);
     let mut out = Seq::new(alloc);
     for param in params {
-        let around = Scope::Types(&names, &none);
-        let name = take_word(alloc, &param.name, Space::Types, top, &around, &mut taken)?;
+        let name = take_word(alloc, &param.name, Space::Types, &mut taken)?;
         let kind = param.kind.copy(alloc)?;
         names.add(alloc, &name)?;
         out.push(Param {
@@ -53,16 +51,14 @@ pub fn own_params(alloc: Global, params: &[Param], top: &Declared) -> Result<Own
 }
 
 /// The same of parameters without roles.
-pub fn own_plains(alloc: Global, plains: &[Plain], top: &Declared) -> Result<OwnPlains, Memory>
+pub fn own_plains(alloc: Global, plains: &[Plain]) -> Result<OwnPlains, Memory>
     ensures { IfOk result (λ r. HaveWords plain_hint bare_plain (plains_of plains.now) (plains_of r.params) r.names) }
 {
-    let none = Scope::End;
-    let mut taken = Taken::Words(Spaces::new(alloc));
+    let mut taken = Spaces::new(alloc);
     let mut names = Names::new(alloc);
     let mut out = Seq::new(alloc);
     for plain in plains {
-        let around = Scope::Types(&names, &none);
-        let name = take_word(alloc, &plain.name, Space::Types, top, &around, &mut taken)?;
+        let name = take_word(alloc, &plain.name, Space::Types, &mut taken)?;
         let kind = plain.kind.copy(alloc)?;
         names.add(alloc, &name)?;
         out.push(Plain { name, kind })?;

@@ -1,12 +1,12 @@
 //! Types with words for their binders.
-ghost use Rattle.std.specs.Prelude.{◌≡◌, slice_get, IfOk};
+ghost use Rattle.std.specs.Prelude.{slice_get, IfOk};
 ghost use Rattle.fc_syntax.specs.View.{ty_of, tys_of};
 ghost use Rattle.fc_model.specs.NamelessView.{nty_of};
 ghost use Rattle.fc_model.specs.DeclaredWords.{top_by};
 ghost use Rattle.fc_scope.specs.ScopeWords.{locals_of};
 ghost use Rattle.fc_naming.specs.Named.{IsNamedTy, IsNamedTys, IsWritten, MayTakeTy};
 
-use crate::choose::choose;
+use crate::choose::{choose, new_word};
 use crate::names::{word_or_other, written};
 use crate::taken::Space;
 use crate::used::used_in_type;
@@ -32,8 +32,11 @@ fn word_around<'x>(
 ) -> Result<Text, Memory>
     ensures { IfOk result (λ v. MayTakeTy (top_by top.now) (locals_of scope.now) hint.now v (nty_of t.now)) }
 {
-    let taken = used_in_type(alloc, t, top, &*scope, hint)?;
-    let word = choose(alloc, hint, Space::Types, top, &*scope, &taken)?;
+    if let Some(kept) = new_word(alloc, hint, Space::Types, top, &*scope)? {
+        return Ok(kept);
+    }
+    let used = used_in_type(alloc, t, top, &*scope)?;
+    let word = choose(alloc, hint, Space::Types, &used)?;
     Ok(word)
 }
 

@@ -7,7 +7,7 @@ ghost use Rattle.fc_scope.specs.WordsAt.{join_word as join_word_at, value_word a
 ghost use Rattle.fc_model.specs.NamelessView.{nalts_of};
 ghost use Rattle.fc_naming.specs.Named.{IsNamedHead, IsWritten, MayTakeAlts};
 
-use crate::choose::choose;
+use crate::choose::{choose, new_word};
 use crate::names::{word_or_other, written};
 use crate::taken::Space;
 use crate::used::used_in_alts;
@@ -54,7 +54,10 @@ pub fn word_around<'x>(
 ) -> Result<Text, Memory>
     ensures { IfOk result (λ v. MayTakeAlts (top_by top.now) (locals_of scope.now) hint.now v (nalts_of alts.now)) }
 {
-    let taken = used_in_alts(alloc, alts, top, &*scope, hint)?;
-    let word = choose(alloc, hint, Space::Values, top, &*scope, &taken)?;
+    if let Some(kept) = new_word(alloc, hint, Space::Terms, top, &*scope)? {
+        return Ok(kept);
+    }
+    let used = used_in_alts(alloc, alts, top, &*scope)?;
+    let word = choose(alloc, hint, Space::Terms, &used)?;
     Ok(word)
 }

@@ -7,6 +7,7 @@ use fc_copies::nameless::{copy_arg, copy_module};
 use fc_nameless_measures::{Measures, measures_of_decl, measures_of_module};
 use fc_numbers::number;
 use fc_occur::{jumps_to_innermost, occurrences_of_innermost};
+use fc_outlines::outline;
 use fc_places::exchange;
 use fc_refusals::put_number;
 use fc_rows::Occurrence;
@@ -14,13 +15,20 @@ use fc_subst::{NO_BINDERS, Replacement, Shift, substitute, substitute_arguments}
 use fc_syntax::{Memory, NBinder, NExpr, Seq};
 use std::alloc::Global;
 
-// COPIES AND MEASURES
+// COPIES, OUTLINES AND MEASURES
 
 /// What a copy of the nameless form of the module of a file is named back to.
 pub(crate) fn copied(alloc: Global, file: &File) -> Result<Vec<u8>, NoAnswer> {
     let form = form_in(alloc, file)?;
     let copy = copy_module(alloc, &form)?;
     Ok(named(alloc, &copy)?)
+}
+
+/// What the outline of the nameless form of the module of a file is named back to.
+pub(crate) fn outlined(alloc: Global, file: &File) -> Result<Vec<u8>, NoAnswer> {
+    let form = form_in(alloc, file)?;
+    let outline = outline(alloc, &form)?;
+    Ok(named(alloc, &outline)?)
 }
 
 /// Appends nodes, size and depth, with blanks between them, and a text behind them.

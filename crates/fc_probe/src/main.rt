@@ -50,6 +50,7 @@ fn answer_on_form(alloc: Global, words: &[&str], files: &[File]) -> Result<Vec<u
     match (words, files) {
         (["written", order], [file]) => names::written(alloc, order, file),
         (["copy"], [file]) => changing::copied(alloc, file),
+        (["outline"], [file]) => changing::outlined(alloc, file),
         (["measures"], [file]) => changing::measured(alloc, file),
         (["exchange", place], [file]) => changing::exchanged(alloc, place, file),
         (["substitute", place], [file]) => {

@@ -1,4 +1,3 @@
-pub mod NumberKinds
 pub mod Meanings
 pub mod Seen
 pub mod Shown

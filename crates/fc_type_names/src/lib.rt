@@ -1,9 +1,7 @@
 //! Types of a table as they are written: a number becomes a tree with words for its variables and names as a module says them.
 #![tactic(auto)]
 
-mod kinds;
 mod names;
-mod room;
 mod walk;
 mod words;
 

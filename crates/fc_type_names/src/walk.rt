@@ -9,31 +9,30 @@ ghost use Rattle.fc_type_names.specs.Parts.{part_of};
 ghost use Rattle.fc_type_table.specs.Names.{name_of};
 ghost use Rattle.fc_type_table.specs.TypeTables.{IsNumber, IsType, kind_shown, shown};
 
-use crate::kinds::kind_at;
 use crate::names::written;
-use crate::room::Room;
 use crate::words::{free_word, word_at};
 use fc_scope::Scope;
 use fc_syntax::{Memory, Role, Text, Ty};
 use fc_type_table::{NameKey, Piece, TypeId, TypeTable};
+use fc_type_trees::{Room, kind_within};
 use std::alloc::Global;
 
 /// What a walk over a type goes by.
 #[derive(Drop)]
-struct Walk<'w, 'a> {
+struct Walk<'w> {
     alloc: Global,
     /// The table.
-    types: &'w TypeTable<'a>,
+    types: &'w TypeTable<'w>,
     /// The module in which the type is to be written.
     own: &'w Text,
     /// How many type variables the type stands among.
     variables: u32,
 }
 
-impl<'w, 'a> Walk<'w, 'a> {
+impl Walk<'_> {
     /// The type variable at a distance.
     #[tactic(auto, using(fc_syntax::proofs::View::view_rules, crate::proofs::Meanings::meaning_rules))]
-    fn variable<'x>(&self, scope: &'x Scope<'x>, distance: u32) -> Result<Ty, Memory>
+    fn variable(&self, scope: &Scope, distance: u32) -> Result<Ty, Memory>
         requires { AreSeen (locals_of scope.now).types }
         ensures { IfOk result (λ t. meant self.now.own.now (locals_of scope.now).types (ty_of t) ≡ Ok (NTVar distance)) }
     {
@@ -41,12 +40,7 @@ impl<'w, 'a> Walk<'w, 'a> {
     }
 
     /// The type variable that the type stands among with so many outside of it, below so many binders of the type.
-    fn outer_variable<'x>(
-        &self,
-        scope: &'x Scope<'x>,
-        binders: u32,
-        level: u32,
-    ) -> Result<Ty, Memory>
+    fn outer_variable(&self, scope: &Scope, binders: u32, level: u32) -> Result<Ty, Memory>
         requires { AreSeen (locals_of scope.now).types }
         ensures { IfOk result (λ t. meant self.now.own.now (locals_of scope.now).types (ty_of t) ≡ Ok (NTVar (binders + ((self.now.variables - 1) - level)))) }
     {
@@ -59,8 +53,8 @@ impl<'w, 'a> Walk<'w, 'a> {
 
     /// The type of a name.
     #[tactic(auto, using(fc_syntax::proofs::View::view_rules, crate::proofs::Meanings::meaning_rules))]
-    fn constructor(&self, name: NameKey) -> Result<Ty, Memory>
-        ensures { (words : List trees.Word) → IfOk result (λ t. meant self.now.own.now words (ty_of t) ≡ Ok (NTCon (name_of name.entry))) }
+    fn constructor(&self, name: &NameKey) -> Result<Ty, Memory>
+        ensures { (words : List trees.Word) → IfOk result (λ t. meant self.now.own.now words (ty_of t) ≡ Ok (NTCon (name_of name.now))) }
     {
         Ok(Ty::Con(written(self.alloc, self.own, name)?))
     }
@@ -68,11 +62,11 @@ impl<'w, 'a> Walk<'w, 'a> {
     /// A type applied to another.
     #[cycle(parts)]
     #[tactic(auto, using(crate::proofs::Meanings::meaning_rules))]
-    fn application<'x>(
+    fn application(
         &self,
         head: TypeId,
         argument: TypeId,
-        scope: &'x Scope<'x>,
+        scope: &Scope,
         binders: u32,
         room: &mut Room,
     ) -> Result<Ty, Memory>
@@ -89,11 +83,11 @@ impl<'w, 'a> Walk<'w, 'a> {
     /// Functions from one type to another.
     #[cycle(parts)]
     #[tactic(auto, using(crate::proofs::Meanings::meaning_rules))]
-    fn function<'x>(
+    fn function(
         &self,
         from: TypeId,
         to: TypeId,
-        scope: &'x Scope<'x>,
+        scope: &Scope,
         binders: u32,
         room: &mut Room,
     ) -> Result<Ty, Memory>
@@ -110,11 +104,11 @@ impl<'w, 'a> Walk<'w, 'a> {
     /// A `forall`, whose variable takes a word that no other in scope has.
     #[cycle(parts)]
     #[tactic(auto, using(crate::proofs::Meanings::meaning_rules, crate::proofs::Seen::seen_more))]
-    fn forall<'x>(
+    fn forall(
         &self,
         kind: TypeId,
         body: TypeId,
-        scope: &'x Scope<'x>,
+        scope: &Scope,
         binders: u32,
         room: &mut Room,
     ) -> Result<Ty, Memory>
@@ -129,19 +123,19 @@ impl<'w, 'a> Walk<'w, 'a> {
         let word = free_word(self.alloc, &*scope, binders)?;
         let inner = Scope::Type(&word, &*scope);
         let body = self.part(body, &inner, below, room)?;
-        let kind = kind_at(self.alloc, kind, self.types, room)?;
+        let kind = kind_within(self.alloc, kind, self.types, room)?;
         Ty::for_all(self.alloc, word, kind, body)
     }
 
     /// The type of what takes a coercion.
     #[cycle(parts)]
     #[tactic(auto, using(crate::proofs::Meanings::meaning_rules))]
-    fn coforall<'x>(
+    fn coforall(
         &self,
         role: Role,
         ends: (TypeId, TypeId),
         body: TypeId,
-        scope: &'x Scope<'x>,
+        scope: &Scope,
         binders: u32,
         room: &mut Room,
     ) -> Result<Ty, Memory>
@@ -161,13 +155,7 @@ impl<'w, 'a> Walk<'w, 'a> {
     /// A part of the type below so many of its binders, whose words are in scope inside those that the type stands among. Fails where
     /// memory or the room for pieces runs out, at a number that is not one of a type, and at a variable that is out of scope.
     #[cycle(parts)]
-    fn part<'x>(
-        &self,
-        id: TypeId,
-        scope: &'x Scope<'x>,
-        binders: u32,
-        room: &mut Room,
-    ) -> Result<Ty, Memory>
+    fn part(&self, id: TypeId, scope: &Scope, binders: u32, room: &mut Room) -> Result<Ty, Memory>
         requires number { IsNumber self.now.types.now id }
         requires seen { AreSeen (locals_of scope.now).types }
         ensures { IfOk result (λ t. meant self.now.own.now (locals_of scope.now).types (ty_of t) ≡ Ok (part_of self.now binders id)) }
@@ -180,25 +168,19 @@ impl<'w, 'a> Walk<'w, 'a> {
 
     /// The same, where the room is entered.
     #[cycle(parts)]
-    #[tactic(auto, using(fc_syntax::proofs::View::view_rules, crate::proofs::Shown::shown_rules))]
-    fn below<'x>(
-        &self,
-        id: TypeId,
-        scope: &'x Scope<'x>,
-        binders: u32,
-        room: &mut Room,
-    ) -> Result<Ty, Memory>
+    #[tactic(auto, using(fc_syntax::proofs::View::view_rules, crate::proofs::Shown::part_shown), unfolding(fc_type_table::specs::Scopes::indexed, fc_type_table::specs::Nodes::kind_at))]
+    fn below(&self, id: TypeId, scope: &Scope, binders: u32, room: &mut Room) -> Result<Ty, Memory>
         requires number { IsNumber self.now.types.now id }
         requires seen { AreSeen (locals_of scope.now).types }
         ensures { IfOk result (λ t. meant self.now.own.now (locals_of scope.now).types (ty_of t) ≡ Ok (part_of self.now binders id)) }
     {
-        match self.types.piece(id) {
+        match *self.types.piece(id) {
             Piece::Star => Err(Memory),
             Piece::Hash => Err(Memory),
             Piece::Arrow(_, _) => Err(Memory),
             Piece::Bound(index, _) => self.variable(&*scope, index),
             Piece::Free(level, _) => self.outer_variable(&*scope, binders, level),
-            Piece::Con(name) => self.constructor(name),
+            Piece::Con(ref name) => self.constructor(name),
             Piece::IntHash => Ok(Ty::IntHash),
             Piece::App(head, argument) => self.application(head, argument, &*scope, binders, room),
             Piece::Fun(from, to) => self.function(from, to, &*scope, binders, room),
@@ -215,12 +197,12 @@ impl<'w, 'a> Walk<'w, 'a> {
 /// memory runs out, where the answer, with the kinds in it, would have more than `most` pieces or nest deeper than 2,000, and at a name
 /// without a module, which no type of a resolved module has.
 #[tactic(auto, using(crate::proofs::Shown::whole_shown))]
-pub fn named_type<'x, 'a>(
+pub fn named_type(
     alloc: Global,
     id: TypeId,
-    types: &TypeTable<'a>,
+    types: &TypeTable,
     own: &Text,
-    scope: &'x Scope<'x>,
+    scope: &Scope,
     variables: u32,
     most: u32,
 ) -> Result<Ty, Memory>
@@ -231,7 +213,7 @@ pub fn named_type<'x, 'a>(
 {
     let walk = Walk {
         alloc,
-        types,
+        types: &*types,
         own,
         variables,
     };

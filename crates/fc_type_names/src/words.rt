@@ -10,7 +10,7 @@ use itoa::Buffer;
 use std::alloc::Global;
 
 /// The word of the type variable at a distance. Fails where memory runs out, and at a distance that is out of scope.
-pub fn word_at<'x>(alloc: Global, scope: &'x Scope<'x>, distance: u32) -> Result<Text, Memory>
+pub fn word_at(alloc: Global, scope: &Scope, distance: u32) -> Result<Text, Memory>
     requires { AreSeen (locals_of scope.now).types }
     ensures { IfOk result (λ w. index_of (locals_of scope.now).types w ≡ Some distance) }
 {
@@ -33,7 +33,7 @@ fn candidate(alloc: Global, number: u32) -> Result<Text, Memory> {
 
 /// The first of the words `a`, `a_1`, `a_2` and so on, from the one of this number on, that no type variable in scope has. Where the
 /// number is that of the binders which took such words already, the first one is mostly free. Fails where memory or the words run out.
-pub fn free_word<'x>(alloc: Global, scope: &'x Scope<'x>, first: u32) -> Result<Text, Memory>
+pub fn free_word(alloc: Global, scope: &Scope, first: u32) -> Result<Text, Memory>
     ensures { IfOk result (λ w. index_of (locals_of scope.now).types w ≡ None) }
 {
     for number in first..u32::MAX {

@@ -1,4 +1,4 @@
-//! Tests of `fc_type_names`, which is proved once without them.
+//! Tests of `fc_type_names` and of `fc_type_trees`, which are proved once without them.
 #![tactic(auto)]
 
 #[cfg(test)]

@@ -1,12 +1,14 @@
-//! How large types may be that are named.
+//! How large types may be that are named, or made trees again.
 ghost use Rattle.std.specs.Prelude.{◌≡◌, IfOk, OnOk};
 ghost use Rattle.fc_type_table.specs.TypeTables.{Grows, IsNumber};
 
 use fc_scope::Scope;
-use fc_syntax::{Memory, NModule, Seq, Text};
+use fc_syntax::{Kind, Memory, NModule, NTy, Name, Role, Seq, Text};
 use fc_type_names::named_type;
-use fc_type_table::{TypeId, TypeTable};
-use fc_types::Declarations;
+use fc_type_scope::TypeScope;
+use fc_type_table::{NumberedKinds, TypeId, TypeTable};
+use fc_type_trees::tree_of_type;
+use fc_types::{Declarations, same_type};
 use std::alloc::Global;
 use std::process::Abort;
 use std::slice;
@@ -47,13 +49,8 @@ fn nested(table: &mut TypeTable, from: TypeId, times: u32) -> Result<TypeId, Mem
 }
 
 /// Three pieces have room among three and not among two; 2,000 levels are written, and one more is not.
-fn rooms<'a>(
-    rt: &impl Abort,
-    alloc: Global,
-    declared: &'a Declarations,
-    own: &Text,
-) -> Result<(), Fail> {
-    let mut table = TypeTable::new(alloc, declared);
+fn rooms(rt: &impl Abort, alloc: Global, declared: &Declarations, own: &Text) -> Result<(), Fail> {
+    let mut table = TypeTable::new(alloc, &*declared);
     let int = table.int_hash()?;
     let small = table.function(int, int)?;
     assert!(rt; has_room(alloc, small, &table, own, 3));
@@ -72,4 +69,51 @@ fn types_are_as_large_as_they_may_be(rt: HostRuntime) -> Result<(), Fail> {
     let declared = Declarations::new(alloc, slice::from_ref(&module))?;
     let own = Text::from_str(alloc, "M")?;
     rooms(&rt, alloc, &declared, &own)
+}
+
+/// The type `M.T`.
+fn constructor(alloc: Global) -> Result<NTy, Memory> {
+    let module = Text::from_str(alloc, "M")?;
+    let text = Text::from_str(alloc, "T")?;
+    Ok(NTy::Con(Name {
+        module: Some(module),
+        text,
+    }))
+}
+
+/// The type `forall (a : * -> *). forall (_ : a M.T ~R M.T). Int# -> a M.T`, of fourteen pieces: one of each form.
+fn every_form(alloc: Global) -> Result<NTy, Memory> {
+    let left = NTy::applied(alloc, NTy::Var(0), constructor(alloc)?)?;
+    let right = constructor(alloc)?;
+    let answer = NTy::applied(alloc, NTy::Var(0), constructor(alloc)?)?;
+    let function = NTy::function(alloc, NTy::IntHash, answer)?;
+    let behind = NTy::for_all_coercions(alloc, Role::R, left, right, function)?;
+    let kind = Kind::arrow(alloc, Kind::Star, Kind::Star)?;
+    let word = Text::from_str(alloc, "a")?;
+    NTy::for_all(alloc, word, kind, behind)
+}
+
+/// Whether a type that is put into a table comes back as it was, with room for so many pieces.
+#[tactic(auto, using(fc_type_table::proofs::KindsInScope::numbered_rules))]
+fn comes_back(alloc: Global, t: &NTy, declared: &Declarations, most: u32) -> Result<bool, Memory> {
+    let mut table = TypeTable::new(alloc, &*declared);
+    let scope = TypeScope {
+        kinds: &NumberedKinds::End,
+    };
+    let id = scope.read(t, &mut table)?;
+    match tree_of_type(alloc, id, &table, 0, most) {
+        Ok(back) => Ok(same_type(&back, t)),
+        Err(_) => Ok(false),
+    }
+}
+
+#[test]
+fn types_come_back_as_they_were(rt: HostRuntime) -> Result<(), Fail> {
+    let alloc = rt.alloc();
+    let module = empty_module(alloc)?;
+    let declared = Declarations::new(alloc, slice::from_ref(&module))?;
+    let t = every_form(alloc)?;
+    assert!(rt; comes_back(alloc, &t, &declared, 14)?);
+    assert!(rt; !comes_back(alloc, &t, &declared, 13)?);
+    Ok(())
 }

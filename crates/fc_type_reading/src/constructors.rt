@@ -30,11 +30,11 @@ fn type_argument<'a>(args: &'a [NArg], place: usize) -> Option<&'a NTy>
 
 /// A type applied to the argument at a place, if one is there and is a type.
 #[tactic(auto, using(fc_type_scope::proofs::Proven::table_rules, crate::proofs::Constructed::step_rules))]
-fn applied_at<'a>(
+fn applied_at(
     whole: TypeId,
-    args: &'a [NArg],
+    args: &[NArg],
     place: usize,
-    types: &mut TypeTable<'a>,
+    types: &mut TypeTable,
     scope: &TypeScope<'_>,
 ) -> Result<Option<TypeId>, Memory>
     requires scope { IsScope types.old scope.now }
@@ -55,11 +55,11 @@ fn applied_at<'a>(
 
 /// A type applied to the first so many arguments. Nothing where there are fewer, or where one of them is no type.
 #[tactic(auto, using(fc_type_scope::proofs::Proven::table_rules))]
-fn applied_to<'a>(
+fn applied_to(
     head: TypeId,
     count: usize,
-    args: &'a [NArg],
-    types: &mut TypeTable<'a>,
+    args: &[NArg],
+    types: &mut TypeTable,
     scope: &TypeScope<'_>,
 ) -> Result<Option<TypeId>, Memory>
     requires scope { IsScope types.old scope.now }
@@ -81,11 +81,11 @@ fn applied_to<'a>(
 /// The data type of a constructor of this name at the types that the constructor is applied to first, as many as its data type has
 /// parameters. Nothing where there are fewer arguments, or where one of these is no type.
 #[tactic(auto, using(fc_type_scope::proofs::Proven::table_rules, crate::proofs::Constructed::data_rules))]
-fn data_type_at<'a>(
-    name: &'a Name,
-    con: &DeclaredCon<'a>,
-    args: &'a [NArg],
-    types: &mut TypeTable<'a>,
+fn data_type_at(
+    name: &Name,
+    con: &DeclaredCon,
+    args: &[NArg],
+    types: &mut TypeTable,
     scope: &TypeScope<'_>,
 ) -> Result<Option<TypeId>, Memory>
     requires { IsScope types.old scope.now }
@@ -101,11 +101,11 @@ fn data_type_at<'a>(
 /// fewer arguments than the data type has parameters, or where one of these is no type. Fails only where memory runs out, and where one of
 /// these types names a variable out of scope.
 #[tactic(auto, using(fc_type_scope::proofs::Proven::table_rules))]
-pub(crate) fn constructor_type<'x, 'd, 'a>(
-    name: &'a Name,
-    args: &'a [NArg],
-    types: &mut TypeTable<'a>,
-    context: &Context<'x, 'd, 'a>,
+pub(crate) fn constructor_type(
+    name: &Name,
+    args: &[NArg],
+    types: &mut TypeTable,
+    context: &Context,
 ) -> Result<Option<TypeId>, Memory>
     requires { IsContext types.old context.now }
     ensures valid { IfOk result (λ r. IfSome r (λ id. IsType types.new (scope_in context.now.scope) id)) }

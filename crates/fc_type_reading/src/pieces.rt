@@ -34,7 +34,7 @@ pub(crate) fn judged_type(found: Result<TypeId, Flawed>) -> Result<Option<TypeId
 }
 
 /// The type of a jump to the join point at a distance: the written type of its join. Nothing where none is in tail reach there.
-pub(crate) fn jump_type<'x, 'd, 'a>(distance: u32, context: &Context<'x, 'd, 'a>) -> Option<TypeId>
+pub(crate) fn jump_type(distance: u32, context: &Context) -> Option<TypeId>
     ensures valid { (ns : List nodes.Node) → IsContextAt ns context.now → IfSome result (λ id. IsTypeAt ns (scope_in context.now.scope) id.0) }
     ensures view { (ns : List nodes.Node) → option_map (λ id. shown_at ns (scope_in context.now.scope) id.0) result ≡ from_some (λ (j : words.JoinPoint). Some j.result) (answered (at_distance (context_at ns context.now).joins distance)) }
 {
@@ -47,11 +47,11 @@ pub(crate) fn jump_type<'x, 'd, 'a>(distance: u32, context: &Context<'x, 'd, 'a>
 /// The type of what is of the type `head` and is applied to an argument, which is looked at only where it is a type. Nothing where no such
 /// argument is taken. Fails only where memory runs out, and where the argument is a type that names a variable out of scope.
 #[tactic(auto, using(fc_syntax::proofs::View::view_rules, fc_type_scope::proofs::Proven::table_rules, crate::proofs::Steps::applied_rules))]
-pub(crate) fn applied_type<'a>(
+pub(crate) fn applied_type(
     alloc: Global,
     head: TypeId,
-    arg: &'a NArg,
-    types: &mut TypeTable<'a>,
+    arg: &NArg,
+    types: &mut TypeTable,
     scope: &TypeScope<'_>,
 ) -> Result<Option<TypeId>, Memory>
     requires scope { IsScope types.old scope.now }
@@ -78,11 +78,11 @@ pub(crate) fn applied_type<'a>(
 
 /// The type of a cast by a coercion: its right end. Nothing where the coercion is refused; what the table then has is left open. Fails only
 /// where memory runs out, and where a type of the coercion names a variable out of scope.
-pub(crate) fn cast_type<'x, 'd, 'a>(
+pub(crate) fn cast_type(
     alloc: Global,
-    g: &'a NCo,
-    types: &mut TypeTable<'a>,
-    context: &'x Context<'x, 'd, 'a>,
+    g: &NCo,
+    types: &mut TypeTable,
+    context: &Context,
 ) -> Result<Option<TypeId>, Memory>
     requires { IsReadable types.old context.now }
     ensures valid { IfOk result (λ r. IfSome r (λ id. IsType types.new (scope_in context.now.scope) id)) }

@@ -22,13 +22,13 @@ use std::alloc::Global;
 
 /// The type of the body of a lambda over a binder that was entered here.
 #[cycle(reading)]
-fn type_below<'x, 'd, 'a>(
+fn type_below(
     alloc: Global,
-    body: &'a NExpr,
-    binder: &'a NBinder,
-    entered: &'x Entered<'a>,
-    types: &mut TypeTable<'a>,
-    context: &'x Context<'x, 'd, 'a>,
+    body: &NExpr,
+    binder: &NBinder,
+    entered: &Entered,
+    types: &mut TypeTable,
+    context: &Context,
 ) -> Result<Option<TypeId>, Memory>
     requires readable { IsReadable types.old context.now }
     requires entered_in { IsEntered (nodes_of types.old) (scope_in context.now.scope) (nbinder_of binder.now ∷ []) entered.now }
@@ -36,19 +36,19 @@ fn type_below<'x, 'd, 'a>(
     ensures view { IfOk result (λ r. option_map (λ id. shown types.new (kinds_past (nbinder_of binder.now ∷ []) (scope_in context.now.scope)) id) r ≡ words.type_read_off (modules_of_context context.now) (with_binder (nbinder_of binder.now) (context_in types.old context.now)) (nexpr_of body.now)) }
     ensures grows { IfOk result (λ r. OnSome r (Grows types.old types.new)) }
 {
-    let kinds = entered.kinds_behind(context.scope.kinds);
+    let kinds = (&*entered).kinds_behind(&*context.scope.kinds);
     let inner = (&*context).behind_binders(&*entered, &kinds);
     type_in(alloc, body, types, &inner)
 }
 
 /// The type of a lambda: what takes an argument for its binder and is then of the type of its body.
 #[cycle(reading)]
-fn lambda_type<'x, 'd, 'a>(
+fn lambda_type(
     alloc: Global,
-    body: &'a NExpr,
-    binder: &'a NBinder,
-    types: &mut TypeTable<'a>,
-    context: &'x Context<'x, 'd, 'a>,
+    body: &NExpr,
+    binder: &NBinder,
+    types: &mut TypeTable,
+    context: &Context,
 ) -> Result<Option<TypeId>, Memory>
     requires { IsReadable types.old context.now }
     ensures valid { IfOk result (λ r. IfSome r (λ id. IsType types.new (scope_in context.now.scope) id)) }
@@ -69,13 +69,13 @@ fn lambda_type<'x, 'd, 'a>(
 
 /// The type of the body of a let behind binds of these types.
 #[cycle(reading)]
-fn type_behind_binds<'x, 'd, 'a>(
+fn type_behind_binds(
     alloc: Global,
-    body: &'a NExpr,
-    binds: &'a [NBind],
-    ids: &'x [TypeId],
-    types: &mut TypeTable<'a>,
-    context: &'x Context<'x, 'd, 'a>,
+    body: &NExpr,
+    binds: &[NBind],
+    ids: &[TypeId],
+    types: &mut TypeTable,
+    context: &Context,
 ) -> Result<Option<TypeId>, Memory>
     requires readable { IsReadable types.old context.now }
     requires types_in { AreTypes types.old (scope_in context.now.scope) ids.now }
@@ -90,13 +90,13 @@ fn type_behind_binds<'x, 'd, 'a>(
 
 /// The type of a let: that of its body behind its binds, of which the written types alone are looked at.
 #[cycle(reading)]
-fn let_type<'x, 'd, 'a>(
+fn let_type(
     alloc: Global,
-    body: &'a NExpr,
-    binds: &'a [NBind],
+    body: &NExpr,
+    binds: &[NBind],
     recursive: bool,
-    types: &mut TypeTable<'a>,
-    context: &'x Context<'x, 'd, 'a>,
+    types: &mut TypeTable,
+    context: &Context,
 ) -> Result<Option<TypeId>, Memory>
     requires { IsReadable types.old context.now }
     ensures valid { IfOk result (λ r. IfSome r (λ id. IsType types.new (scope_in context.now.scope) id)) }
@@ -110,11 +110,11 @@ fn let_type<'x, 'd, 'a>(
 /// The type of an expression in a context.
 #[cycle(reading)]
 #[tactic(auto, using(fc_syntax::proofs::View::view_rules))]
-fn type_in<'x, 'd, 'a>(
+fn type_in(
     alloc: Global,
-    e: &'a NExpr,
-    types: &mut TypeTable<'a>,
-    context: &'x Context<'x, 'd, 'a>,
+    e: &NExpr,
+    types: &mut TypeTable,
+    context: &Context,
 ) -> Result<Option<TypeId>, Memory>
     requires { IsReadable types.old context.now }
     ensures valid { IfOk result (λ r. IfSome r (λ id. IsType types.new (scope_in context.now.scope) id)) }
@@ -148,11 +148,11 @@ fn type_in<'x, 'd, 'a>(
 /// the types of their binders, the type arguments that are put in, and the coercion of a cast, and nothing else. Fails only where memory runs
 /// out, and where a type that is read names a variable out of scope, as no type does of a module that has its names. Where nothing is answered,
 /// what the table then has is left open, as where a call on it fails.
-pub fn type_read_off<'x, 'd, 'a>(
+pub fn type_read_off(
     alloc: Global,
-    e: &'a NExpr,
-    types: &mut TypeTable<'a>,
-    context: &'x Context<'x, 'd, 'a>,
+    e: &NExpr,
+    types: &mut TypeTable,
+    context: &Context,
 ) -> Result<Option<TypeId>, Memory>
     requires context { IsContext types.old context.now }
     requires modules { modules_in types.old ≡ modules_of_context context.now }

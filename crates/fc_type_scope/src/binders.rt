@@ -17,12 +17,12 @@ use fc_type_table::{NumberedKind, NumberedKinds, TypeTable};
 use fc_types::is_lifted;
 use std::alloc::Global;
 
-/// Puts the kind of a binder's type variable, if it binds one, behind others.
+/// Puts the kind of a binder's type variable, if it binds one, behind others, the innermost last.
 #[tactic(auto, using(std::proofs::lemmas::Grind::common_steps, crate::proofs::ScopeKinds::push_rules), unfolding(crate::specs::Behind::binder_kinds))]
-pub(crate) fn add_kind<'b, 'a>(
+pub fn add_kind<'b>(
     own: &mut Seq<NumberedKind<'b>>,
     binder: &'b NBinder,
-    types: &mut TypeTable<'a>,
+    types: &mut TypeTable,
 ) -> Result<(), Memory>
     requires numbered { AreNumbered (nodes_of types.old) own.old }
     ensures numbered { OnOk result (AreNumbered (nodes_of types.new) own.new) }
@@ -50,14 +50,14 @@ fn first_fault(owed: Option<FaultKind>, more: Option<FaultKind>) -> Option<Fault
     }
 }
 
-impl<'x> TypeScope<'x> {
+impl TypeScope<'_> {
     /// The premises of a binder, and the fault of the one that is asked of it only behind what stands below it.
     #[tactic(auto, using(crate::proofs::ScopeKinds::binder_rules))]
-    pub fn binder_owes<'a>(
+    pub fn binder_owes(
         &self,
         alloc: Global,
-        binder: &'a NBinder,
-        types: &mut TypeTable<'a>,
+        binder: &NBinder,
+        types: &mut TypeTable,
     ) -> Result<Option<FaultKind>, Flawed>
         requires { IsScope types.old self.now }
         ensures says { Says (λ o. o) result (binder_judged (modules_in types.old) (scope_in self.now) (nbinder_of binder.now)) }
@@ -92,11 +92,11 @@ impl<'x> TypeScope<'x> {
     }
 
     /// The same of a part, whose place is told from the piece whose part it is.
-    fn part_owes<'a>(
+    fn part_owes(
         &self,
         alloc: Global,
-        binder: &'a NBinder,
-        types: &mut TypeTable<'a>,
+        binder: &NBinder,
+        types: &mut TypeTable,
         part: u32,
     ) -> Result<Option<FaultKind>, Flawed>
         requires { IsScope types.old self.now }
@@ -111,11 +111,11 @@ impl<'x> TypeScope<'x> {
 
     /// The premises of binders that stand together, each behind those before it, and the fault of the first one that is asked of them
     /// only behind what stands below them: the type of a value is of kind `*` or `#`.
-    pub fn binders_owe<'a>(
+    pub fn binders_owe(
         &self,
         alloc: Global,
-        binders: &'a [NBinder],
-        types: &mut TypeTable<'a>,
+        binders: &[NBinder],
+        types: &mut TypeTable,
     ) -> Result<Option<FaultKind>, Flawed>
         requires { IsScope types.old self.now }
         ensures says { Says (λ o. o) result (binders_judged (modules_in types.old) (scope_in self.now) 0 None (nbinders_of binders.now)) }

@@ -26,15 +26,15 @@ pub struct Ends {
     pub right: TypeId,
 }
 
-impl<'x> TypeScope<'x> {
+impl TypeScope<'_> {
     /// The written ends of a coercion variable. A type that names a variable out of scope is answered as out of memory.
     #[tactic(auto, using(crate::proofs::Numbers::number_rules, crate::proofs::Proven::ends_rules))]
-    pub fn read_ends<'a>(
+    pub fn read_ends(
         &self,
         role: Role,
-        left: &'a NTy,
-        right: &'a NTy,
-        types: &mut TypeTable<'a>,
+        left: &NTy,
+        right: &NTy,
+        types: &mut TypeTable,
     ) -> Result<Ends, Memory>
         requires { IsScope types.old self.now }
         ensures valid { IfOk result (λ e. IsEnds types.new (scope_in self.now) e) }
@@ -47,7 +47,7 @@ impl<'x> TypeScope<'x> {
     }
 
     /// What takes a coercion: the role and the ends that it asks, and the type behind it, if the type is one. Takes no memory.
-    pub fn coercion_asked<'a>(&self, id: TypeId, types: &TypeTable<'a>) -> Option<(Ends, TypeId)>
+    pub fn coercion_asked(&self, id: TypeId, types: &TypeTable) -> Option<(Ends, TypeId)>
         requires { IsType types.now (scope_in self.now) id }
         ensures ends_in { IfSome result (λ p. IsEnds types.now (scope_in self.now) p.0) }
         ensures body_in { IfSome result (λ p. IsType types.now (scope_in self.now) p.1) }
@@ -60,7 +60,7 @@ impl<'x> TypeScope<'x> {
     }
 
     /// Whether a coercion that proves the second is one that proves the first. Takes no memory.
-    pub fn same_ends<'a>(&self, asked: &Ends, given: &Ends, types: &TypeTable<'a>) -> bool
+    pub fn same_ends(&self, asked: &Ends, given: &Ends, types: &TypeTable) -> bool
         requires asked_in { IsEnds types.now (scope_in self.now) asked.now }
         requires given_in { IsEnds types.now (scope_in self.now) given.now }
         ensures { result ≡ (words.same_role asked.now.role given.now.role && (same_type (shown types.now (scope_in self.now) asked.now.left) (shown types.now (scope_in self.now) given.now.left) && same_type (shown types.now (scope_in self.now) asked.now.right) (shown types.now (scope_in self.now) given.now.right))) }

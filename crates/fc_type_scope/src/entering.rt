@@ -59,13 +59,13 @@ impl Counts {
     }
 }
 
-impl<'x> TypeScope<'x> {
+impl TypeScope<'_> {
     /// Enters one binder more, which stands behind those that were entered in this scope.
     fn enter_binder<'a>(
         &self,
         entered: &mut Entered<'a>,
         binder: &'a NBinder,
-        types: &mut TypeTable<'a>,
+        types: &mut TypeTable,
     ) -> Result<(), Memory>
         requires scope { IsScope types.old self.now }
         requires numbered { AreNumbered (nodes_of types.old) entered.old.kinds }
@@ -93,7 +93,7 @@ impl<'x> TypeScope<'x> {
         &self,
         alloc: Global,
         binders: &'a [NBinder],
-        types: &mut TypeTable<'a>,
+        types: &mut TypeTable,
     ) -> Result<Entered<'a>, Memory>
         requires { IsScope types.old self.now }
         ensures entered { IfOk result (λ e. IsEntered (nodes_of types.new) (scope_in self.now) (nbinders_of binders.now) e) }
@@ -115,7 +115,7 @@ impl<'x> TypeScope<'x> {
         &self,
         alloc: Global,
         binder: &'a NBinder,
-        types: &mut TypeTable<'a>,
+        types: &mut TypeTable,
     ) -> Result<Entered<'a>, Memory>
         requires { IsScope types.old self.now }
         ensures entered { IfOk result (λ e. IsEntered (nodes_of types.new) (scope_in self.now) (nbinder_of binder.now ∷ []) e) }
@@ -132,13 +132,13 @@ impl<'x> TypeScope<'x> {
 
     /// The type of what takes a coercion between two written types and is then of the type `answer`.
     #[tactic(auto, using(crate::proofs::Numbers::number_rules))]
-    fn over_coercion<'a>(
+    fn over_coercion(
         &self,
         role: Role,
-        left: &'a NTy,
-        right: &'a NTy,
+        left: &NTy,
+        right: &NTy,
         answer: TypeId,
-        types: &mut TypeTable<'a>,
+        types: &mut TypeTable,
     ) -> Result<TypeId, Memory>
         requires scope { IsScope types.old self.now }
         requires answer_in { IsType types.old (scope_in self.now) answer }
@@ -153,14 +153,14 @@ impl<'x> TypeScope<'x> {
 
     /// The type of what takes an argument for a binder that stands in this scope and is then of the type `answer`, which stands behind the
     /// binder. If it binds a value, the value's type is the one at this place.
-    fn over_binder<'a>(
+    fn over_binder(
         &self,
         alloc: Global,
-        binder: &'a NBinder,
+        binder: &NBinder,
         values: &[TypeId],
         place: usize,
         answer: TypeId,
-        types: &mut TypeTable<'a>,
+        types: &mut TypeTable,
     ) -> Result<TypeId, Memory>
         requires scope { IsScope types.old self.now }
         requires value_in { IsValueAt (nodes_of types.old) (scope_in self.now) (nbinder_of binder.now) values.now place }
@@ -179,13 +179,13 @@ impl<'x> TypeScope<'x> {
     }
 
     /// The type of what takes arguments for binders and is then of the type `answer`, which stands behind them.
-    pub fn function_over<'a>(
+    pub fn function_over(
         &self,
         alloc: Global,
-        binders: &'a [NBinder],
-        entered: &Entered<'a>,
+        binders: &[NBinder],
+        entered: &Entered,
         answer: TypeId,
-        types: &mut TypeTable<'a>,
+        types: &mut TypeTable,
     ) -> Result<TypeId, Memory>
         requires scope { IsScope types.old self.now }
         requires entered_in { IsEntered (nodes_of types.old) (scope_in self.now) (nbinders_of binders.now) entered.now }
@@ -216,12 +216,12 @@ impl<'x> TypeScope<'x> {
     /// The type of what takes arguments for binders and is then of the type `answer`, which stands outside them, such as the type of a join
     /// point. Each part of the binders is visited once, and no part of the answer.
     #[tactic(auto, unfolding(crate::specs::Scopes::scope_in))]
-    pub fn function_to<'a>(
+    pub fn function_to(
         &self,
-        binders: &'a [NBinder],
-        entered: &Entered<'a>,
+        binders: &[NBinder],
+        entered: &Entered,
         answer: TypeId,
-        types: &mut TypeTable<'a>,
+        types: &mut TypeTable,
     ) -> Result<TypeId, Memory>
         requires scope { IsScope types.old self.now }
         requires entered_in { IsEntered (nodes_of types.old) (scope_in self.now) (nbinders_of binders.now) entered.now }
@@ -236,13 +236,13 @@ impl<'x> TypeScope<'x> {
     }
 
     /// The type of what takes an argument for a binder and is then of the type `answer`, which stands behind it.
-    pub fn function_over_one<'a>(
+    pub fn function_over_one(
         &self,
         alloc: Global,
-        binder: &'a NBinder,
-        entered: &Entered<'a>,
+        binder: &NBinder,
+        entered: &Entered,
         answer: TypeId,
-        types: &mut TypeTable<'a>,
+        types: &mut TypeTable,
     ) -> Result<TypeId, Memory>
         requires scope { IsScope types.old self.now }
         requires entered_in { IsEntered (nodes_of types.old) (scope_in self.now) (nbinder_of binder.now ∷ []) entered.now }

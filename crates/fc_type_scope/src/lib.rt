@@ -7,6 +7,7 @@ mod entering;
 mod scope;
 mod scoped;
 
+pub use binders::add_kind;
 pub use ends::Ends;
 pub use entering::Entered;
 pub use scope::{Kinded, TypeScope};

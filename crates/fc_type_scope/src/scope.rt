@@ -38,7 +38,7 @@ pub struct Kinded {
     pub kind: TypeId,
 }
 
-impl<'x> TypeScope<'x> {
+impl TypeScope<'_> {
     /// How many type variables are in scope, where the number can be told.
     #[tactic(auto, unfolding(crate::specs::Scopes::scope_in))]
     pub(crate) fn variables(&self) -> Result<u32, Memory>
@@ -49,7 +49,7 @@ impl<'x> TypeScope<'x> {
 
     /// A written type. A type that names a variable out of scope is answered as out of memory: no module that has its names has one.
     #[tactic(auto, unfolding(crate::specs::Scopes::scope_in))]
-    pub fn read<'a>(&self, t: &'a NTy, types: &mut TypeTable<'a>) -> Result<TypeId, Memory>
+    pub fn read(&self, t: &NTy, types: &mut TypeTable) -> Result<TypeId, Memory>
         requires { IsScope types.old self.now }
         ensures valid { IfOk result (λ id. IsType types.new (scope_in self.now) id) }
         ensures view { IfOk result (λ id. shown types.new (scope_in self.now) id ≡ nty_of t.now) }
@@ -65,12 +65,7 @@ impl<'x> TypeScope<'x> {
     /// A written type with its kind, or the first premise of its kind that fails: as `TypeTable::kind_or_fault` tells it. A type that names a
     /// variable out of scope is answered as out of memory.
     #[tactic(auto, using(fc_type_table::proofs::Numbers::number_rules))]
-    pub fn kinded<'a>(
-        &self,
-        alloc: Global,
-        t: &'a NTy,
-        types: &mut TypeTable<'a>,
-    ) -> Result<Kinded, Flawed>
+    pub fn kinded(&self, alloc: Global, t: &NTy, types: &mut TypeTable) -> Result<Kinded, Flawed>
         requires { IsScope types.old self.now }
         ensures valid { IfOk result (λ k. IsType types.new (scope_in self.now) k.ty) }
         ensures view { IfOk result (λ k. shown types.new (scope_in self.now) k.ty ≡ nty_of t.now) }
@@ -84,11 +79,11 @@ impl<'x> TypeScope<'x> {
     }
 
     /// The same of a part, whose place is told from the piece whose part it is.
-    pub fn kinded_part<'a>(
+    pub fn kinded_part(
         &self,
         alloc: Global,
-        t: &'a NTy,
-        types: &mut TypeTable<'a>,
+        t: &NTy,
+        types: &mut TypeTable,
         part: u32,
     ) -> Result<Kinded, Flawed>
         requires { IsScope types.old self.now }
@@ -106,12 +101,7 @@ impl<'x> TypeScope<'x> {
 
     /// Puts a written type behind others.
     #[tactic(auto, using(crate::proofs::Numbers::number_rules))]
-    pub fn add<'a>(
-        &self,
-        ids: &mut Seq<TypeId>,
-        t: &'a NTy,
-        types: &mut TypeTable<'a>,
-    ) -> Result<(), Memory>
+    pub fn add(&self, ids: &mut Seq<TypeId>, t: &NTy, types: &mut TypeTable) -> Result<(), Memory>
         requires scope { IsScope types.old self.now }
         requires ids_in { AreTypes types.old (scope_in self.now) ids.old }
         ensures ids_in { OnOk result (AreTypes types.new (scope_in self.now) ids.new) }
@@ -124,7 +114,7 @@ impl<'x> TypeScope<'x> {
 
     /// A type variable by its distance. One out of scope is answered as out of memory.
     #[tactic(auto, unfolding(crate::specs::Scopes::scope_in))]
-    pub fn variable<'a>(&self, distance: u32, types: &mut TypeTable<'a>) -> Result<TypeId, Memory>
+    pub fn variable(&self, distance: u32, types: &mut TypeTable) -> Result<TypeId, Memory>
         requires { IsScope types.old self.now }
         ensures valid { IfOk result (λ id. IsType types.new (scope_in self.now) id) }
         ensures view { IfOk result (λ id. shown types.new (scope_in self.now) id ≡ NTVar distance) }
@@ -138,7 +128,7 @@ impl<'x> TypeScope<'x> {
     }
 
     /// The type `Int#`.
-    pub fn int_hash<'a>(&self, types: &mut TypeTable<'a>) -> Result<TypeId, Memory>
+    pub fn int_hash(&self, types: &mut TypeTable) -> Result<TypeId, Memory>
         ensures valid { IfOk result (λ id. IsType types.new (scope_in self.now) id) }
         ensures view { IfOk result (λ id. shown types.new (scope_in self.now) id ≡ NTInt) }
         ensures grows { OnOk result (Grows types.old types.new) }
@@ -147,11 +137,11 @@ impl<'x> TypeScope<'x> {
     }
 
     /// A data type, newtype or family by its name: the module before the dot, if there is one, and the word itself.
-    pub fn constructor<'a>(
+    pub fn constructor(
         &self,
-        qualifier: Option<&'a Text>,
-        text: &'a Text,
-        types: &mut TypeTable<'a>,
+        qualifier: Option<&Text>,
+        text: &Text,
+        types: &mut TypeTable,
     ) -> Result<TypeId, Memory>
         ensures valid { IfOk result (λ id. IsType types.new (scope_in self.now) id) }
         ensures view { IfOk result (λ id. shown types.new (scope_in self.now) id ≡ NTCon (name_from (option_map (λ w. w.now) qualifier.entry) text.now)) }
@@ -161,11 +151,11 @@ impl<'x> TypeScope<'x> {
     }
 
     /// The type of functions from one type to the other.
-    pub fn function<'a>(
+    pub fn function(
         &self,
         from: TypeId,
         to: TypeId,
-        types: &mut TypeTable<'a>,
+        types: &mut TypeTable,
     ) -> Result<TypeId, Memory>
         requires from_in { IsType types.old (scope_in self.now) from }
         requires to_in { IsType types.old (scope_in self.now) to }
@@ -177,11 +167,11 @@ impl<'x> TypeScope<'x> {
     }
 
     /// A type applied to another.
-    pub fn application<'a>(
+    pub fn application(
         &self,
         head: TypeId,
         argument: TypeId,
-        types: &mut TypeTable<'a>,
+        types: &mut TypeTable,
     ) -> Result<TypeId, Memory>
         requires head_in { IsType types.old (scope_in self.now) head }
         requires argument_in { IsType types.old (scope_in self.now) argument }
@@ -193,12 +183,12 @@ impl<'x> TypeScope<'x> {
     }
 
     /// The `forall` over a variable of a kind, with a body behind it.
-    pub fn forall<'a>(
+    pub fn forall(
         &self,
         alloc: Global,
         kind: &Kind,
         body: TypeId,
-        types: &mut TypeTable<'a>,
+        types: &mut TypeTable,
     ) -> Result<TypeId, Memory>
         requires { IsType types.old (kind_of kind.now ∷ scope_in self.now) body }
         ensures valid { IfOk result (λ id. IsType types.new (scope_in self.now) id) }
@@ -210,12 +200,12 @@ impl<'x> TypeScope<'x> {
     }
 
     /// A `forall` at a type, if the first type is a `forall`.
-    pub fn instantiate<'a>(
+    pub fn instantiate(
         &self,
         alloc: Global,
         forall: TypeId,
         by: TypeId,
-        types: &mut TypeTable<'a>,
+        types: &mut TypeTable,
     ) -> Result<Option<TypeId>, Memory>
         requires forall_in { IsType types.old (scope_in self.now) forall }
         requires by_in { IsType types.old (scope_in self.now) by }
@@ -227,7 +217,7 @@ impl<'x> TypeScope<'x> {
     }
 
     /// Whether a type is a `forall` over a variable of the kind of this number. Takes no memory.
-    pub fn takes_kind<'a>(&self, id: TypeId, kind: TypeId, types: &TypeTable<'a>) -> bool
+    pub fn takes_kind(&self, id: TypeId, kind: TypeId, types: &TypeTable) -> bool
         requires type_in { IsType types.now (scope_in self.now) id }
         requires kind_in { IsKindId types.now kind }
         ensures { result ≡ has_kind (forall_kind (shown types.now (scope_in self.now) id)) (kind_shown types.now kind) }
@@ -239,7 +229,7 @@ impl<'x> TypeScope<'x> {
     }
 
     /// Whether a type has the kind `*`. A type that was never judged may have no kind. Takes no memory.
-    pub fn has_kind_star<'a>(&self, id: TypeId, types: &TypeTable<'a>) -> bool
+    pub fn has_kind_star(&self, id: TypeId, types: &TypeTable) -> bool
         requires { IsType types.now (scope_in self.now) id }
         ensures { result ≡ is_star_found (kind_or_fault (modules_in types.now) (scope_in self.now) (shown types.now (scope_in self.now) id)) }
     {
@@ -250,7 +240,7 @@ impl<'x> TypeScope<'x> {
     }
 
     /// Whether a type that stands behind more type variables than those of this scope mentions one of them.
-    pub fn escapes<'a>(&self, id: TypeId, types: &TypeTable<'a>) -> Result<bool, Memory>
+    pub fn escapes(&self, id: TypeId, types: &TypeTable) -> Result<bool, Memory>
         requires { IsNumber types.now id }
         ensures { IfOk result (λ b. (bs : List trees.Kind) → IsType types.now (bs ++ scope_in self.now) id → b ≡ has_innermost (length bs) 0 (shown types.now (bs ++ scope_in self.now) id)) }
     {
@@ -259,7 +249,7 @@ impl<'x> TypeScope<'x> {
     }
 
     /// Whether two types are the same.
-    pub fn same<'a>(&self, left: TypeId, right: TypeId, types: &TypeTable<'a>) -> bool
+    pub fn same(&self, left: TypeId, right: TypeId, types: &TypeTable) -> bool
         requires left_in { IsType types.now (scope_in self.now) left }
         requires right_in { IsType types.now (scope_in self.now) right }
         ensures { result ≡ same_type (shown types.now (scope_in self.now) left) (shown types.now (scope_in self.now) right) }
@@ -268,7 +258,7 @@ impl<'x> TypeScope<'x> {
     }
 
     /// Whether a type is `Int#`.
-    pub fn is_int_hash<'a>(&self, id: TypeId, types: &TypeTable<'a>) -> bool
+    pub fn is_int_hash(&self, id: TypeId, types: &TypeTable) -> bool
         requires { IsType types.now (scope_in self.now) id }
         ensures { result ≡ is_int (shown types.now (scope_in self.now) id) }
     {
@@ -276,7 +266,7 @@ impl<'x> TypeScope<'x> {
     }
 
     /// Whether a place of a type takes a term: an unlifted place takes an atom.
-    pub fn atom_fits<'a>(&self, id: TypeId, atom: bool, types: &TypeTable<'a>) -> bool
+    pub fn atom_fits(&self, id: TypeId, atom: bool, types: &TypeTable) -> bool
         requires { IsType types.now (scope_in self.now) id }
         ensures { result ≡ words.atom_fits (shown types.now (scope_in self.now) id) atom }
     {
@@ -284,7 +274,7 @@ impl<'x> TypeScope<'x> {
     }
 
     /// Where a function goes from and to, if the type is one of functions.
-    pub fn function_parts<'a>(&self, id: TypeId, types: &TypeTable<'a>) -> Option<(TypeId, TypeId)>
+    pub fn function_parts(&self, id: TypeId, types: &TypeTable) -> Option<(TypeId, TypeId)>
         requires { IsType types.now (scope_in self.now) id }
         ensures valid { IfSome result (λ ends. IsType types.now (scope_in self.now) ends.0 × IsType types.now (scope_in self.now) ends.1) }
         ensures view { option_map (λ ends. (shown types.now (scope_in self.now) ends.0, shown types.now (scope_in self.now) ends.1)) result ≡ function_ends (shown types.now (scope_in self.now) id) }
@@ -293,11 +283,7 @@ impl<'x> TypeScope<'x> {
     }
 
     /// The head and the argument, if the type is an application.
-    pub fn application_parts<'a>(
-        &self,
-        id: TypeId,
-        types: &TypeTable<'a>,
-    ) -> Option<(TypeId, TypeId)>
+    pub fn application_parts(&self, id: TypeId, types: &TypeTable) -> Option<(TypeId, TypeId)>
         requires { IsType types.now (scope_in self.now) id }
         ensures valid { IfSome result (λ ends. IsType types.now (scope_in self.now) ends.0 × IsType types.now (scope_in self.now) ends.1) }
         ensures view { option_map (λ ends. (shown types.now (scope_in self.now) ends.0, shown types.now (scope_in self.now) ends.1)) result ≡ application_ends (shown types.now (scope_in self.now) id) }

@@ -23,10 +23,10 @@ pub struct Spine {
 
 /// The head of a type, and what it is applied to. Fails only where memory runs out.
 #[tactic(auto, using(crate::proofs::Heads::head_rules))]
-pub fn spine_of<'a>(
+pub fn spine_of(
     alloc: Global,
     ty: TypeId,
-    types: &TypeTable<'a>,
+    types: &TypeTable,
     scope: &TypeScope<'_>,
 ) -> Result<Spine, Memory>
     requires { IsType types.now (scope_in scope.now) ty }
@@ -46,11 +46,11 @@ pub fn spine_of<'a>(
 
 /// Whether a type is the data type of a constructor of this name, at as many types as it has parameters.
 #[tactic(auto, using(fc_type_scope::proofs::Proven::table_rules, crate::proofs::Heads::data_rules))]
-pub fn is_data_of<'a>(
-    name: &'a Name,
-    con: &DeclaredCon<'a>,
+pub fn is_data_of(
+    name: &Name,
+    con: &DeclaredCon,
     spine: &Spine,
-    types: &mut TypeTable<'a>,
+    types: &mut TypeTable,
     scope: &TypeScope<'_>,
 ) -> Result<bool, Memory>
     requires { IsType types.old (scope_in scope.now) spine.now.head }
@@ -64,11 +64,11 @@ pub fn is_data_of<'a>(
 
 /// A type of `forall`s at types, one after the other, the last one first; nothing where one is no `forall`.
 #[tactic(auto, using(fc_type_scope::proofs::Proven::table_rules))]
-pub fn type_at<'a>(
+pub fn type_at(
     alloc: Global,
     ty: TypeId,
     arguments: &[TypeId],
-    types: &mut TypeTable<'a>,
+    types: &mut TypeTable,
     scope: &TypeScope<'_>,
 ) -> Result<Option<TypeId>, Memory>
     requires type_in { IsType types.old (scope_in scope.now) ty }
@@ -91,12 +91,12 @@ pub fn type_at<'a>(
 
 /// Whether a type of `forall`s at what a spine is applied to is the type `wanted`.
 #[tactic(auto, using(fc_type_scope::proofs::Proven::table_rules))]
-pub fn is_at<'a>(
+pub fn is_at(
     alloc: Global,
     ty: TypeId,
     spine: &Spine,
     wanted: TypeId,
-    types: &mut TypeTable<'a>,
+    types: &mut TypeTable,
     scope: &TypeScope<'_>,
 ) -> Result<bool, Memory>
     requires type_in { IsType types.old (scope_in scope.now) ty }

@@ -42,14 +42,11 @@ IsNumbered-grows old new k more h = record {
   shows = tables.kind_at-extends old new k.id.0 more h.is_kind.within ∙ h.shows;
 }
 
-all_grow : (old new : List Node) (ks : List NumberedKind) → Extends old new → AreNumbered old ks → AreNumbered new ks
-all_grow old new [] more hs = record { each = All-nil (IsNumbered new) }
-all_grow old new (k ∷ ks) more hs =
-    let rest = all_grow old new ks more (record { each = All-tail (IsNumbered old) k ks hs.each }) in
-    record { each = All-cons (IsNumbered new) k ks (IsNumbered-grows old new k more (All-head (IsNumbered old) k ks hs.each)) rest.each }
-
 pub AreNumbered-grows : (old new : List Node) (ks : List NumberedKind) → Extends old new → AreNumbered old ks → AreNumbered new ks
-AreNumbered-grows old new ks more hs = all_grow old new ks more hs
+AreNumbered-grows old new [] more hs = record { each = All-nil (IsNumbered new) }
+AreNumbered-grows old new (k ∷ ks) more hs =
+    let rest = AreNumbered-grows old new ks more (record { each = All-tail (IsNumbered old) k ks hs.each }) in
+    record { each = All-cons (IsNumbered new) k ks (IsNumbered-grows old new k more (All-head (IsNumbered old) k ks hs.each)) rest.each }
 
 -- a number that was read of a kind
 pub IsNumbered-tree : (ns : List Node) (k : NumberedKind) → k.id.0 < length ns → tree_at ns k.id.0 ≡ kind_tree (kind_of k.kind.now) → IsNumbered ns k

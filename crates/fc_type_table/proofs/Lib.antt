@@ -10,6 +10,7 @@ pub mod Levels
 pub mod ScopedTrees
 pub mod Walked
 pub mod Parameters
+pub mod Pieces
 pub mod Interned
 pub mod Numbers
 pub mod Shown

@@ -11,6 +11,10 @@ use Rattle.fc_type_table.specs.declared.numbered.NumberedKinds.{NumberedKinds, E
 abbrev pub own_kinds : List NumberedKind → List trees.Kind
 own_kinds ks = map (λ k. kind_of k.kind.now) ks
 
+-- the kinds of variables that stand together before those around them, the last one the innermost
+abbrev pub behind_group : List trees.Kind → List trees.Kind → List trees.Kind
+behind_group ks outer = reverse ks ++ outer
+
 -- the variables in scope, the innermost first
 abbrev pub numbered_of : NumberedKinds → List NumberedKind
 numbered_of End = []
@@ -21,7 +25,7 @@ numbered_of (Group' ks p rest) = reverse ks.now ++ numbered_of rest
 abbrev pub kinds_of : NumberedKinds → List trees.Kind
 kinds_of End = []
 kinds_of (Kind' k p rest) = kind_of k.kind.now ∷ kinds_of rest
-kinds_of (Group' ks p rest) = reverse (own_kinds ks.now) ++ kinds_of rest
+kinds_of (Group' ks p rest) = behind_group (own_kinds ks.now) (kinds_of rest)
 
 -- the number shows the kind
 pub record IsNumbered (ns : List Node) (k : NumberedKind) : Type 0 where

@@ -11,7 +11,7 @@ use crate::node::{NameKey, Piece, TypeId};
 use crate::table::TypeTable;
 use fc_syntax::{Kind, Memory, Role, Text};
 
-impl<'a> TypeTable<'a> {
+impl TypeTable<'_> {
     /// The type `Int#`.
     #[tactic(auto, unfolding(crate::specs::Scopes::shown_at, crate::specs::Scopes::indexed))]
     pub fn int_hash(&mut self) -> Result<TypeId, Memory>
@@ -25,17 +25,14 @@ impl<'a> TypeTable<'a> {
 
     /// A data type, newtype or family by its name: the module before the dot, if there is one, and the word itself.
     #[tactic(auto, unfolding(crate::specs::Scopes::shown_at, crate::specs::Scopes::indexed))]
-    pub fn constructor(
-        &mut self,
-        qualifier: Option<&'a Text>,
-        text: &'a Text,
-    ) -> Result<TypeId, Memory>
+    pub fn constructor(&mut self, qualifier: Option<&Text>, text: &Text) -> Result<TypeId, Memory>
         ensures number { IfOk result (λ id. IsNumber self.new id) }
         ensures valid { IfOk result (λ id. (ks : List trees.Kind) → IsType self.new ks id) }
         ensures view { IfOk result (λ id. (ks : List trees.Kind) → shown self.new ks id ≡ NTCon (name_from (option_map (λ w. w.now) qualifier.entry) text.now)) }
         ensures grows { OnOk result (Grows self.old self.new) }
     {
-        self.name(NameKey::new(qualifier, text))
+        let key = NameKey::new(qualifier, text)?;
+        self.name(key)
     }
 
     /// The innermost variable, of this kind, of a context with so many type variables outside it.

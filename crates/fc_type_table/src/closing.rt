@@ -16,7 +16,7 @@ use fc_syntax::{Kind, Memory};
 use indexmap::IndexMap;
 use std::alloc::Global;
 
-impl<'a> TypeTable<'a> {
+impl TypeTable<'_> {
     /// The number of a part with the variable of a level bound `depth` binders above it. What was done before is not done again,
     /// and a part without a variable of that level or a further one is its own answer.
     #[cycle(close)]
@@ -68,7 +68,7 @@ impl<'a> TypeTable<'a> {
         ensures modules { OnOk result (modules_in self.new ≡ modules_in self.old) }
         ensures seen { OnOk result (Closed (nodes_of self.new) level done.new) }
     {
-        match self.piece(part) {
+        match *self.piece(part) {
             Piece::Star => Ok(part),
             Piece::Hash => Ok(part),
             Piece::Arrow(_, _) => Ok(part),

@@ -19,7 +19,7 @@ use fc_model::{Flawed, deeper, flaw_here};
 use fc_syntax::{FaultKind, NDecl, Role};
 use std::alloc::Global;
 
-impl<'a> TypeTable<'a> {
+impl TypeTable<'_> {
     /// The kind that was told of a type as the head of so many arguments, where it has one.
     #[tactic(auto, using(crate::proofs::KindsShown::head_rules))]
     fn kind_as_head(&self, id: TypeId, args: u32) -> Option<TypeId>
@@ -63,11 +63,11 @@ impl<'a> TypeTable<'a> {
 
     /// Why a name has no kind as the head of so many arguments: nothing declares it, or it is a family with more parameters.
     #[tactic(auto, using(fc_syntax::proofs::View::view_rules))]
-    fn name_fault(&self, alloc: Global, name: NameKey, args: u32) -> Flawed
-        requires { answered (name_kind (modules_in self.now) (name_of name) args) ≡ None }
-        ensures { Refuses result (name_kind (modules_in self.now) (name_of name.entry) args) }
+    fn name_fault(&self, alloc: Global, name: &NameKey, args: u32) -> Flawed
+        requires { answered (name_kind (modules_in self.now) (name_of name.now) args) ≡ None }
+        ensures { Refuses result (name_kind (modules_in self.now) (name_of name.now) args) }
     {
-        match self.declarations().type_at(name.module, name.text) {
+        match self.declared(name) {
             None => flaw_here(alloc, FaultKind::Unbound),
             Some(decl) => match decl {
                 NDecl::DataType(_, _, _) => flaw_here(alloc, FaultKind::Unbound),
@@ -191,13 +191,13 @@ impl<'a> TypeTable<'a> {
         requires none { answered (kind_or_fault_in (modules_in self.now) args (tree_at (nodes_of self.now) id.0)) ≡ None }
         ensures { Refuses result (kind_or_fault_in (modules_in self.now) args (tree_at (nodes_of self.now) id.0)) }
     {
-        match self.piece(id) {
+        match *self.piece(id) {
             Piece::Star => flaw_here(alloc, FaultKind::Unbound),
             Piece::Hash => flaw_here(alloc, FaultKind::Unbound),
             Piece::Arrow(_, _) => flaw_here(alloc, FaultKind::Unbound),
             Piece::Bound(_, _) => flaw_here(alloc, FaultKind::Unbound),
             Piece::Free(_, _) => flaw_here(alloc, FaultKind::Unbound),
-            Piece::Con(name) => self.name_fault(alloc, name, args),
+            Piece::Con(ref name) => self.name_fault(alloc, name, args),
             Piece::IntHash => flaw_here(alloc, FaultKind::Unbound),
             Piece::App(head, argument) => self.application_fault(alloc, head, argument, args),
             Piece::Fun(from, to) => self.function_fault(alloc, from, to, args),

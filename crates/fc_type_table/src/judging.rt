@@ -12,7 +12,7 @@ use crate::node::{Judged, NameKey, Piece, TypeId};
 use crate::table::TypeTable;
 use fc_syntax::{Memory, Role};
 
-impl<'a> TypeTable<'a> {
+impl TypeTable<'_> {
     /// The kind of a head of a kind that is applied to a type of a kind.
     #[tactic(auto, unfolding(crate::specs::Nodes::kind_at))]
     fn kind_applied(&self, head: TypeId, argument: TypeId) -> Option<TypeId>
@@ -21,7 +21,7 @@ impl<'a> TypeTable<'a> {
         ensures is_kind { IfSome result (λ k. IsKindId self.now k) }
         ensures view { option_map (λ k. kind_shown self.now k) result ≡ kind_of_application (Some (kind_shown self.now head)) (Some (kind_shown self.now argument)) }
     {
-        match self.piece(head) {
+        match *self.piece(head) {
             Piece::Star => None,
             Piece::Hash => None,
             Piece::Arrow(from, to) => {
@@ -238,14 +238,14 @@ impl<'a> TypeTable<'a> {
     }
 
     /// What is told of the type of a piece.
-    fn judge(&mut self, piece: Piece<'a>) -> Result<Judged, Memory>
-        requires parts { parts_end piece ≤ length (nodes_of self.old) }
-        requires kinds { HasKinds (piece_over (tree_at (nodes_of self.old)) piece) }
-        ensures judged { IfOk result (λ j. Judges (modules_in self.new) (nodes_of self.new) (piece_over (tree_at (nodes_of self.new)) piece.entry) j) }
+    fn judge(&mut self, piece: &Piece) -> Result<Judged, Memory>
+        requires parts { parts_end piece.now ≤ length (nodes_of self.old) }
+        requires kinds { HasKinds (piece_over (tree_at (nodes_of self.old)) piece.now) }
+        ensures judged { IfOk result (λ j. Judges (modules_in self.new) (nodes_of self.new) (piece_over (tree_at (nodes_of self.new)) piece.now) j) }
         ensures extends { OnOk result (Extends (nodes_of self.old) (nodes_of self.new)) }
         ensures modules { OnOk result (modules_in self.new ≡ modules_in self.old) }
     {
-        match piece {
+        match *piece {
             Piece::Star => Ok(Judged::of_kind(true)),
             Piece::Hash => Ok(Judged::of_kind(false)),
             Piece::Arrow(from, to) => {
@@ -254,7 +254,7 @@ impl<'a> TypeTable<'a> {
             }
             Piece::Bound(_, kind) => Ok(Judged::whole(Some(kind))),
             Piece::Free(_, kind) => Ok(Judged::whole(Some(kind))),
-            Piece::Con(name) => self.judge_name(name),
+            Piece::Con(ref name) => self.judge_name(name),
             Piece::IntHash => self.judge_int(),
             Piece::App(head, argument) => Ok(self.judge_application(head, argument)),
             Piece::Fun(from, to) => self.judge_function(from, to),
@@ -266,29 +266,30 @@ impl<'a> TypeTable<'a> {
     }
 
     /// The number of the type of a piece. The types before keep their numbers.
-    pub(crate) fn intern(&mut self, piece: Piece<'a>) -> Result<TypeId, Memory>
+    pub(crate) fn intern(&mut self, piece: Piece) -> Result<TypeId, Memory>
         requires parts { parts_end piece ≤ length (nodes_of self.old) }
         requires kinds { HasKinds (piece_over (tree_at (nodes_of self.old)) piece) }
         ensures within { IfOk result (λ id. id.0 < length (nodes_of self.new)) }
-        ensures shown { IfOk result (λ id. tree_at (nodes_of self.new) id.0 ≡ piece_over (tree_at (nodes_of self.old)) piece.entry) }
+        ensures shown { IfOk result (λ id. tree_at (nodes_of self.new) id.0 ≡ piece_over (tree_at (nodes_of self.old)) piece) }
         ensures extends { OnOk result (Extends (nodes_of self.old) (nodes_of self.new)) }
         ensures modules { OnOk result (modules_in self.new ≡ modules_in self.old) }
     {
-        let judged = self.judge(piece)?;
+        let judged = self.judge(&piece)?;
         self.put(piece, judged)
     }
 
     /// The number of the type of a name, whose kind is told once.
-    pub(crate) fn name(&mut self, name: NameKey<'a>) -> Result<TypeId, Memory>
+    pub(crate) fn name(&mut self, name: NameKey) -> Result<TypeId, Memory>
         ensures within { IfOk result (λ id. id.0 < length (nodes_of self.new)) }
-        ensures shown { IfOk result (λ id. tree_at (nodes_of self.new) id.0 ≡ LCon (name_of name.entry)) }
+        ensures shown { IfOk result (λ id. tree_at (nodes_of self.new) id.0 ≡ LCon (name_of name)) }
         ensures extends { OnOk result (Extends (nodes_of self.old) (nodes_of self.new)) }
         ensures modules { OnOk result (modules_in self.new ≡ modules_in self.old) }
     {
-        if let Some(answer) = self.noted_name(name) {
+        if let Some(answer) = self.noted_name(&name) {
             return Ok(answer);
         }
-        let answer = self.intern(Piece::Con(name))?;
+        let key = name.copy()?;
+        let answer = self.intern(Piece::Con(key))?;
         self.keep_name(name, answer)?;
         Ok(answer)
     }

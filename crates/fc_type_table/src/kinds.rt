@@ -15,7 +15,7 @@ use crate::node::{DEEPEST, Judged, Piece, TypeId};
 use crate::table::TypeTable;
 use fc_syntax::{Kind, Memory};
 
-impl<'a> TypeTable<'a> {
+impl TypeTable<'_> {
     /// The kind `*`.
     pub(crate) fn star(&mut self) -> Result<TypeId, Memory>
         ensures within { IfOk result (λ id. id.0 < length (nodes_of self.new)) }
@@ -94,7 +94,7 @@ impl<'a> TypeTable<'a> {
         requires { IsKindId self.now kind }
         ensures { result ≡ words.is_star (kind_shown self.now kind) }
     {
-        match self.piece(kind) {
+        match *self.piece(kind) {
             Piece::Star => true,
             Piece::Hash => false,
             Piece::Arrow(_, _) => false,
@@ -115,7 +115,7 @@ impl<'a> TypeTable<'a> {
         requires { IsKindId self.now kind }
         ensures { result ≡ words.is_value_kind (kind_shown self.now kind) }
     {
-        match self.piece(kind) {
+        match *self.piece(kind) {
             Piece::Star => true,
             Piece::Hash => true,
             Piece::Arrow(_, _) => false,

@@ -14,7 +14,7 @@ use crate::node::{Judged, NameKey, TypeId};
 use crate::table::TypeTable;
 use fc_syntax::{Kind, Memory, NDecl, Param, Plain};
 
-impl<'a> TypeTable<'a> {
+impl TypeTable<'_> {
     /// The kind of a data type or a newtype with these parameters.
     fn kind_over_params(&mut self, params: &[Param]) -> Result<TypeId, Memory>
         ensures valid { IfOk result (λ id. IsKindId self.new id) }
@@ -84,13 +84,12 @@ impl<'a> TypeTable<'a> {
     }
 
     /// What is told of a name.
-    pub(crate) fn judge_name(&mut self, name: NameKey<'a>) -> Result<Judged, Memory>
-        ensures judged { IfOk result (λ j. Judges (modules_in self.new) (nodes_of self.new) (LCon (name_of name.entry)) j) }
+    pub(crate) fn judge_name(&mut self, name: &NameKey) -> Result<Judged, Memory>
+        ensures judged { IfOk result (λ j. Judges (modules_in self.new) (nodes_of self.new) (LCon (name_of name.now)) j) }
         ensures extends { OnOk result (Extends (nodes_of self.old) (nodes_of self.new)) }
         ensures modules { OnOk result (modules_in self.new ≡ modules_in self.old) }
     {
-        let declared = self.declarations();
-        match declared.type_at(name.module, name.text) {
+        match self.declared(name) {
             None => Ok(Judged::whole(None)),
             Some(decl) => self.judge_declared(decl),
         }

@@ -4,6 +4,7 @@ ghost use Rattle.std.specs.Option.{option_map};
 ghost use Rattle.fc_type_table.specs.Names.{name_from, name_of};
 
 use fc_syntax::{Memory, Role, Text};
+use std::rc::RcStr;
 
 /// The most that parts of a type in a table nest. A type that would be deeper is answered as out of memory, so that a walk over
 /// a type keeps off the end of the stack.
@@ -13,30 +14,55 @@ pub(crate) const DEEPEST: u32 = 10_000;
 #[derive(Clone, Copy, Debug, PartialEq, Eq, Hash)]
 pub struct TypeId(pub(crate) u32);
 
-/// A name of a type.
-#[derive(Clone, Copy, PartialEq, Eq, Hash)]
-pub struct NameKey<'a> {
+/// A name of a type. It shares the bytes of the words that it was made of, so that it outlives the tree in which they stand.
+#[derive(PartialEq, Eq, Hash, Drop)]
+pub struct NameKey {
     /// The module before the dot, `None` for a word without a dot.
-    pub module: Option<&'a str>,
+    pub module: Option<RcStr>,
     /// The word itself.
-    pub text: &'a str,
+    pub text: RcStr,
 }
 
-impl<'a> NameKey<'a> {
-    /// The key of a name: the module before the dot, if there is one, and the word itself. Takes no memory.
-    pub fn new(qualifier: Option<&'a Text>, text: &'a Text) -> NameKey<'a>
-        ensures { name_of result ≡ name_from (option_map (λ w. w.now) qualifier.entry) text.now }
+impl NameKey {
+    /// The key of a name: the module before the dot, if there is one, and the word itself. Fails only where a word is shared too often to be
+    /// counted. Takes no memory.
+    pub fn new(qualifier: Option<&Text>, text: &Text) -> Result<NameKey, Memory>
+        ensures { IfOk result (λ k. name_of k ≡ name_from (option_map (λ w. w.now) qualifier.entry) text.now) }
     {
-        NameKey {
-            module: qualifier.map(Text::as_str),
-            text: text.as_str(),
+        let module = match qualifier {
+            None => None,
+            Some(word) => Some(word.shared()?),
+        };
+        let text = text.shared()?;
+        Ok(NameKey { module, text })
+    }
+
+    /// The module before the dot, if there is one.
+    pub fn qualifier(&self) -> Option<&str>
+        ensures { option_map (λ w. w.now) result ≡ (name_of self.now).module }
+    {
+        match &self.module {
+            None => None,
+            Some(word) => Some(word.as_str()),
         }
+    }
+
+    /// The same key again. Fails and takes memory as `new` does.
+    pub(crate) fn copy(&self) -> Result<NameKey, Memory>
+        ensures { IfOk result (λ k. name_of k ≡ name_of self.now) }
+    {
+        let module = match &self.module {
+            None => None,
+            Some(word) => Some(word.clone()?),
+        };
+        let text = self.text.clone()?;
+        Ok(NameKey { module, text })
     }
 }
 
 /// One piece of a type or of a kind, whose parts have numbers.
-#[derive(Clone, Copy, PartialEq, Eq, Hash)]
-pub enum Piece<'a> {
+#[derive(PartialEq, Eq, Hash, Drop)]
+pub enum Piece {
     /// The kind `*`.
     Star,
     /// The kind `#`.
@@ -48,7 +74,7 @@ pub enum Piece<'a> {
     /// A variable of the context, by its place there, counted from the outermost, with its kind.
     Free(u32, TypeId),
     /// A data type, newtype or family.
-    Con(NameKey<'a>),
+    Con(NameKey),
     /// `Int#`.
     IntHash,
     /// A type applied to one type.
@@ -185,10 +211,10 @@ impl Judged {
 }
 
 /// A piece, and what is kept of the type that it is the outermost piece of.
-#[derive(Clone, Copy, PartialEq, Eq, Hash)]
-pub struct Node<'a> {
+#[derive(PartialEq, Eq, Hash, Drop)]
+pub struct Node {
     /// The piece.
-    pub piece: Piece<'a>,
+    pub piece: Piece,
     /// What is kept of the type.
     pub measure: Measure,
     /// What is told of its kind.

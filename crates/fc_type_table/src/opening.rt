@@ -30,7 +30,7 @@ pub(crate) fn note(
     Ok(())
 }
 
-impl<'a> TypeTable<'a> {
+impl TypeTable<'_> {
     /// The number of a part with the type `by` put in for the variable that is bound `depth` binders above it. What was done
     /// before is not done again, and a part without such a variable is its own answer.
     #[cycle(open)]
@@ -84,7 +84,7 @@ impl<'a> TypeTable<'a> {
         ensures modules { OnOk result (modules_in self.new ≡ modules_in self.old) }
         ensures seen { OnOk result (Opened (nodes_of self.new) by.0 done.new) }
     {
-        match self.piece(part) {
+        match *self.piece(part) {
             Piece::Star => Ok(part),
             Piece::Hash => Ok(part),
             Piece::Arrow(_, _) => Ok(part),
@@ -149,7 +149,7 @@ impl<'a> TypeTable<'a> {
         ensures view { IfOk result (λ r. (ks : List trees.Kind) → IsType self.old ks forall → IsType self.old ks by → option_map (λ id. shown self.new ks id) r ≡ at_type (shown self.old ks forall) (shown self.old ks by)) }
         ensures grows { OnOk result (Grows self.old self.new) }
     {
-        match self.piece(forall) {
+        match *self.piece(forall) {
             Piece::Star => Ok(None),
             Piece::Hash => Ok(None),
             Piece::Arrow(_, _) => Ok(None),

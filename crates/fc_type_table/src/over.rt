@@ -24,13 +24,13 @@ fn count_before(count: u32, binder: &NBinder) -> u32
     }
 }
 
-impl<'a> TypeTable<'a> {
+impl TypeTable<'_> {
     /// The number of what takes an argument for a binder and is then of the type of a number. The binder stands under so many binders of
     /// the type. The kinds are those of the type's own variables and of the so many of the context.
-    fn over_binder<'x>(
+    fn over_binder(
         &mut self,
-        binder: &'a NBinder,
-        kinds: &'x NumberedKinds<'x>,
+        binder: &NBinder,
+        kinds: &NumberedKinds,
         context: u32,
         binders: u32,
         body: TypeId,
@@ -64,7 +64,7 @@ impl<'a> TypeTable<'a> {
     /// binders is read once, where it stands.
     pub fn read_over<'x>(
         &mut self,
-        binders: &'a [NBinder],
+        binders: &[NBinder],
         own: &'x [NumberedKind<'x>],
         outer: &'x NumberedKinds<'x>,
         variables: u32,

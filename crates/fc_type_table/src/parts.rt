@@ -13,7 +13,7 @@ use crate::node::{Piece, TypeId};
 use crate::table::TypeTable;
 use fc_syntax::{NDecl, Role};
 
-impl<'a> TypeTable<'a> {
+impl TypeTable<'_> {
     /// Whether two types are the same. Takes no memory, and no time that grows with the types.
     pub fn same(&self, left: TypeId, right: TypeId) -> bool
         ensures { (ks : List trees.Kind) → IsType self.now ks left → IsType self.now ks right → result ≡ same_type (shown self.now ks left) (shown self.now ks right) }
@@ -27,7 +27,7 @@ impl<'a> TypeTable<'a> {
         requires { IsNumber self.now id }
         ensures { (ks : List trees.Kind) → result ≡ is_int (shown self.now ks id) }
     {
-        match self.piece(id) {
+        match *self.piece(id) {
             Piece::Star => false,
             Piece::Hash => false,
             Piece::Arrow(_, _) => false,
@@ -50,7 +50,7 @@ impl<'a> TypeTable<'a> {
         ensures valid { IfSome result (λ ends. (ks : List trees.Kind) → IsType self.now ks id → IsType self.now ks ends.0 × IsType self.now ks ends.1) }
         ensures view { (ks : List trees.Kind) → option_map (λ ends. (shown self.now ks ends.0, shown self.now ks ends.1)) result ≡ function_ends (shown self.now ks id) }
     {
-        match self.piece(id) {
+        match *self.piece(id) {
             Piece::Star => None,
             Piece::Hash => None,
             Piece::Arrow(_, _) => None,
@@ -73,7 +73,7 @@ impl<'a> TypeTable<'a> {
         ensures valid { IfSome result (λ ends. (ks : List trees.Kind) → IsType self.now ks id → IsType self.now ks ends.0 × IsType self.now ks ends.1) }
         ensures view { (ks : List trees.Kind) → option_map (λ ends. (shown self.now ks ends.0, shown self.now ks ends.1)) result ≡ application_ends (shown self.now ks id) }
     {
-        match self.piece(id) {
+        match *self.piece(id) {
             Piece::Star => None,
             Piece::Hash => None,
             Piece::Arrow(_, _) => None,
@@ -96,7 +96,7 @@ impl<'a> TypeTable<'a> {
         ensures valid { (ks : List trees.Kind) → IsType self.now ks id → IfSome result (λ k. IsKindId self.now k) }
         ensures view { (ks : List trees.Kind) → option_map (λ k. kind_shown self.now k) result ≡ forall_kind (shown self.now ks id) }
     {
-        match self.piece(id) {
+        match *self.piece(id) {
             Piece::Star => None,
             Piece::Hash => None,
             Piece::Arrow(_, _) => None,
@@ -119,7 +119,7 @@ impl<'a> TypeTable<'a> {
         ensures valid { IfSome result (λ p. (ks : List trees.Kind) → IsType self.now ks id → IsType self.now ks p.1 × IsType self.now ks p.2 × IsType self.now ks p.3) }
         ensures view { (ks : List trees.Kind) → option_map (λ p. (p.0, shown self.now ks p.1, shown self.now ks p.2, shown self.now ks p.3)) result ≡ coercion_asked (shown self.now ks id) }
     {
-        match self.piece(id) {
+        match *self.piece(id) {
             Piece::Star => None,
             Piece::Hash => None,
             Piece::Arrow(_, _) => None,
@@ -140,13 +140,13 @@ impl<'a> TypeTable<'a> {
         requires { IsNumber self.now id }
         ensures { (ks : List trees.Kind) → option_map (λ d. ndecl_of d.now) result ≡ option_and_then (declaration_in (modules_in self.now)) (declared_name (shown self.now ks id)) }
     {
-        match self.piece(id) {
+        match *self.piece(id) {
             Piece::Star => None,
             Piece::Hash => None,
             Piece::Arrow(_, _) => None,
             Piece::Bound(_, _) => None,
             Piece::Free(_, _) => None,
-            Piece::Con(name) => self.declarations().type_at(name.module, name.text),
+            Piece::Con(ref name) => self.declared(name),
             Piece::IntHash => None,
             Piece::App(_, _) => None,
             Piece::Fun(_, _) => None,

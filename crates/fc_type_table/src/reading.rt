@@ -13,7 +13,7 @@ use crate::numbered::{NumberedKind, NumberedKinds, number_at};
 use crate::table::TypeTable;
 use fc_syntax::{Memory, NTy};
 
-impl<'a> TypeTable<'a> {
+impl TypeTable<'_> {
     /// The number of what a variable carries: its kind.
     #[tactic(auto, using(crate::proofs::KindsInScope::label_rules))]
     fn read_label(&mut self, kinds: &NumberedKinds, index: u32) -> Result<TypeId, Memory>
@@ -57,10 +57,10 @@ impl<'a> TypeTable<'a> {
     /// The number of a part of a type, under so many binders of the type, so deep in it. The kinds are those of the type's own
     /// variables and of the so many of the context.
     #[tactic(auto, using(fc_syntax::proofs::View::view_rules, crate::proofs::KindsInScope::numbered_rules), unfolding(crate::specs::Scopes::leveled))]
-    pub(crate) fn read_part<'x>(
+    pub(crate) fn read_part(
         &mut self,
-        t: &'a NTy,
-        kinds: &'x NumberedKinds<'x>,
+        t: &NTy,
+        kinds: &NumberedKinds,
         context: u32,
         binders: u32,
         nested: u32,
@@ -78,7 +78,7 @@ impl<'a> TypeTable<'a> {
         match t {
             NTy::Var(index) => self.read_variable(*index, &*kinds, context, binders),
             NTy::Con(name) => {
-                let key = NameKey::new(name.module.as_ref(), &name.text);
+                let key = NameKey::new(name.module.as_ref(), &name.text)?;
                 self.name(key)
             }
             NTy::IntHash => self.intern(Piece::IntHash),
@@ -112,12 +112,7 @@ impl<'a> TypeTable<'a> {
     }
 
     /// The number of a type whose variables stand in a context of so many type variables, of these kinds.
-    pub fn read<'x>(
-        &mut self,
-        t: &'a NTy,
-        kinds: &'x NumberedKinds<'x>,
-        variables: u32,
-    ) -> Result<TypeId, Memory>
+    pub fn read(&mut self, t: &NTy, kinds: &NumberedKinds, variables: u32) -> Result<TypeId, Memory>
         requires count { variables ≡ length (kinds_of kinds.now) }
         requires numbered { IsScopeAt (nodes_of self.old) kinds.now }
         requires scoped { IsScopedType variables (nty_of t.now) }
@@ -129,10 +124,10 @@ impl<'a> TypeTable<'a> {
     }
 
     /// The number of the type variable at a distance in a context of so many type variables, of these kinds.
-    pub fn variable<'x>(
+    pub fn variable(
         &mut self,
         distance: u32,
-        kinds: &'x NumberedKinds<'x>,
+        kinds: &NumberedKinds,
         variables: u32,
     ) -> Result<TypeId, Memory>
         requires count { variables ≡ length (kinds_of kinds.now) }

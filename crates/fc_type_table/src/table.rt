@@ -1,9 +1,12 @@
 //! The table.
+ghost use Rattle.std.specs.Option.{option_map};
 ghost use Rattle.std.specs.Prelude.{◌≡◌, ◌<◌, ◌≤◌, ◌⊎◌, [], length, Some, IfOk, IfSome, OnErr, OnOk};
 ghost use Rattle.fc_type_table.specs.declared.instance.Instance as the_instance;
 ghost use Rattle.fc_type_table.specs.Names.{name_of};
 ghost use Rattle.fc_type_table.specs.declared.node.NameKey as the_key;
 ghost use Rattle.fc_type_table.specs.declared.node.TypeId as the_id;
+ghost use Rattle.fc_model.specs.Kinding.{type_decl};
+ghost use Rattle.fc_model.specs.NamelessView.{ndecl_of};
 ghost use Rattle.fc_types.specs.ModuleViews.{modules_of};
 ghost use Rattle.fc_type_table.specs.Facts.{Instances_prop, IsTable_prop, NamesNoted_prop};
 ghost use Rattle.fc_type_table.specs.Instances.{Instances, NamesNoted, instance_noted, name_noted};
@@ -12,7 +15,7 @@ ghost use Rattle.fc_type_table.specs.Nodes.{Extends, HasKinds, IsTable, Judges, 
 
 use crate::instance::Instance;
 use crate::node::{Judged, Measure, NameKey, Node, Piece, TypeId};
-use fc_syntax::Memory;
+use fc_syntax::{Memory, NDecl};
 use fc_types::Declarations;
 use indexmap::{IndexMap, IndexSet};
 use std::alloc::Global;
@@ -31,12 +34,12 @@ fn note_instance(
 }
 
 /// Notes the type of a name.
-fn note_name<'a>(
-    names: &mut IndexMap<NameKey<'a>, TypeId>,
-    name: NameKey<'a>,
+fn note_name(
+    names: &mut IndexMap<NameKey, TypeId>,
+    name: NameKey,
     answer: TypeId,
 ) -> Result<(), Memory>
-    ensures noted { OnOk result ((k : the_key.NameKey) (r : the_id.TypeId) → name_noted names.new k ≡ Some r → ((name_of name.entry ≡ name_of k) × (r ≡ answer)) ⊎ (name_noted names.old k ≡ Some r)) }
+    ensures noted { OnOk result ((k : the_key.NameKey) (r : the_id.TypeId) → name_noted names.new k ≡ Some r → ((name_of name ≡ name_of k) × (r ≡ answer)) ⊎ (name_noted names.old k ≡ Some r)) }
     ensures kept { OnErr result ((k : the_key.NameKey) (r : the_id.TypeId) → name_noted names.new k ≡ Some r → name_noted names.old k ≡ Some r) }
 {
     names.insert(name, answer)?;
@@ -49,8 +52,8 @@ fn note_name<'a>(
 #[derive(Drop)]
 pub struct TypeTable<'a> {
     declared: &'a Declarations<'a>,
-    nodes: IndexSet<Node<'a>>,
-    names: IndexMap<NameKey<'a>, TypeId>,
+    nodes: IndexSet<Node>,
+    names: IndexMap<NameKey, TypeId>,
     instances: IndexMap<Instance, TypeId>,
     ghost table: { IsTable (modules_of declared.now) nodes.keys } by { IsTable_prop (modules_of declared.now) nodes.keys },
     ghost names_are: { NamesNoted nodes.keys names } by { NamesNoted_prop nodes.keys names },
@@ -73,22 +76,21 @@ impl<'a> TypeTable<'a> {
         }
     }
 
-    /// The declarations.
-    pub(crate) fn declarations(&self) -> &'a Declarations<'a>
-        ensures { result.now ≡ self.now.declared.now }
+    /// The declaration of the type of a name. Takes no memory.
+    pub(crate) fn declared(&self, name: &NameKey) -> Option<&'a NDecl>
+        ensures { option_map (λ d. ndecl_of d.now) result ≡ type_decl (modules_of self.now.declared.now (name_of name.now).module) (name_of name.now).text }
     {
-        self.declared
+        self.declared.type_at(name.qualifier(), name.text.as_str())
     }
 
     /// The outermost piece of a type, or of a kind. Its parts have smaller numbers. Takes no memory.
-    pub fn piece(&self, id: TypeId) -> Piece<'a>
+    pub fn piece(&self, id: TypeId) -> &Piece
         requires { id.0 < length (nodes_of self.now) }
-        ensures shown { tree_at (nodes_of self.now) id.0 ≡ piece_over (tree_at (nodes_of self.now)) result }
-        ensures parts { parts_end result ≤ id.0 }
-        ensures kinds { HasKinds (piece_over (tree_at (nodes_of self.now)) result) }
+        ensures shown { tree_at (nodes_of self.now) id.0 ≡ piece_over (tree_at (nodes_of self.now)) result.now }
+        ensures parts { parts_end result.now ≤ id.0 }
+        ensures kinds { HasKinds (piece_over (tree_at (nodes_of self.now)) result.now) }
     {
-        let node = self.nodes[id.0 as usize];
-        node.piece
+        &self.nodes[id.0 as usize].piece
     }
 
     /// What is kept of a type.
@@ -96,8 +98,7 @@ impl<'a> TypeTable<'a> {
         requires { id.0 < length self.now.nodes.keys }
         ensures { Measures (tree_at self.now.nodes.keys id.0) result }
     {
-        let node = self.nodes[id.0 as usize];
-        node.measure
+        self.nodes[id.0 as usize].measure
     }
 
     /// What is told of the kind of a type.
@@ -105,16 +106,15 @@ impl<'a> TypeTable<'a> {
         requires { id.0 < length self.now.nodes.keys }
         ensures { Judges (modules_of self.now.declared.now) self.now.nodes.keys (tree_at self.now.nodes.keys id.0) result }
     {
-        let node = self.nodes[id.0 as usize];
-        node.judged
+        self.nodes[id.0 as usize].judged
     }
 
     /// What is to be kept of the type of a piece.
-    fn measure_over(&self, piece: Piece<'a>) -> Result<Measure, Memory>
-        requires { parts_end piece ≤ length self.now.nodes.keys }
-        ensures { IfOk result (λ m. Measures (piece_over (tree_at self.now.nodes.keys) piece.entry) m) }
+    fn measure_over(&self, piece: &Piece) -> Result<Measure, Memory>
+        requires { parts_end piece.now ≤ length self.now.nodes.keys }
+        ensures { IfOk result (λ m. Measures (piece_over (tree_at self.now.nodes.keys) piece.now) m) }
     {
-        match piece {
+        match *piece {
             Piece::Star => Ok(Measure::leaf()),
             Piece::Hash => Ok(Measure::leaf()),
             Piece::Arrow(from, to) => self.measure(from).beside(self.measure(to)).around(),
@@ -135,16 +135,16 @@ impl<'a> TypeTable<'a> {
     }
 
     /// The number of the type of a piece, of whose kind this is told. The types before keep their numbers.
-    pub(crate) fn put(&mut self, piece: Piece<'a>, judged: Judged) -> Result<TypeId, Memory>
+    pub(crate) fn put(&mut self, piece: Piece, judged: Judged) -> Result<TypeId, Memory>
         requires parts { parts_end piece ≤ length self.old.nodes.keys }
         requires kinds { HasKinds (piece_over (tree_at self.old.nodes.keys) piece) }
         requires judged { Judges (modules_of self.old.declared.now) self.old.nodes.keys (piece_over (tree_at self.old.nodes.keys) piece) judged }
         ensures within { IfOk result (λ id. id.0 < length self.new.nodes.keys) }
-        ensures shown { IfOk result (λ id. tree_at self.new.nodes.keys id.0 ≡ piece_over (tree_at self.old.nodes.keys) piece.entry) }
+        ensures shown { IfOk result (λ id. tree_at self.new.nodes.keys id.0 ≡ piece_over (tree_at self.old.nodes.keys) piece) }
         ensures extends { OnOk result (Extends self.old.nodes.keys self.new.nodes.keys) }
         ensures modules { OnOk result (modules_of self.new.declared.now ≡ modules_of self.old.declared.now) }
     {
-        let measure = self.measure_over(piece)?;
+        let measure = self.measure_over(&piece)?;
         let (index, _) = self.nodes.insert_full(Node {
             piece,
             measure,
@@ -157,18 +157,18 @@ impl<'a> TypeTable<'a> {
     }
 
     /// The type that was noted for a name.
-    pub(crate) fn noted_name(&self, name: NameKey<'a>) -> Option<TypeId>
+    pub(crate) fn noted_name(&self, name: &NameKey) -> Option<TypeId>
         ensures within { IfSome result (λ id. id.0 < length self.now.nodes.keys) }
-        ensures shown { IfSome result (λ id. tree_at self.now.nodes.keys id.0 ≡ LCon (name_of name.entry)) }
+        ensures shown { IfSome result (λ id. tree_at self.now.nodes.keys id.0 ≡ LCon (name_of name.now)) }
     {
-        match self.names.get(&name) {
+        match self.names.get(name) {
             Some(answer) => Some(*answer),
             None => None,
         }
     }
 
     /// Notes the type of a name.
-    pub(crate) fn keep_name(&mut self, name: NameKey<'a>, answer: TypeId) -> Result<(), Memory>
+    pub(crate) fn keep_name(&mut self, name: NameKey, answer: TypeId) -> Result<(), Memory>
         requires within { answer.0 < length self.old.nodes.keys }
         requires shown { tree_at self.old.nodes.keys answer.0 ≡ LCon (name_of name) }
         ensures nodes { self.new.nodes.keys ≡ self.old.nodes.keys }

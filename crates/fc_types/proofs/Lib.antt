@@ -3,6 +3,5 @@ pub mod Building
 pub mod ByNumber
 pub mod FirstDeclared
 pub mod FirstPuts
-pub mod LocalKinds
 pub mod Owners
 pub mod WordKeys

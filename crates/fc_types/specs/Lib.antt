@@ -2,7 +2,6 @@ pub mod Built
 pub mod Codes
 pub mod Families
 pub mod FirstDeclared
-pub mod KindViews
 pub mod Listed
 pub mod ModuleViews
 pub mod TableViews

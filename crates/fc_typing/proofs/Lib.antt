@@ -1,4 +1,3 @@
 pub mod BinderWords
-pub mod BoundKinds
 pub mod EqualityLemmas
 pub mod Imported

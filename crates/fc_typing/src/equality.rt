@@ -41,7 +41,7 @@ fn same_variable(lefts: &Bound<'_>, rights: &Bound<'_>, left: &Text, right: &Tex
 
 /// Whether two types are the same, each inside of the words that are bound around it.
 #[tactic(auto, using(fc_syntax::proofs::View::view_rules), unfolding(fc_syntax::specs::View::ty_of))]
-fn equal_in<'x>(left: &'x Ty, right: &'x Ty, lefts: &'x Bound<'x>, rights: &'x Bound<'x>) -> bool
+fn equal_in(left: &Ty, right: &Ty, lefts: &Bound, rights: &Bound) -> bool
     ensures { result ≡ walk.equal_in (bound_words lefts.now) (bound_words rights.now) (ty_of left.now) (ty_of right.now) }
 {
     match (left, right) {

@@ -26,13 +26,13 @@ use std::alloc::Global;
 
 /// A type at another one behind binders that were entered among these type variables.
 #[tactic(auto, using(fc_type_scope::proofs::Numbers::number_rules, fc_type_scope::proofs::PastBinders::entry_rules))]
-fn instance_inside<'x, 'a>(
+fn instance_inside(
     alloc: Global,
-    t: &'a NTy,
-    by: &'a NTy,
-    types: &mut TypeTable<'a>,
-    bound: &'x Bound<'a>,
-    outside: &'x NumberedKinds<'x>,
+    t: &NTy,
+    by: &NTy,
+    types: &mut TypeTable,
+    bound: &Bound,
+    outside: &NumberedKinds,
     words: Words<'_, '_>,
 ) -> Result<Option<Ty>, Memory>
     requires bound { AreNumbered (nodes_of types.old) bound.now.kinds }
@@ -41,7 +41,7 @@ fn instance_inside<'x, 'a>(
     requires count { length (reverse (own_kinds bound.now.kinds) ++ kinds_of outside.now) ≡ length (types_of words) }
     ensures { IfOk result (λ r. IsFoundTypeOf (own_of words.entry) (types_of words.entry) r (Ok (at_type (nty_of t.now) (nty_of by.now)))) }
 {
-    let kinds = bound.kinds_behind(&*outside);
+    let kinds = (&*bound).kinds_behind(&*outside);
     let scope = TypeScope { kinds: &kinds };
     let forall = scope.read(t, types)?;
     let by = scope.read(by, types)?;
@@ -53,19 +53,19 @@ fn instance_inside<'x, 'a>(
 
 /// A type at another one behind binders.
 #[tactic(auto, using(fc_type_scope::proofs::PastBinders::entry_rules))]
-fn instance_behind<'a>(
+fn instance_behind(
     alloc: Global,
-    t: &'a NTy,
-    by: &'a NTy,
-    binders: &'a [NBinder],
-    declared: &'a Declarations,
+    t: &NTy,
+    by: &NTy,
+    binders: &[NBinder],
+    declared: &Declarations,
     words: Words<'_, '_>,
 ) -> Result<Option<Ty>, Memory>
     requires seen { AreSeen (types_of words) }
     requires count { length (context_behind (nbinders_of binders.now)).kinds ≡ length (types_of words) }
     ensures { IfOk result (λ r. IsFoundTypeOf (own_of words.entry) (types_of words.entry) r (Ok (at_type (nty_of t.now) (nty_of by.now)))) }
 {
-    let mut types = TypeTable::new(alloc, declared);
+    let mut types = TypeTable::new(alloc, &*declared);
     let kinds = NumberedKinds::End;
     let outside = TypeScope { kinds: &kinds };
     let bound = outside.enter(alloc, binders, &mut types)?;

@@ -2,6 +2,7 @@
 //! judges that, and writes its answer with words again.
 #![tactic(auto)]
 
+mod asking;
 mod coercions;
 mod environment;
 mod equality;

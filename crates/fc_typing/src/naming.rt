@@ -22,7 +22,7 @@ use fc_type_table::{TypeId, TypeTable};
 use std::alloc::Global;
 
 /// The most pieces that a type may have that is answered. A type in a table may have more than there is memory for.
-const MOST: u32 = 1_500_000;
+pub(crate) const MOST: u32 = 1_500_000;
 
 /// What a coercion proves: that two types are equal at a role.
 #[derive(Drop)]
@@ -62,7 +62,7 @@ pub(crate) fn words_of<'o, 'n>(env: &'o TypeEnv, entered: &'n Entered) -> Words<
 impl<'o, 'n> Words<'o, 'n> {
     /// A type of a table.
     #[tactic(auto, unfolding(crate::specs::Wording::types_of))]
-    pub fn named<'a>(self, alloc: Global, id: TypeId, types: &TypeTable<'a>) -> Result<Ty, Memory>
+    pub fn named(self, alloc: Global, id: TypeId, types: &TypeTable) -> Result<Ty, Memory>
         requires number { IsNumber types.now id }
         requires seen { AreSeen (types_of self) }
         ensures { (ks : List trees.Kind) → length ks ≡ length (types_of self.entry) → IsType types.now ks id → IfOk result (λ t. meant (own_of self.entry) (types_of self.entry) (ty_of t) ≡ Ok (shown types.now ks id)) }
@@ -81,12 +81,7 @@ impl<'o, 'n> Words<'o, 'n> {
     }
 
     /// What a coercion proves.
-    pub fn named_ends<'a>(
-        self,
-        alloc: Global,
-        found: Proven,
-        types: &TypeTable<'a>,
-    ) -> Result<Ends, Memory>
+    pub fn named_ends(self, alloc: Global, found: Proven, types: &TypeTable) -> Result<Ends, Memory>
         requires left { IsNumber types.now found.left }
         requires right { IsNumber types.now found.right }
         requires seen { AreSeen (types_of self) }

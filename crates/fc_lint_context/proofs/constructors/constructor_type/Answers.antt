@@ -6,8 +6,7 @@ use Rattle.fc_model.specs.NamelessView.{nparams_of}
 use Rattle.fc_type_scope.specs.Scopes.{scope_in}
 use Rattle.fc_type_table.specs.Scopes.{IsTypeAt}
 use Rattle.fc_type_table.specs.TypeTables.{nodes_of}
-use Rattle.fc_type_table.specs.InScope.{AreNumbered, own_kinds}
-use Rattle.fc_types.specs.KindViews.{behind_group}
+use Rattle.fc_type_table.specs.InScope.{AreNumbered, behind_group, own_kinds}
 use Rattle.fc_types.specs.TableViews.{constructor_of}
 use Rattle.fc_type_table.specs.declared.numbered.NumberedKind.{NumberedKind}
 use Rattle.fc_lint_context.proofs.Foralls.{whole_over}

@@ -2,8 +2,7 @@ use Rattle.std.proofs.Common.{◌≡◌, ◌≤◌, [], length, map, take}
 use Rattle.fc_model.specs.Calling.{over_binders}
 use Rattle.fc_model.specs.Nameless.{NBType}
 use Rattle.fc_type_table.specs.TypeTables.{Grows, IsType, shown}
-use Rattle.fc_type_table.specs.InScope.{own_kinds}
-use Rattle.fc_types.specs.KindViews.{behind_group}
+use Rattle.fc_type_table.specs.InScope.{behind_group, own_kinds}
 use Rattle.fc_lint_context.proofs.constructors.over_params.Given as goal
 
 -- what is bound so far, below the `forall`s that are still to come

@@ -4,11 +4,11 @@ use Rattle.fc_model.specs.Linting.{con_binder_judged, con_binders_judged, kinds_
 use Rattle.fc_model.specs.Typing.{kinds_behind}
 use Rattle.fc_model.specs.NamelessView.{nbinder_of, nbinders_of}
 use Rattle.fc_model.proofs.Lists.{drop_item}
-use Rattle.fc_types.specs.KindViews.{behind_group}
 use Rattle.fc_types.specs.ModuleViews.{modules_of}
+use Rattle.fc_type_scope.proofs.BinderLists.{kinds_one_more}
 use Rattle.fc_type_scope.proofs.ScopeKinds.{scope_grows}
 use Rattle.fc_type_scope.specs.Scopes.{scope_in}
-use Rattle.fc_type_table.specs.InScope.{AreNumbered, numbered_of, own_kinds}
+use Rattle.fc_type_table.specs.InScope.{AreNumbered, behind_group, numbered_of, own_kinds}
 use Rattle.fc_type_table.specs.TypeTables.{nodes_of}
 use Rattle.fc_type_table.proofs.KindsInScope.{AreNumbered-behind, AreNumbered-grows}
 use Rattle.fc_type_table.proofs.Numbers.{Grows-further}
@@ -40,7 +40,7 @@ loop-binder-preserved c =
     let b = nbinder_of c.binder-item.result in
     let rest = nbinders_of (drop (k + 1) bs) in
     let item = drop_item bs k c.binder-item.result (rw (← c.as_slice-binder-items.ensures) c.loop-binder-test.true) (rw (← c.as_slice-binder-items.ensures) c.binder-item.is) in
-    let next : new ≡ kinds_behind b old = c.in_ok-add_kind.ensures.kinds outer in
+    let next : new ≡ kinds_behind b old = ap (λ js. behind_group js outer) c.in_ok-add_kind.ensures.kinds ∙ kinds_one_more (own_kinds c.loop-binder.own) outer b in
     let judged : under c.loop-binder.part (con_binder_judged ms old b) ≡ Ok c.in_ok-same.same = rw (← c.as_slice.ensures) c.in_ok-same.ensures.says in
     let mid = c.lint_con_binder_part.new.types in
     let far = Grows-further c.loop-binder.types mid c.add_kind.new.types c.in_ok-same.ensures.grows c.in_ok-add_kind.ensures.grows in

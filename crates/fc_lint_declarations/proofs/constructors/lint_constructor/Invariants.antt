@@ -1,10 +1,9 @@
 use Rattle.std.proofs.Common.{◌≡◌, true, drop}
 use Rattle.fc_model.specs.Linting.{con_binders_judged, kinds_behind_all}
 use Rattle.fc_model.specs.NamelessView.{nbinders_of}
-use Rattle.fc_types.specs.KindViews.{behind_group}
 use Rattle.fc_types.specs.ModuleViews.{modules_of}
 use Rattle.fc_type_scope.specs.Scopes.{IsScope, scope_in}
-use Rattle.fc_type_table.specs.InScope.{AreNumbered, own_kinds}
+use Rattle.fc_type_table.specs.InScope.{AreNumbered, behind_group, own_kinds}
 use Rattle.fc_type_table.specs.TypeTables.{Grows, modules_in, nodes_of}
 use Rattle.fc_lint_declarations.proofs.constructors.lint_constructor.Given as goal
 

@@ -1,14 +1,11 @@
-use Rattle.std.proofs.Common.{rules}
-use Rattle.fc_syntax.specs.View.{kind_of}
-use Rattle.fc_naming.proofs.Groups.{named_coercion_binder, named_type_binder, named_value_binder}
+use Rattle.std.proofs.Common.{ap, ◌∙◌}
+use Rattle.fc_model.specs.DeclaredWords.{words_by_space}
+use Rattle.fc_naming.specs.Taken.{more_words}
+use Rattle.fc_naming.specs.declared.taken.Space.{Space}
+use Rattle.fc_naming.proofs.NewWords.{chosen_of}
 use Rattle.fc_naming.proofs.binders.named_binder.Goals as goal
 
-pub returns-in_ok-word-in-Value : goal.returns-in_ok-word-in-Value
-returns-in_ok-word-in-Value c = named_value_binder c.in_ok-word-in-Value.ensures.chosen c.in_ok-t-in-Value.ensures c.in_ok-word-in-Value.ensures.taken (search rules)
-
-pub returns-in_ok-word-in-OfType : goal.returns-in_ok-word-in-OfType
-returns-in_ok-word-in-OfType c = named_type_binder {k = kind_of c.in_ok-kind-in-OfType.kind} c.in_ok-word-in-OfType.ensures.chosen c.in_ok-word-in-OfType.ensures.taken (search rules)
-
-pub returns-in_ok-word-in-OfCo : goal.returns-in_ok-word-in-OfCo
-returns-in_ok-word-in-OfCo c =
-    named_coercion_binder {r = c.in-OfCo.role} c.in_ok-word-in-OfCo.ensures.chosen c.in_ok-t-in-OfCo.ensures c.in_ok-u-in-OfCo.ensures c.in_ok-word-in-OfCo.ensures.taken (search rules)
+pub returns : goal.returns
+returns c =
+    let taken = words_by_space c.args.taken.now in
+    c.in_ok-binder.ensures taken _ (chosen_of taken c.space.ensures c.hint.ensures c.in_ok-word.ensures.chosen) (c.in_ok-word.ensures.taken ∙ ap (λ (s : Space). more_words s c.in_ok-word.word taken) c.space.ensures)

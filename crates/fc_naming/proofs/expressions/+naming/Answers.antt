@@ -44,10 +44,10 @@ lambda-returns t c =
     let s = locals_of c.args.scope.now in
     let b = binder_of c.in_ok-binder.binder in
     let inner : with_binders c.add_binder.new.words s ≡ enter b s = c.in_ok-add_binder.ensures s ∙ ap (λ w. enter b (with_binders w s)) c.new-words.ensures in
-    expr_as (named_lambda c.in_ok-taken.ensures c.in_ok-binder.ensures (expr_in c.in_ok-e.ensures inner)) (search (rules, view_rules))
+    expr_as (named_lambda c.in_ok-binder.ensures.uses c.in_ok-binder.ensures.takes (expr_in c.in_ok-e.ensures inner)) (search (rules, view_rules))
 
 pub named_below-returns : goal.named_below-returns
-named_below-returns t c = named_below c.in_ok-taken.ensures c.in_ok-named.ensures c.in_ok-body.ensures
+named_below-returns t c = named_below c.in_ok-named.ensures.uses c.in_ok-named.ensures.take c.in_ok-body.ensures
 
 pub named_alts-loop-alt-preserved : goal.named_alts-loop-alt-preserved
 named_alts-loop-alt-preserved t c =

@@ -1,21 +1,12 @@
-use Rattle.std.proofs.Common.{refl}
-use Rattle.fc_model.specs.DeclaredWords.{top_by}
+use Rattle.fc_model.specs.DeclaredWords.{top_by, words_by_space}
 use Rattle.fc_scope.specs.ScopeWords.{locals_of}
-use Rattle.fc_naming.specs.Taken.{taken_words}
-use Rattle.fc_naming.proofs.NamedGroups.{bind_hints_lower}
+use Rattle.fc_naming.specs.Taken.{words_around}
+use Rattle.fc_naming.proofs.NamedGroups.{let_words}
+use Rattle.fc_naming.proofs.ScopeUses.{let_around}
 use Rattle.fc_naming.proofs.members.let_words.Goals as goal
 
-pub returns-clause-counted : goal.returns-clause-counted
-returns-clause-counted c = c.in_ok-group.ensures.counted
+pub returns-in-Some-clause-around : goal.returns-in-Some-clause-around
+returns-in-Some-clause-around c = let_words (words_around (top_by c.args.top.now) (locals_of c.args.scope.now)) c.args.binds.now (rw c.in-Some.is at c.in_ok-kept.ensures) let_around
 
 pub returns-clause-around : goal.returns-clause-around
-returns-clause-around c = record {
-  items = c.args.binds.now;
-  members = refl;
-  taken = taken_words (top_by c.args.top.now) (locals_of c.args.scope.now) c.in_ok-taken.taken;
-  distinct = c.in_ok-group.ensures.distinct;
-  counted = c.in_ok-group.ensures.counted;
-  lower = λ h. c.in_ok-group.ensures.lower (bind_hints_lower c.args.binds.now h);
-  values = c.in_ok-group.ensures.values (locals_of c.args.scope.now);
-  uses = c.in_ok-taken.ensures;
-}
+returns-clause-around c = let_words (words_by_space c.in_ok-used.used) c.args.binds.now c.in_ok-group.ensures c.in_ok-used.ensures

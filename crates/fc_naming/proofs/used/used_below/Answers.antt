@@ -1,10 +1,7 @@
 use Rattle.std.proofs.Common.{rules}
 use Rattle.fc_used_words.proofs.Collecting.{binders_below, expr_below}
-use Rattle.fc_naming.proofs.ScopeUses.{below_around, below_walked}
+use Rattle.fc_naming.proofs.ScopeUses.{below_walked}
 use Rattle.fc_naming.proofs.used.used_below.Goals as goal
-
-pub returns-then-branch : goal.returns-then-branch
-returns-then-branch c = below_around
 
 pub returns : goal.returns
 returns c = below_walked (binders_below c.in_ok-inside.ensures.adds (search rules)) (expr_below c.in_ok-use_expr.ensures (search rules))

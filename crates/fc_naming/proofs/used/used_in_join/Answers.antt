@@ -1,11 +1,8 @@
 use Rattle.std.proofs.Common.{rules}
 use Rattle.fc_used_words.proofs.Collecting.{expr_below, joins_below}
-use Rattle.fc_naming.proofs.ScopeUses.{join_around, join_walked_alone, join_walked_group}
+use Rattle.fc_naming.proofs.ScopeUses.{join_walked_alone, join_walked_group}
 use Rattle.fc_naming.proofs.used.used_in_join.Goals as goal
 use Rattle.fc_naming.proofs.used.used_in_join.Goals.{then-recursive+in_ok-use_joins, else-recursive}
-
-pub returns-then-branch : goal.returns-then-branch
-returns-then-branch c = join_around
 
 pub returns : goal.returns
 returns c =

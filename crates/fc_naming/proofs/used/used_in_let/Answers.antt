@@ -1,11 +1,8 @@
 use Rattle.std.proofs.Common.{rules}
 use Rattle.fc_used_words.proofs.Collecting.{expr_below, binds_below}
-use Rattle.fc_naming.proofs.ScopeUses.{let_around, let_walked_alone, let_walked_group}
+use Rattle.fc_naming.proofs.ScopeUses.{let_walked_alone, let_walked_group}
 use Rattle.fc_naming.proofs.used.used_in_let.Goals as goal
 use Rattle.fc_naming.proofs.used.used_in_let.Goals.{then-recursive+in_ok-use_binds, else-recursive}
-
-pub returns-then-branch : goal.returns-then-branch
-returns-then-branch c = let_around
 
 pub returns : goal.returns
 returns c =

@@ -1,10 +1,7 @@
 use Rattle.std.proofs.Common.{rules}
 use Rattle.fc_used_words.proofs.Collecting.{ty_below}
-use Rattle.fc_naming.proofs.ScopeUses.{type_around, type_walked}
+use Rattle.fc_naming.proofs.ScopeUses.{type_walked}
 use Rattle.fc_naming.proofs.used.used_in_type.Goals as goal
-
-pub returns-then-not-branch : goal.returns-then-not-branch
-returns-then-not-branch c = type_around
 
 pub returns : goal.returns
 returns c = type_walked (ty_below c.in_ok-use_ty.ensures (search rules))

@@ -1,5 +1,10 @@
 use Rattle.fc_naming.proofs.NamedTypes.{may_take_alts}
+use Rattle.fc_naming.proofs.NewWords.{new_chosen}
+use Rattle.fc_naming.proofs.ScopeUses.{alts_around}
 use Rattle.fc_naming.proofs.variables.word_around.Goals as goal
 
+pub returns-in-Some : goal.returns-in-Some
+returns-in-Some c = may_take_alts alts_around (new_chosen c.in_ok-kept.ensures c.in-Some.is)
+
 pub returns : goal.returns
-returns c = may_take_alts c.in_ok-taken.ensures c.in_ok-word.ensures
+returns c = may_take_alts c.in_ok-used.ensures c.in_ok-word.ensures

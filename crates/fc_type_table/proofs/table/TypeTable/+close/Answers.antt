@@ -2,6 +2,7 @@ use Rattle.std.proofs.Common.{sym, refl, arith}
 use Rattle.fc_type_table.specs.Nodes.{tree_at}
 use Rattle.fc_type_table.specs.Trees.{closed_over}
 use Rattle.fc_type_table.proofs.Walked.{Closed-after, Extends-after, closed_over-measured, coforall_walked}
+use Rattle.fc_type_table.proofs.Pieces.{parts_as, shown_as}
 use Rattle.fc_type_table.proofs.table.TypeTable.+close.Goals as goal
 
 pub close_seen-returns-then-measure-level-clause-shown : goal.close_seen-returns-then-measure-level-clause-shown
@@ -30,7 +31,7 @@ close_part-returns-in_ok-body-in-CoForall-clause-extends t c = Extends-after c.i
 pub close_part-returns-in_ok-body-in-CoForall-clause-shown : goal.close_part-returns-in_ok-body-in-CoForall-clause-shown
 unfolding closed_over
 close_part-returns-in_ok-body-in-CoForall-clause-shown t c =
-    let parts = c.in-CoForall.ensures.parts in
+    let parts = parts_as c.args.part.0 c.in-CoForall.is c.piece.ensures.parts in
     coforall_walked c.intern-in-CoForall.result (λ k. closed_over c.args.level c.args.depth) c.args.self.now.nodes.keys c.close_seen-in-CoForall.new.self.nodes.keys c.close_seen-in-CoForall-2.new.self.nodes.keys c.close_seen-in-CoForall-3.new.self.nodes.keys c.intern-in-CoForall.new.self.nodes.keys c.in-CoForall.role c.args.part.0 c.in-CoForall.left.0 c.in-CoForall.right.0 c.in-CoForall.body.0 c.in_ok-left-in-CoForall.left.0 c.in_ok-right-in-CoForall.right.0 c.in_ok-body-in-CoForall.body.0
-    (λ x y z. refl) refl refl c.in-CoForall.ensures.shown (omega (arith, parts)) (omega (arith, parts)) c.in_ok-left-in-CoForall.ensures.extends c.in_ok-right-in-CoForall.ensures.extends c.in_ok-body-in-CoForall.ensures.extends c.in_ok-left-in-CoForall.ensures.within c.in_ok-right-in-CoForall.ensures.within
+    (λ x y z. refl) refl refl (shown_as c.args.self.now.nodes.keys c.args.part.0 c.in-CoForall.is c.piece.ensures.shown) (omega (arith, parts)) (omega (arith, parts)) c.in_ok-left-in-CoForall.ensures.extends c.in_ok-right-in-CoForall.ensures.extends c.in_ok-body-in-CoForall.ensures.extends c.in_ok-left-in-CoForall.ensures.within c.in_ok-right-in-CoForall.ensures.within
     c.in_ok-left-in-CoForall.ensures.shown c.in_ok-right-in-CoForall.ensures.shown c.in_ok-body-in-CoForall.ensures.shown c.intern-in-CoForall.ensures.shown

@@ -2,6 +2,7 @@ use Rattle.std.proofs.Common.{◌∙◌, sym, refl, ap, arith}
 use Rattle.fc_type_table.specs.Nodes.{tree_at}
 use Rattle.fc_type_table.specs.Trees.{opened}
 use Rattle.fc_type_table.proofs.Walked.{Extends-after, Opened-after, coforall_walked, opened-measured}
+use Rattle.fc_type_table.proofs.Pieces.{parts_as, shown_as}
 use Rattle.fc_type_table.proofs.table.TypeTable.+open.Goals as goal
 
 pub open_seen-returns-then-measure-depth-clause-shown : goal.open_seen-returns-then-measure-depth-clause-shown
@@ -42,7 +43,7 @@ open_part-returns-in_ok-body-in-CoForall-clause-extends t c = Extends-after c.in
 pub open_part-returns-in_ok-body-in-CoForall-clause-shown : goal.open_part-returns-in_ok-body-in-CoForall-clause-shown
 unfolding opened
 open_part-returns-in_ok-body-in-CoForall-clause-shown t c =
-    let parts = c.in-CoForall.ensures.parts in
+    let parts = parts_as c.args.part.0 c.in-CoForall.is c.piece.ensures.parts in
     coforall_walked c.intern-in-CoForall.result (λ k. opened c.args.depth (tree_at k c.args.by.0)) c.args.self.now.nodes.keys c.open_seen-in-CoForall.new.self.nodes.keys c.open_seen-in-CoForall-2.new.self.nodes.keys c.open_seen-in-CoForall-3.new.self.nodes.keys c.intern-in-CoForall.new.self.nodes.keys c.in-CoForall.role c.args.part.0 c.in-CoForall.left.0 c.in-CoForall.right.0 c.in-CoForall.body.0 c.in_ok-left-in-CoForall.left.0 c.in_ok-right-in-CoForall.right.0 c.in_ok-body-in-CoForall.body.0
-    (λ x y z. refl) (ap (opened c.args.depth) (c.in_ok-left-in-CoForall.ensures.extends.stays c.args.by.0 c.requires.by_in)) (let e = c.in_ok-left-in-CoForall.ensures.extends in ap (opened c.args.depth) (c.in_ok-right-in-CoForall.ensures.extends.stays c.args.by.0 (omega (arith, e.longer)) ∙ e.stays c.args.by.0 c.requires.by_in)) c.in-CoForall.ensures.shown (omega (arith, parts)) (omega (arith, parts)) c.in_ok-left-in-CoForall.ensures.extends c.in_ok-right-in-CoForall.ensures.extends c.in_ok-body-in-CoForall.ensures.extends c.in_ok-left-in-CoForall.ensures.within c.in_ok-right-in-CoForall.ensures.within
+    (λ x y z. refl) (ap (opened c.args.depth) (c.in_ok-left-in-CoForall.ensures.extends.stays c.args.by.0 c.requires.by_in)) (let e = c.in_ok-left-in-CoForall.ensures.extends in ap (opened c.args.depth) (c.in_ok-right-in-CoForall.ensures.extends.stays c.args.by.0 (omega (arith, e.longer)) ∙ e.stays c.args.by.0 c.requires.by_in)) (shown_as c.args.self.now.nodes.keys c.args.part.0 c.in-CoForall.is c.piece.ensures.shown) (omega (arith, parts)) (omega (arith, parts)) c.in_ok-left-in-CoForall.ensures.extends c.in_ok-right-in-CoForall.ensures.extends c.in_ok-body-in-CoForall.ensures.extends c.in_ok-left-in-CoForall.ensures.within c.in_ok-right-in-CoForall.ensures.within
     c.in_ok-left-in-CoForall.ensures.shown c.in_ok-right-in-CoForall.ensures.shown c.in_ok-body-in-CoForall.ensures.shown c.intern-in-CoForall.ensures.shown

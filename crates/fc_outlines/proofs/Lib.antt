@@ -1,0 +1,2 @@
+pub mod HeadersAlone
+pub mod AmongOutlines

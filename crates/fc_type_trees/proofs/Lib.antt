@@ -1,0 +1,2 @@
+pub mod NumberKinds
+pub mod Shown
