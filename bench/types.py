@@ -78,12 +78,12 @@ def coercions(count):
 
 # the name of a kind, what makes it, its sizes, and the status
 KINDS = [
-    ("joins", joins, (1_000, 2_000, 4_000), 0),
-    ("alternatives", alternatives, (1_000, 2_000, 4_000), 1),
-    ("arguments", arguments, (50, 100, 200), 0),
+    ("joins", joins, (1_200, 2_400, 4_800), 0),
+    ("alternatives", alternatives, (1_500, 3_000, 6_000), 1),
+    ("arguments", arguments, (60, 120, 240), 0),
     ("foralls", foralls, (60, 120, 240), 0),
-    ("kinds", kinds, (2_000, 4_000, 8_000), 0),
-    ("declared", declared, (1_000, 2_000, 4_000), 0),
+    ("kinds", kinds, (4_500, 9_000, 18_000), 0),
+    ("declared", declared, (4_000, 8_000, 16_000), 0),
     ("coercions", coercions, (30, 60, 120), 0),
 ]
 

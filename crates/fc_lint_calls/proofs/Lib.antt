@@ -1,4 +1,5 @@
 pub mod Asked
+pub mod BinderNumbers
 pub mod CalledJudged
 pub mod ConstructorFits
 pub mod Givens

@@ -5,7 +5,7 @@ use Rattle.fc_syntax.specs.Tree.{Kind}
 use Rattle.fc_syntax.specs.declared.expr.Head.{Head}
 use Rattle.fc_syntax.specs.declared.fault.FaultKind.{FaultKind}
 use Rattle.fc_syntax.specs.declared.fault.FaultKind.TheVariants.{AltType, LetType, NotAType, ScrutineeType}
-use Rattle.fc_model.specs.Calling.{binders_to, type_count}
+use Rattle.fc_model.specs.Calling.{type_count}
 use Rattle.fc_model.specs.Faulting.{F, and_then, need, under}
 use Rattle.fc_model.specs.Kinding.{Modules, is_value_kind, kind_or_fault, same_type}
 use Rattle.fc_model.specs.Nameless.{NTy, NAlt, NAlts, NBinder, NBranch, NExpr, NJoin, NJoinBind, NJoined, NJoins}
@@ -81,10 +81,6 @@ says_is v r whole rest e h = subst (λ q. Says v r q) (sym e) h
 
 -- ---- the number of what takes arguments for binders
 
-pub over_is : (k0 k2 k3 : TypeTable) (bs : List NBinder) (ks : List Kind) (over s : TypeId) → Grows k0 k2 → Grows k2 k3 → IsType k0 ks s → shown k3 ks over ≡ binders_to bs (shown k2 ks s)
-    → shown k3 ks over ≡ binders_to bs (shown k3 ks s)
-over_is k0 k2 k3 bs ks over s g2 g3 valid view = view ∙ ap (binders_to bs) (sym (shown-grows k2 k3 ks s g3 (IsType-grows k0 k2 ks s g2 valid)))
-
 -- ---- the kinds of a context
 
 pub kinds_in_context : (table : TypeTable) (ctx : code.Context) → (context_in table ctx).kinds ≡ scope_in ctx.scope
@@ -148,17 +144,17 @@ module _ (ms : Modules) (k0 : TypeTable) (ctx : code.Context) (s rt : TypeId) (b
 
   -- an alternative whose type leaves its binders, or not
   pub alt_says : (h : Head) (bs : List NBinder) (e : NExpr) (k1 : TypeTable) (i : ℕ) (owed : Option FaultKind) → IsContext k0 ctx → Grows k0 k1 → binders_judged ms (scope_in ctx.scope) 0 None bs ≡ Ok owed → i ≡ length bs
-      → (k2 k3 k4 : TypeTable) (body : TypeId) → Grows k0 k3 → IsType k0 (scope_in ctx.scope) s → IsType k0 (scope_in ctx.scope) rt
+      → (k2 k3 : TypeTable) (body : TypeId) → Grows k0 k2 → IsType k0 (scope_in ctx.scope) s → IsType k0 (scope_in ctx.scope) rt
       → under i (type_or_fault ms (with_binders bs (context_in k1 ctx)) e) ≡ Ok (shown k2 (kinds_past bs (scope_in ctx.scope)) body)
-      → Grows k2 k3 → Grows k3 k4 → IsType k2 (kinds_past bs (scope_in ctx.scope)) body → (next : Before) → head_goes ms (shown k3 (scope_in ctx.scope) s) b h bs ≡ Ok next
-      → (r : Result (Unit {0}) Flawed) → Leaves k4 (scope_in ctx.scope) body rt AltType r
+      → Grows k2 k3 → IsType k2 (kinds_past bs (scope_in ctx.scope)) body → (next : Before) → head_goes ms (shown k2 (scope_in ctx.scope) s) b h bs ≡ Ok next
+      → (r : Result (Unit {0}) Flawed) → Leaves k3 (scope_in ctx.scope) body rt AltType r
       → Says {X = Unit {0}} {Y = Before} (λ y. next) r (alt_judged ms (context_in k0 ctx) (shown k0 (scope_in ctx.scope) s) (shown k0 (scope_in ctx.scope) rt) b (NBranch h bs e))
-  alt_says h bs e k1 i owed context g1 judged part k2 k3 k4 body g3 scrutinee answer typed g23 g34 valid next head r leaves =
+  alt_says h bs e k1 i owed context g1 judged part k2 k3 body g2 scrutinee answer typed g23 valid next head r leaves =
       let ks = scope_in ctx.scope in
       let u = shown k2 (kinds_past bs ks) body in
       let rest : Before → Result Before F = λ n. leaves_as (type_count bs) u (shown k0 ks rt) AltType (Ok n) in
-      says_is (λ (y : Unit {0}). next) r _ (rest next) (alt_head h bs e k1 i owed context g1 judged part k3 u g3 scrutinee typed ∙ then_is (head_goes ms (shown k3 ks s) b h bs) next rest head)
-      (left_later next k0 k2 k4 bs ks body rt AltType r (Grows-further k0 k3 k4 g3 g34) (Grows-further k2 k3 k4 g23 g34) valid answer leaves)
+      says_is (λ (y : Unit {0}). next) r _ (rest next) (alt_head h bs e k1 i owed context g1 judged part k2 u g2 scrutinee typed ∙ then_is (head_goes ms (shown k2 ks s) b h bs) next rest head)
+      (left_later next k0 k2 k3 bs ks body rt AltType r (Grows-further k0 k2 k3 g2 g23) g23 valid answer leaves)
 
 -- ---- join points
 

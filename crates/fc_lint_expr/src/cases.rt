@@ -3,14 +3,14 @@ ghost use Rattle.std.specs.Prelude.{◌≡◌, IfOk, OnOk};
 ghost use Rattle.fc_model.specs.Says.{Says};
 ghost use Rattle.fc_lint_context.specs.ContextViews.{IsContext, context_in, modules_of_context};
 ghost use Rattle.fc_type_scope.specs.Scopes.{scope_in};
-ghost use Rattle.fc_model.specs.Calling.{binders_to};
+ghost use Rattle.fc_type_scope.specs.Behind.{IsEntered};
 ghost use Rattle.fc_model.specs.Faulting.{under};
 ghost use Rattle.fc_model.specs.NamelessView.{nalt_of, nalts_of, nbinders_of, nty_of};
 ghost use Rattle.fc_model.specs.Typing as words;
 ghost use Rattle.fc_model.specs.Typing.{Start, alt_judged, alts_judged, with_value};
 ghost use Rattle.fc_lint_calls.specs.AltViews.{before_of};
 ghost use Rattle.fc_lint_expr.specs.Cases.{case_judged};
-ghost use Rattle.fc_type_table.specs.TypeTables.{Grows, IsType, modules_in, shown};
+ghost use Rattle.fc_type_table.specs.TypeTables.{Grows, IsType, modules_in, nodes_of, shown};
 
 use crate::binding::{part_behind, type_behind};
 use crate::written::{judged_binders, kinded_part};
@@ -18,6 +18,7 @@ use fc_lint_calls::{Before, case_type, constructor_goes, default_goes, leaves_as
 use fc_lint_context::Context;
 use fc_model::{Flawed, deeper, flaw_here, next_part};
 use fc_syntax::{FaultKind, Head, NAlt, NBinder, NTy};
+use fc_type_scope::Entered;
 use fc_type_table::{TypeId, TypeTable};
 use std::alloc::Global;
 
@@ -30,15 +31,14 @@ pub(crate) struct Expected {
     pub(crate) answer: TypeId,
 }
 
-/// The premises of the head of an alternative with these binders, where `over` is the type of what takes arguments for them and is then of
-/// the scrutinee's type: `AltOrder` for the default, `LitAlt` and `AltOrder` for a literal, `AltConstructor`, `AltOrder` and `ConArity` for a
-/// constructor. What stands before the next alternative.
+/// The premises of the head of an alternative with these binders, which bind this: `AltOrder` for the default, `LitAlt` and `AltOrder` for a
+/// literal, `AltConstructor`, `AltOrder` and `ConArity` for a constructor. What stands before the next alternative.
 #[tactic(auto, using(crate::proofs::Judging::judging_rules))]
 fn head_goes(
     alloc: Global,
     head: &Head,
     binders: &[NBinder],
-    over: TypeId,
+    entered: &Entered,
     scrutinee: TypeId,
     before: Before,
     types: &mut TypeTable,
@@ -46,9 +46,8 @@ fn head_goes(
 ) -> Result<Before, Flawed>
     requires context { IsContext types.old context.now }
     requires modules { modules_in types.old ≡ modules_of_context context.now }
-    requires over_in { IsType types.old (scope_in context.now.scope) over }
     requires scrutinee_in { IsType types.old (scope_in context.now.scope) scrutinee }
-    requires over_view { (shown types.old (scope_in context.now.scope) over) ≡ binders_to (nbinders_of binders.now) (shown types.old (scope_in context.now.scope) scrutinee) }
+    requires entered { IsEntered (nodes_of types.old) (scope_in context.now.scope) (nbinders_of binders.now) entered.now }
     ensures says { Says before_of result (words.head_goes (modules_of_context context.now) (shown types.old (scope_in context.now.scope) scrutinee) (before_of before) head.now (nbinders_of binders.now)) }
     ensures grows { OnOk result (Grows types.old types.new) }
     ensures context { OnOk result (IsContext types.new context.now) }
@@ -65,7 +64,8 @@ fn head_goes(
                 k.ty,
                 scrutinee,
                 before,
-                over,
+                binders,
+                entered,
                 types,
                 &context.scope,
             ),
@@ -103,14 +103,11 @@ pub(crate) fn alternative_fits(
         &*context,
         part,
     )?;
-    let over = context
-        .scope
-        .function_to(binders, &behind.entered, wanted.scrutinee, types)?;
     let next = head_goes(
         alloc,
         &alternative.head,
         binders,
-        over,
+        &behind.entered,
         wanted.scrutinee,
         before,
         types,

@@ -1,9 +1,12 @@
 //! The nodes of a table.
 ghost use Rattle.std.specs.Prelude.{◌≡◌, ◌+◌, ◌-◌, max, false, None, IfOk};
+ghost use Rattle.std.specs.Cmp.Rules.{hashing};
 ghost use Rattle.std.specs.Option.{option_map};
+ghost use Rattle.std.proofs.Common.{rules};
 ghost use Rattle.fc_type_table.specs.Names.{name_from, name_of};
 
 use fc_syntax::{Memory, Role, Text};
+use std::hash::{Hash, Hasher};
 use std::rc::RcStr;
 
 /// The most that parts of a type in a table nest. A type that would be deeper is answered as out of memory, so that a walk over
@@ -88,7 +91,7 @@ pub enum Piece {
 }
 
 /// What is kept of each type, so that a walk sees at once where it has nothing to do.
-#[derive(Clone, Copy, PartialEq, Eq, Hash)]
+#[derive(Clone, Copy, PartialEq, Eq)]
 pub struct Measure {
     /// How deep the type is.
     pub depth: u32,
@@ -176,7 +179,7 @@ impl Measure {
 }
 
 /// What is told of the kind of each type when it is made, so that it is never worked out again.
-#[derive(Clone, Copy, PartialEq, Eq, Hash)]
+#[derive(Clone, Copy, PartialEq, Eq)]
 pub struct Judged {
     /// Whether this is a kind, without `#`.
     pub lifted: bool,
@@ -211,7 +214,7 @@ impl Judged {
 }
 
 /// A piece, and what is kept of the type that it is the outermost piece of.
-#[derive(PartialEq, Eq, Hash, Drop)]
+#[derive(PartialEq, Eq, Drop)]
 pub struct Node {
     /// The piece.
     pub piece: Piece,
@@ -219,4 +222,15 @@ pub struct Node {
     pub measure: Measure,
     /// What is told of its kind.
     pub judged: Judged,
+}
+
+// What is kept and told of a type follows from its piece, so that the piece alone is hashed.
+impl Hash for Node {
+    ghost hash_input = { λ n. ⟦<Piece as Hash>⟧.hash_input n.piece };
+
+    ghost respects_eq = { Prim.search (hashing, rules) };
+
+    fn hash<H: Hasher>(&self, state: &mut H) {
+        self.piece.hash(state);
+    }
 }

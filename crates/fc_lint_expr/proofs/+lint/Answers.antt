@@ -100,14 +100,13 @@ cases::alternative_fits-type_behind-requires = of_cases.cases::alternative_fits-
 pub cases::alternative_fits-returns-in_err-body-clause-says : goal.cases::alternative_fits-returns-in_err-body-clause-says
 cases::alternative_fits-returns-in_err-body-clause-says = of_cases.cases::alternative_fits-returns-in_err-body-clause-says
 
-pub cases::alternative_fits-function_to-requires-clause-answer_in : goal.cases::alternative_fits-function_to-requires-clause-answer_in
-cases::alternative_fits-function_to-requires-clause-answer_in = of_cases.cases::alternative_fits-function_to-requires-clause-answer_in
+pub cases::alternative_fits-head_goes-requires-clause-scrutinee_in :
+    goal.cases::alternative_fits-head_goes-requires-clause-scrutinee_in
+cases::alternative_fits-head_goes-requires-clause-scrutinee_in = of_cases.cases::alternative_fits-head_goes-requires-clause-scrutinee_in
 
-pub cases::alternative_fits-head_goes-requires-clause-context : goal.cases::alternative_fits-head_goes-requires-clause-context
-cases::alternative_fits-head_goes-requires-clause-context = of_cases.cases::alternative_fits-head_goes-requires-clause-context
-
-pub cases::alternative_fits-head_goes-requires-clause-over_view : goal.cases::alternative_fits-head_goes-requires-clause-over_view
-cases::alternative_fits-head_goes-requires-clause-over_view = of_cases.cases::alternative_fits-head_goes-requires-clause-over_view
+pub cases::alternative_fits-head_goes-requires-clause-entered :
+    goal.cases::alternative_fits-head_goes-requires-clause-entered
+cases::alternative_fits-head_goes-requires-clause-entered = of_cases.cases::alternative_fits-head_goes-requires-clause-entered
 
 pub cases::alternative_fits-returns-in_err-next-clause-says : goal.cases::alternative_fits-returns-in_err-next-clause-says
 cases::alternative_fits-returns-in_err-next-clause-says = of_cases.cases::alternative_fits-returns-in_err-next-clause-says

@@ -5,7 +5,7 @@ use Rattle.fc_lint_calls.specs.AltViews.{before_of}
 use Rattle.fc_lint_context.proofs.Contexts.{IsContextAt-grows}
 use Rattle.fc_lint_context.specs.ContextViews.{context_in, modules_of_context}
 use Rattle.fc_lint_expr.proofs.+lint.Goals.{lets::bind_fits-else-not-recursive, lets::bind_fits-then-not-recursive}
-use Rattle.fc_lint_expr.proofs.Alternatives.{alt_binders_refused, alt_body_refused, alt_head_refused, alt_later, alt_says, case_alternatives_refused, case_answer_refused, case_kind_refused, case_says, context_stays, over_is, refuses_is, refuses_then}
+use Rattle.fc_lint_expr.proofs.Alternatives.{alt_binders_refused, alt_body_refused, alt_head_refused, alt_later, alt_says, case_alternatives_refused, case_answer_refused, case_kind_refused, case_says, context_stays, refuses_is, refuses_then}
 use Rattle.fc_lint_expr.proofs.Judging.{modules-grow}
 use Rattle.fc_lint_expr.proofs.Turns.{alts_more, alts_step}
 use Rattle.fc_lint_expr.specs.Cases.{case_judged}
@@ -16,6 +16,7 @@ use Rattle.fc_model.specs.Says.{Refuses, Says}
 use Rattle.fc_model.specs.Typing.{Context, Start, alt_judged, alts_judged, argument_given, bind_judged, cast, found_constructed, is_atom, join_judged, joins_judged, jumped, kinds_behind, operated, type_or_fault, with_binder, without_joins}
 use Rattle.fc_syntax.specs.declared.expr.Binder.{Binder}
 use Rattle.fc_syntax.specs.declared.ty.Ref.{Ref}
+use Rattle.fc_type_scope.proofs.OneMore.{entered_grows}
 use Rattle.fc_type_scope.proofs.Growing.{IsType-grows}
 use Rattle.fc_type_scope.specs.Behind.{kinds_past}
 use Rattle.fc_type_scope.specs.Scopes.{scope_in}
@@ -70,30 +71,20 @@ cases::alternative_fits-returns-in_err-body-clause-says t c =
     let given : c.from_residual-in_err-body.result ≡ Err f = search rules in
     subst (λ r. Says {Y = words.Before} before_of r (judged a.binders)) (sym given) (subst (λ xs. Refuses f (judged xs)) c.as_slice-binders.ensures refused)
 
-pub cases::alternative_fits-function_to-requires-clause-answer_in :
-    goal.cases::alternative_fits-function_to-requires-clause-answer_in
-cases::alternative_fits-function_to-requires-clause-answer_in t c =
-    let ks = scope_in c.args.context.now.scope in
-    let s = c.args.wanted.scrutinee in
+pub cases::alternative_fits-head_goes-requires-clause-scrutinee_in :
+    goal.cases::alternative_fits-head_goes-requires-clause-scrutinee_in
+cases::alternative_fits-head_goes-requires-clause-scrutinee_in t c =
     let k0 = c.args.types.now in
     let k1 = c.judged_binders.new.types in
     let k2 = c.type_behind.new.types in
     let g2 = Grows-further k0 k1 k2 c.in_ok-behind.ensures.grows c.in_ok-body.ensures.grows in
-    IsType-grows k0 k2 ks s g2 c.requires.scrutinee_in
+    IsType-grows k0 k2 (scope_in c.args.context.now.scope) c.args.wanted.scrutinee g2 c.requires.scrutinee_in
 
-pub cases::alternative_fits-head_goes-requires-clause-context :
-    goal.cases::alternative_fits-head_goes-requires-clause-context
-cases::alternative_fits-head_goes-requires-clause-context t c =
-    IsContextAt-grows (nodes_of c.type_behind.new.types) (nodes_of c.function_to.new.types) c.args.context.now c.in_ok-over.ensures.grows.nodes c.in_ok-body.ensures.context
-
-pub cases::alternative_fits-head_goes-requires-clause-over_view :
-    goal.cases::alternative_fits-head_goes-requires-clause-over_view
-cases::alternative_fits-head_goes-requires-clause-over_view t c =
-    let k0 = c.args.types.now in
-    let k1 = c.judged_binders.new.types in
-    let k2 = c.type_behind.new.types in
-    let g2 = Grows-further k0 k1 k2 c.in_ok-behind.ensures.grows c.in_ok-body.ensures.grows in
-    over_is k0 k2 c.function_to.new.types (nbinders_of c.as_slice-binders.result.now) (scope_in c.args.context.now.scope) c.in_ok-over.over c.args.wanted.scrutinee g2 c.in_ok-over.ensures.grows c.requires.scrutinee_in c.in_ok-over.ensures.view
+pub cases::alternative_fits-head_goes-requires-clause-entered :
+    goal.cases::alternative_fits-head_goes-requires-clause-entered
+cases::alternative_fits-head_goes-requires-clause-entered t c =
+    let bs = nbinders_of c.as_slice-binders.result.now in
+    entered_grows (nodes_of c.judged_binders.new.types) (nodes_of c.type_behind.new.types) (scope_in c.args.context.now.scope) bs c.in_ok-behind.behind.entered c.in_ok-body.ensures.grows.nodes c.in_ok-behind.ensures.entered
 
 pub cases::alternative_fits-returns-in_err-next-clause-says :
     goal.cases::alternative_fits-returns-in_err-next-clause-says
@@ -111,10 +102,8 @@ cases::alternative_fits-returns-in_err-next-clause-says t c =
     let k1 = c.judged_binders.new.types in
     let k2 = c.type_behind.new.types in
     let g2 = Grows-further k0 k1 k2 c.in_ok-behind.ensures.grows c.in_ok-body.ensures.grows in
-    let k3 = c.function_to.new.types in
-    let g3 = Grows-further k0 k2 k3 g2 c.in_ok-over.ensures.grows in
     let f = c.in_err-next.field-0.0 in
-    let refused : Refuses f (judged c.as_slice-binders.result.now) = alt_head_refused ms k0 ctx s rt b a.head bs (nexpr_of a.body) k1 c.in_ok-part.part c.in_ok-behind.behind.owed c.requires.context c.in_ok-behind.ensures.grows c.in_ok-behind.ensures.says c.in_ok-part.ensures.part k3 (shown k2 (kinds_past bs ks) c.in_ok-body.body) g3 c.requires.scrutinee_in c.in_ok-body.ensures.says f c.in_err-next.ensures.says in
+    let refused : Refuses f (judged c.as_slice-binders.result.now) = alt_head_refused ms k0 ctx s rt b a.head bs (nexpr_of a.body) k1 c.in_ok-part.part c.in_ok-behind.behind.owed c.requires.context c.in_ok-behind.ensures.grows c.in_ok-behind.ensures.says c.in_ok-part.ensures.part k2 (shown k2 (kinds_past bs ks) c.in_ok-body.body) g2 c.requires.scrutinee_in c.in_ok-body.ensures.says f c.in_err-next.ensures.says in
     let given : c.from_residual-in_err-next.result ≡ Err f = search rules in
     subst (λ r. Says {Y = words.Before} before_of r (judged a.binders)) (sym given) (subst (λ xs. Refuses f (judged xs)) c.as_slice-binders.ensures refused)
 
@@ -134,11 +123,9 @@ cases::alternative_fits-returns-in_err-leaves_as-clause-says t c =
     let k1 = c.judged_binders.new.types in
     let k2 = c.type_behind.new.types in
     let g2 = Grows-further k0 k1 k2 c.in_ok-behind.ensures.grows c.in_ok-body.ensures.grows in
-    let k3 = c.function_to.new.types in
-    let g3 = Grows-further k0 k2 k3 g2 c.in_ok-over.ensures.grows in
     let f = c.in_err-leaves_as.field-0.0 in
     let refused : Refuses f (judged c.as_slice-binders.result.now) = alt_says ms k0 ctx s rt b a.head bs (nexpr_of a.body) k1 c.in_ok-part.part c.in_ok-behind.behind.owed c.requires.context c.in_ok-behind.ensures.grows c.in_ok-behind.ensures.says c.in_ok-part.ensures.part
-    k2 k3 c.head_goes.new.types c.in_ok-body.body g3 c.requires.scrutinee_in c.requires.answer_in c.in_ok-body.ensures.says c.in_ok-over.ensures.grows c.in_ok-next.ensures.grows c.in_ok-body.ensures.valid
+    k2 c.head_goes.new.types c.in_ok-body.body g2 c.requires.scrutinee_in c.requires.answer_in c.in_ok-body.ensures.says c.in_ok-next.ensures.grows c.in_ok-body.ensures.valid
     (before_of c.in_ok-next.next) c.in_ok-next.ensures.says (Err f) c.in_err-leaves_as.ensures in
     let given : c.from_residual-in_err-leaves_as.result ≡ Err f = search rules in
     subst (λ r. Says {Y = words.Before} before_of r (judged a.binders)) (sym given) (subst (λ xs. Refuses f (judged xs)) c.as_slice-binders.ensures refused)
@@ -158,10 +145,8 @@ cases::alternative_fits-returns-clause-says t c =
     let k1 = c.judged_binders.new.types in
     let k2 = c.type_behind.new.types in
     let g2 = Grows-further k0 k1 k2 c.in_ok-behind.ensures.grows c.in_ok-body.ensures.grows in
-    let k3 = c.function_to.new.types in
-    let g3 = Grows-further k0 k2 k3 g2 c.in_ok-over.ensures.grows in
     let said : judged c.as_slice-binders.result.now ≡ Ok (before_of c.in_ok-next.next) = alt_says ms k0 ctx s rt b a.head bs (nexpr_of a.body) k1 c.in_ok-part.part c.in_ok-behind.behind.owed c.requires.context c.in_ok-behind.ensures.grows c.in_ok-behind.ensures.says c.in_ok-part.ensures.part
-    k2 k3 c.head_goes.new.types c.in_ok-body.body g3 c.requires.scrutinee_in c.requires.answer_in c.in_ok-body.ensures.says c.in_ok-over.ensures.grows c.in_ok-next.ensures.grows c.in_ok-body.ensures.valid
+    k2 c.head_goes.new.types c.in_ok-body.body g2 c.requires.scrutinee_in c.requires.answer_in c.in_ok-body.ensures.says c.in_ok-next.ensures.grows c.in_ok-body.ensures.valid
     (before_of c.in_ok-next.next) c.in_ok-next.ensures.says (Ok (tt {0})) c.in_ok-leaves_as.ensures in
     subst (λ xs. judged xs ≡ Ok (before_of c.in_ok-next.next)) c.as_slice-binders.ensures said
 
@@ -172,9 +157,7 @@ cases::alternative_fits-leaves_as-requires-clause-outer_in t c =
     let k1 = c.judged_binders.new.types in
     let k2 = c.type_behind.new.types in
     let g2 = Grows-further k0 k1 k2 c.in_ok-behind.ensures.grows c.in_ok-body.ensures.grows in
-    let k3 = c.function_to.new.types in
-    let g3 = Grows-further k0 k2 k3 g2 c.in_ok-over.ensures.grows in
-    let g4 = Grows-further k0 k3 c.head_goes.new.types g3 c.in_ok-next.ensures.grows in
+    let g4 = Grows-further k0 k2 c.head_goes.new.types g2 c.in_ok-next.ensures.grows in
     IsType-grows k0 c.head_goes.new.types (scope_in c.args.context.now.scope) c.args.wanted.answer g4 c.requires.answer_in
 
 pub cases::alternative_fits-returns-clause-grows :
@@ -184,9 +167,7 @@ cases::alternative_fits-returns-clause-grows t c =
     let k1 = c.judged_binders.new.types in
     let k2 = c.type_behind.new.types in
     let g2 = Grows-further k0 k1 k2 c.in_ok-behind.ensures.grows c.in_ok-body.ensures.grows in
-    let k3 = c.function_to.new.types in
-    let g3 = Grows-further k0 k2 k3 g2 c.in_ok-over.ensures.grows in
-    Grows-further k0 k3 c.head_goes.new.types g3 c.in_ok-next.ensures.grows
+    Grows-further k0 k2 c.head_goes.new.types g2 c.in_ok-next.ensures.grows
 
 pub cases::alternatives_fit-returns-clause-context :
     goal.cases::alternatives_fit-returns-clause-context
