@@ -1,5 +1,5 @@
 //! How large an answer may still be.
-ghost use Rattle.std.specs.Prelude.{◌≡◌, ◌+◌, OnOk};
+ghost use Rattle.std.specs.Prelude.{◌≡◌, ◌+◌, ◌^◌, ◌<◌, OnOk};
 
 use fc_syntax::Memory;
 
@@ -16,7 +16,8 @@ pub struct Room {
 impl Room {
     /// Room for an answer of so many pieces.
     pub fn new(pieces: u32) -> Room
-        ensures { result.pieces ≡ pieces }
+        ensures pieces { result.pieces ≡ pieces }
+        ensures levels { result.levels ≡ 2000 }
     {
         Room {
             pieces,
@@ -26,7 +27,8 @@ impl Room {
 
     /// Goes one level down, for one piece. Fails where there is no room for it.
     pub fn enter(&mut self) -> Result<(), Memory>
-        ensures { OnOk result (self.new.pieces + 1 ≡ self.old.pieces) }
+        ensures pieces { OnOk result (self.new.pieces + 1 ≡ self.old.pieces) }
+        ensures levels { OnOk result (self.new.levels + 1 ≡ self.old.levels) }
     {
         match (self.pieces.checked_sub(1), self.levels.checked_sub(1)) {
             (Some(pieces), Some(levels)) => {
@@ -40,7 +42,8 @@ impl Room {
 
     /// Goes one level up again.
     pub fn leave(&mut self)
-        ensures { self.new.pieces ≡ self.old.pieces }
+        ensures pieces { self.new.pieces ≡ self.old.pieces }
+        ensures levels { self.old.levels + 1 < 2 ^ 32 → self.new.levels ≡ self.old.levels + 1 }
     {
         self.levels = self.levels.saturating_add(1);
     }
