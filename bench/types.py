@@ -1,9 +1,10 @@
 #!/usr/bin/env python3
 """Lints modules whose types are what takes time, with the program `coreopt`, and prints for each size the bytes, the processor seconds (the least of three runs), the peak memory, and
-the growth: the exponent of time in bytes since the size before, where that took a tenth of a second. There are seven kinds: a join point with n types and n values of them (joins);
+the growth: the exponent of time in bytes since the size before, where that took a tenth of a second. There are eight kinds: a join point with n types and n values of them (joins);
 the same binders in an alternative of a constructor that has none, which is refused (alternatives); a function of n types that is applied at n types of n
 parts each (arguments); eighty definitions of lambdas over n types and n values (foralls); a type variable of a kind of n parts that is an argument n/2 times (kinds); one that the type of a
-definition mentions n/2 times (declared); and n foralls around a coercion that is taken to instances n times and back (coercions). Run it from anywhere, on a machine where the program is built (`./coreopt build examples/Shapes.fc`), or with another
+definition mentions n/2 times (declared); n foralls around a coercion that is taken to instances n times and back (coercions); and a data type over a kind
+of n parts that n/2 coercions build of a variable (built). Run it from anywhere, on a machine where the program is built (`./coreopt build examples/Shapes.fc`), or with another
 program as its only word."""
 import math
 import tempfile
@@ -76,6 +77,13 @@ def coercions(count):
     yield f"(def f {of} (cast (fail {of}) (sub {around}(refl N {of}){at}{')' * count})))"
 
 
+def built(count):
+    of = kind(count)
+    yield f"(data D ((a {of} N)) (L ()))"
+    casts = " ".join(f"(y{k} (fun (D b) (D b)) (lam ((x (D b))) (cast x (sub (tc N D (refl N b))))))" for k in range(count // 2))
+    yield f"(def g (forall (b {of}) T) (lam ((type b {of})) (letrec ({casts}) (con K))))"
+
+
 # the name of a kind, what makes it, its sizes, and the status
 KINDS = [
     ("joins", joins, (1_200, 2_400, 4_800), 0),
@@ -85,6 +93,7 @@ KINDS = [
     ("kinds", kinds, (4_500, 9_000, 18_000), 0),
     ("declared", declared, (4_000, 8_000, 16_000), 0),
     ("coercions", coercions, (30, 60, 120), 0),
+    ("built", built, (4_000, 8_000, 16_000), 0),
 ]
 
 

@@ -1,11 +1,14 @@
 //! Declared types at what coercions relate.
-ghost use Rattle.std.specs.Prelude.{◌≡◌, IfOk, OnOk};
+ghost use Rattle.std.specs.Prelude.{◌≡◌, length, nat_le, Ok, IfOk, OnOk};
 ghost use Rattle.fc_model.specs.Coercing as words;
+ghost use Rattle.fc_model.specs.Faulting.{need};
 ghost use Rattle.fc_model.specs.Kinding.{name_kind};
+ghost use Rattle.fc_model.specs.NamelessView.{nplains_of};
 ghost use Rattle.fc_model.specs.Nameless.{NTCon};
 ghost use Rattle.fc_model.specs.Says.{Says};
 ghost use Rattle.fc_coercion_forms.specs.Kinded.{takes_or_fault};
 ghost use Rattle.fc_syntax.specs.Tree.{KStar};
+ghost use Rattle.fc_syntax.specs.declared.fault.FaultKind.TheVariants.{FamilyArity};
 ghost use Rattle.fc_types.specs.ModuleViews.{modules_of};
 ghost use Rattle.fc_type_scope.specs.EndViews.{AreEndsAt, IsEnds, shown_all_ends_at, shown_ends};
 ghost use Rattle.fc_type_scope.specs.Scopes.{scope_in};
@@ -15,10 +18,10 @@ use crate::forms::{applied_once, kinded};
 use crate::roles::are_at_roles;
 use fc_model::{Flawed, flaw_here};
 use fc_roles::params_of_name;
-use fc_syntax::{FaultKind, Memory, Name, Role};
+use fc_syntax::{FaultKind, Memory, NDecl, Name, Plain, Role};
 use fc_type_scope::{Ends, TypeScope};
 use fc_type_table::{TypeId, TypeTable};
-use fc_types::{Declarations, kind_of_name};
+use fc_types::Declarations;
 use std::alloc::Global;
 
 /// A type applied to the left ends of coercions, and to their right ends.
@@ -64,12 +67,32 @@ fn named(
     applied_to(role, head, group, types, scope)
 }
 
-/// Whether a name takes this many arguments: the fault of its kind.
+/// Whether a family takes so many arguments: `FamilyArity` where they are fewer than its parameters.
+fn family_takes(alloc: Global, params: &[Plain], count: usize) -> Result<(), Flawed>
+    ensures { Says (λ _. KStar) result (need (nat_le (length (nplains_of params.now)) count) FamilyArity (Ok KStar)) }
+{
+    if params.len() > count {
+        return Err(flaw_here(alloc, FaultKind::FamilyArity));
+    }
+    Ok(())
+}
+
+/// Whether a name takes this many arguments: `Unbound` where no type is declared by it, and `FamilyArity`. Its kind is not made.
+#[tactic(auto, using(fc_syntax::proofs::View::view_rules))]
 fn takes(alloc: Global, name: &Name, count: usize, declared: &Declarations) -> Result<(), Flawed>
     ensures { Says (λ _. KStar) result (takes_or_fault (name_kind (modules_of declared.now) name.now count)) }
 {
-    kind_of_name(alloc, name, declared, count)?;
-    Ok(())
+    match declared.type_named(name) {
+        None => Err(flaw_here(alloc, FaultKind::Unbound)),
+        Some(decl) => match decl {
+            NDecl::DataType(_, _, _) => Ok(()),
+            NDecl::NewType(_, _, _, _) => Ok(()),
+            NDecl::Family(_, params, _) => family_takes(alloc, params.as_slice(), count),
+            NDecl::Axiom(_, _, _, _) => Err(flaw_here(alloc, FaultKind::Unbound)),
+            NDecl::Def(_, _, _) => Err(flaw_here(alloc, FaultKind::Unbound)),
+            NDecl::Wrap(_, _, _) => Err(flaw_here(alloc, FaultKind::Unbound)),
+        },
+    }
 }
 
 /// A declared type at what coercions relate: `RoleWrong` where one is not at the role of its parameter, then the fault of a name that takes
