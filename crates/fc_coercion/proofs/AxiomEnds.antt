@@ -9,12 +9,12 @@ use Rattle.fc_model.specs.Coercing.{Axiom, Ends, are_at_roles, are_of_kinds, at_
 use Rattle.fc_model.specs.Faulting.{F, At, and_then, need}
 use Rattle.fc_model.specs.Kinding.{Modules}
 use Rattle.fc_model.specs.Nameless.{NTy}
-use Rattle.fc_model.specs.Says.{Refuses}
+use Rattle.fc_model.specs.Says.{Refuses, Says}
 use Rattle.fc_model.specs.declared.flaw.Flawed.{Flawed}
 use Rattle.fc_coercion_forms.specs.Axioms.{fits_or_fault, sides_at}
+use Rattle.fc_lint_context.proofs.Faults.{fails}
 use Rattle.fc_lint_context.specs.DeclaredViews.{over_kinds}
 use Rattle.fc_coercion.proofs.AxiomSides.{sides_at_parameters}
-use Rattle.fc_coercion.proofs.Beside.{refuses_is, refuses_then, then_is}
 
 three_needed : {X Y : Type 0} (a b c : Bool) (i j k : FaultKind) (x : X) (go : X → Result Y F)
     → need a i (need b j (need c k (go x))) ≡ and_then (need a i (need b j (need c k (Ok x)))) go
@@ -49,8 +49,8 @@ module _ (ms : Modules) (ks : List Kind) (es : List Ends) where
       (λ r. at_sides (Some a))
   axiom_is None = refl
 
-  pub axiom_refused : (a : Option Axiom) (f : Flawed) → Refuses f (fits_or_fault ms ks a es) → Refuses f (axiom_ends ms ks a es)
-  axiom_refused a f h = refuses_is f _ (axiom_ends ms ks a es) (axiom_is a) (refuses_then f (fits_or_fault ms ks a es) (λ r. at_sides a) h)
+  pub axiom_fails : {X : Type 0} (v : X → Ends) (answer : Result X Flawed) (a : Option Axiom) (f : Flawed) → Refuses f (fits_or_fault ms ks a es) → answer ≡ Err f → Says v answer (axiom_ends ms ks a es)
+  axiom_fails v answer a f h is = rw (axiom_is a) (fails _ _ _ _ _ h is)
 
   -- the sides of the axiom, if there is one
   module _ (l u : NTy) where
@@ -76,7 +76,7 @@ module _ (ms : Modules) (ks : List Kind) (es : List Ends) where
         let h = found_sides x r fits shows in
         let both : Some (s, t) ≡ Some (at_parameters (lefts es) x.ends.left, at_parameters (rights es) x.ends.right) = at ∙ h.1 in
         let role : x.ends.role ≡ r = h.0 in
-        axiom_is (Some x) ∙ then_is (fits_or_fault ms ks (Some x) es) r (λ r. at_sides (Some x)) fits ∙ ap (made x.ends.role) (sym both) ∙ ap (λ q. made q (Some (s, t))) role
+        axiom_is (Some x) ∙ ap (λ q. and_then q (λ r. at_sides (Some x))) fits ∙ ap (made x.ends.role) (sym both) ∙ ap (λ q. made q (Some (s, t))) role
     axiom_answers None r s t fits shows at = absurd cc
 
     pub sides_found : {X : Type 0} (a : Option Axiom) (r : Role) → fits_or_fault ms ks a es ≡ Ok r → AreSides a → None ≡ sides_at l u es → X

@@ -1,7 +1,5 @@
-pub mod Alone
 pub mod AxiomEnds
 pub mod AxiomFits
 pub mod AxiomSides
 pub mod Beside
 pub mod Growing
-pub mod Quantified

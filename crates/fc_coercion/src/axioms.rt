@@ -6,7 +6,7 @@ ghost use Rattle.fc_model.specs.NamelessView.{ndecl_of};
 ghost use Rattle.fc_model.specs.Says.{Says};
 ghost use Rattle.fc_syntax.specs.Tree as trees;
 ghost use Rattle.fc_types.specs.TableViews.{axiom_of};
-ghost use Rattle.fc_lint_context.specs.ContextViews.{IsContext, modules_of_context};
+ghost use Rattle.fc_lint_context.specs.ContextViews.{IsContextOver, modules_of_context};
 ghost use Rattle.fc_coercion_forms.specs.Axioms.{fits_or_fault};
 ghost use Rattle.fc_type_scope.specs.EndViews.{AreEndsAt, IsEnds, shown_all_ends_at, shown_ends};
 ghost use Rattle.fc_type_scope.specs.Scopes.{scope_in};
@@ -66,8 +66,7 @@ pub(crate) fn axiom_at(
     types: &mut TypeTable,
     context: &Context,
 ) -> Result<Ends, Flawed>
-    requires context { IsContext types.old context.now }
-    requires modules { modules_in types.old ≡ modules_of_context context.now }
+    requires context { IsContextOver types.old context.now }
     requires group_in { AreEndsAt (nodes_of types.old) (scope_in context.now.scope) group.now }
     ensures valid { IfOk result (λ e. IsEnds types.new (scope_in context.now.scope) e) }
     ensures says { Says (λ e. shown_ends types.new (scope_in context.now.scope) e) result (words.axiom_ends (modules_of_context context.now) (scope_in context.now.scope) (axiom_named (modules_of_context context.now) name.now) (shown_all_ends_at (nodes_of types.old) (scope_in context.now.scope) group.now)) }

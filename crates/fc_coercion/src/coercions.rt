@@ -7,7 +7,7 @@ ghost use Rattle.fc_model.specs.NamelessView.{nco_of, ncos_of, nty_of};
 ghost use Rattle.fc_model.specs.Nameless.{NGAll, NGRefl, NGUniv};
 ghost use Rattle.fc_model.specs.Says.{Says};
 ghost use Rattle.fc_coercion.specs.Pairs.{two_ends};
-ghost use Rattle.fc_lint_context.specs.ContextViews.{IsContext, context_in, modules_of_context};
+ghost use Rattle.fc_lint_context.specs.ContextViews.{IsContextOver, context_in, modules_of_context};
 ghost use Rattle.fc_type_scope.specs.EndViews.{AreEndsAt, IsEnds, shown_all_ends_at, shown_ends};
 ghost use Rattle.fc_type_scope.specs.Scopes.{scope_in};
 ghost use Rattle.fc_type_table.specs.TypeTables.{Grows, modules_in, nodes_of};
@@ -33,12 +33,11 @@ fn reflexive(
     types: &mut TypeTable,
     context: &Context,
 ) -> Result<Ends, Flawed>
-    requires context { IsContext types.old context.now }
-    requires modules { modules_in types.old ≡ modules_of_context context.now }
+    requires context { IsContextOver types.old context.now }
     ensures valid { IfOk result (λ e. IsEnds types.new (scope_in context.now.scope) e) }
     ensures says { Says (λ e. shown_ends types.new (scope_in context.now.scope) e) result (ends_or_fault (modules_of_context context.now) (scope_in context.now.scope) (context_in types.old context.now).coercions (NGRefl role (nty_of t.now))) }
     ensures grows { OnOk result (Grows types.old types.new) }
-    ensures context { OnOk result (IsContext types.new context.now) }
+    ensures context { OnOk result (IsContextOver types.new context.now) }
 {
     let read = context.scope.kinded_part(alloc, t, types, 0)?;
     Ok(Ends {
@@ -57,12 +56,11 @@ fn universal(
     types: &mut TypeTable,
     context: &Context,
 ) -> Result<Ends, Flawed>
-    requires context { IsContext types.old context.now }
-    requires modules { modules_in types.old ≡ modules_of_context context.now }
+    requires context { IsContextOver types.old context.now }
     ensures valid { IfOk result (λ e. IsEnds types.new (scope_in context.now.scope) e) }
     ensures says { Says (λ e. shown_ends types.new (scope_in context.now.scope) e) result (ends_or_fault (modules_of_context context.now) (scope_in context.now.scope) (context_in types.old context.now).coercions (NGUniv (nty_of t.now) (nty_of u.now))) }
     ensures grows { OnOk result (Grows types.old types.new) }
-    ensures context { OnOk result (IsContext types.new context.now) }
+    ensures context { OnOk result (IsContextOver types.new context.now) }
 {
     let left = context.scope.kinded_part(alloc, t, types, 0)?;
     let right = context.scope.kinded_part(alloc, u, types, 1)?;
@@ -85,12 +83,11 @@ pub fn ends_of_part(
     context: &Context,
     part: u32,
 ) -> Result<Ends, Flawed>
-    requires context { IsContext types.old context.now }
-    requires modules { modules_in types.old ≡ modules_of_context context.now }
+    requires context { IsContextOver types.old context.now }
     ensures valid { IfOk result (λ e. IsEnds types.new (scope_in context.now.scope) e) }
     ensures says { Says (λ e. shown_ends types.new (scope_in context.now.scope) e) result (under part (ends_or_fault (modules_of_context context.now) (scope_in context.now.scope) (context_in types.old context.now).coercions (nco_of g.now))) }
     ensures grows { OnOk result (Grows types.old types.new) }
-    ensures context { OnOk result (IsContext types.new context.now) }
+    ensures context { OnOk result (IsContextOver types.new context.now) }
 {
     match ends_of(alloc, g, types, &*context) {
         Ok(ends) => Ok(ends),
@@ -107,12 +104,11 @@ fn ends_behind(
     types: &mut TypeTable,
     context: &Context,
 ) -> Result<Ends, Flawed>
-    requires context { IsContext types.old context.now }
-    requires modules { modules_in types.old ≡ modules_of_context context.now }
+    requires context { IsContextOver types.old context.now }
     ensures valid { IfOk result (λ e. IsEnds types.new (scope_in context.now.scope) e) }
     ensures says { Says (λ e. shown_ends types.new (scope_in context.now.scope) e) result (ends_or_fault (modules_of_context context.now) (scope_in context.now.scope) (context_in types.old context.now).coercions (NGAll (kind_of kind.now) (nco_of g.now))) }
     ensures grows { OnOk result (Grows types.old types.new) }
-    ensures context { OnOk result (IsContext types.new context.now) }
+    ensures context { OnOk result (IsContextOver types.new context.now) }
 {
     let variable = NumberedKind {
         kind,
@@ -133,12 +129,11 @@ fn both_ends(
     types: &mut TypeTable,
     context: &Context,
 ) -> Result<(Ends, Ends), Flawed>
-    requires context { IsContext types.old context.now }
-    requires modules { modules_in types.old ≡ modules_of_context context.now }
+    requires context { IsContextOver types.old context.now }
     ensures valid { IfOk result (λ p. IsEnds types.new (scope_in context.now.scope) p.0 × IsEnds types.new (scope_in context.now.scope) p.1) }
     ensures says { Says (λ p. (shown_ends types.new (scope_in context.now.scope) p.0, shown_ends types.new (scope_in context.now.scope) p.1)) result (two_ends (modules_of_context context.now) (scope_in context.now.scope) (context_in types.old context.now).coercions (nco_of g.now) (nco_of h.now)) }
     ensures grows { OnOk result (Grows types.old types.new) }
-    ensures context { OnOk result (IsContext types.new context.now) }
+    ensures context { OnOk result (IsContextOver types.new context.now) }
 {
     let first = ends_of_part(alloc, g, types, &*context, 0)?;
     let second = ends_of_part(alloc, h, types, &*context, 1)?;
@@ -153,12 +148,11 @@ fn each_ends(
     types: &mut TypeTable,
     context: &Context,
 ) -> Result<Seq<Ends>, Flawed>
-    requires context { IsContext types.old context.now }
-    requires modules { modules_in types.old ≡ modules_of_context context.now }
+    requires context { IsContextOver types.old context.now }
     ensures valid { IfOk result (λ es. AreEndsAt (nodes_of types.new) (scope_in context.now.scope) es) }
     ensures says { Says (λ es. shown_all_ends_at (nodes_of types.new) (scope_in context.now.scope) es) result (all_ends_or_fault (modules_of_context context.now) (scope_in context.now.scope) (context_in types.old context.now).coercions 0 (ncos_of gs.now)) }
     ensures grows { OnOk result (Grows types.old types.new) }
-    ensures context { OnOk result (IsContext types.new context.now) }
+    ensures context { OnOk result (IsContextOver types.new context.now) }
 {
     let mut group = Seq::new(alloc);
     let mut part = 0u32;
@@ -181,12 +175,11 @@ pub fn ends_of(
     types: &mut TypeTable,
     context: &Context,
 ) -> Result<Ends, Flawed>
-    requires context { IsContext types.old context.now }
-    requires modules { modules_in types.old ≡ modules_of_context context.now }
+    requires context { IsContextOver types.old context.now }
     ensures valid { IfOk result (λ e. IsEnds types.new (scope_in context.now.scope) e) }
     ensures says { Says (λ e. shown_ends types.new (scope_in context.now.scope) e) result (ends_or_fault (modules_of_context context.now) (scope_in context.now.scope) (context_in types.old context.now).coercions (nco_of g.now)) }
     ensures grows { OnOk result (Grows types.old types.new) }
-    ensures context { OnOk result (IsContext types.new context.now) }
+    ensures context { OnOk result (IsContextOver types.new context.now) }
 {
     match g {
         NCo::Var(distance) => context.coercion(alloc, *distance),

@@ -3,7 +3,9 @@ pub mod Closed
 pub mod Coerced
 pub mod Contexts
 pub mod Declared
+pub mod Faults
 pub mod Foralls
+pub mod Growing
 pub mod JoinPoints
 pub mod Joined
 pub mod LocalTypes

@@ -1,11 +1,11 @@
 -- What is in scope, and what numbers of types mean there.
-use Rattle.std.specs.Prelude.{List}
+use Rattle.std.specs.Prelude.{◌≡◌, List}
 use Rattle.fc_model.specs.Kinding.{Modules}
 use Rattle.fc_model.specs.Typing.{Context}
 use Rattle.fc_type_scope.specs.EndViews.{AreEndsAt, shown_all_ends_at}
 use Rattle.fc_type_scope.specs.Scopes.{AreTypesAt, scope_in, shown_all_at}
 use Rattle.fc_type_table.specs.InScope.{IsScopeAt}
-use Rattle.fc_type_table.specs.TypeTables.{nodes_of}
+use Rattle.fc_type_table.specs.TypeTables.{modules_in, nodes_of}
 use Rattle.fc_type_table.specs.declared.node.Node.{Node}
 use Rattle.fc_type_table.specs.declared.table.TypeTable.{TypeTable}
 use Rattle.fc_lint_context.specs.CoercionViews.{proven_of}
@@ -29,6 +29,11 @@ pub record IsContextAt (ns : List Node) (c : code.Context) : Type 0 where
 
 abbrev pub IsContext : TypeTable → code.Context → Type 0
 IsContext table c = IsContextAt (nodes_of table) c
+
+-- the numbers in it are of this table, whose modules are those that declare what it names
+pub record IsContextOver (table : TypeTable) (c : code.Context) : Type 0 where
+  pub valid : IsContext table c
+  pub modules : modules_in table ≡ modules_of_context c
 
 -- the kinds of the type variables, what the coercion variables prove, the types of the variables of values and the join points
 unfoldable pub context_at : List Node → code.Context → Context

@@ -1,6 +1,5 @@
-pub mod Alternatives
-pub mod Bindings
 pub mod Judging
+pub mod Lambdas
 pub mod Lengths
-pub mod Pieces
+pub mod Steps
 pub mod Turns

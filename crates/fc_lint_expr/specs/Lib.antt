@@ -1,2 +1,3 @@
 pub mod Cases
+pub mod Lambdas
 pub mod Lists

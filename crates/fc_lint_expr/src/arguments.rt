@@ -1,16 +1,16 @@
-//! What is given to applications, constructors, primitives and jumps.
+//! What is given to applications, constructors, primitives and jumps: no join point is in tail reach of it.
 ghost use Rattle.std.specs.Prelude.{◌≡◌, IfOk, OnOk};
 ghost use Rattle.fc_model.specs.Says.{Says};
-ghost use Rattle.fc_lint_context.specs.ContextViews.{IsContext, context_in, modules_of_context};
+ghost use Rattle.fc_lint_context.specs.ContextViews.{IsContextOver, context_in, modules_of_context};
 ghost use Rattle.fc_type_scope.specs.Scopes.{scope_in};
 ghost use Rattle.fc_model.specs.Faulting.{under};
 ghost use Rattle.fc_model.specs.NamelessView.{narg_of};
-ghost use Rattle.fc_model.specs.Typing.{argument_given};
+ghost use Rattle.fc_model.specs.Typing.{argument_given, without_joins};
 ghost use Rattle.fc_lint_calls.specs.GivenViews.{AreGiven, IsGiven, given_in, givens_in};
 ghost use Rattle.fc_lint_expr.specs.Lists.{args_from, operand_given, operands_from};
 ghost use Rattle.fc_type_table.specs.TypeTables.{Grows, modules_in};
 
-use crate::expressions::judge;
+use crate::expressions::type_apart;
 use crate::written::kinded;
 use fc_coercion::ends_of;
 use fc_lint_calls::{Given, is_atom};
@@ -28,16 +28,15 @@ pub(crate) fn argument(
     types: &mut TypeTable,
     context: &Context,
 ) -> Result<Given, Flawed>
-    requires context { IsContext types.old context.now }
-    requires modules { modules_in types.old ≡ modules_of_context context.now }
+    requires context { IsContextOver types.old context.now }
     ensures valid { IfOk result (λ g. IsGiven types.new (scope_in context.now.scope) g) }
-    ensures says { Says (λ g. given_in types.new (scope_in context.now.scope) g) result (argument_given (modules_of_context context.now) (context_in types.old context.now) (narg_of arg.now)) }
+    ensures says { Says (λ g. given_in types.new (scope_in context.now.scope) g) result (argument_given (modules_of_context context.now) (without_joins (context_in types.old context.now)) (narg_of arg.now)) }
     ensures grows { OnOk result (Grows types.old types.new) }
-    ensures context { OnOk result (IsContext types.new context.now) }
+    ensures context { OnOk result (IsContextOver types.new context.now) }
 {
     match arg {
         NArg::Term(e) => {
-            let ty = judge(alloc, e, types, &*context)?;
+            let ty = type_apart(alloc, e, types, &*context)?;
             Ok(Given::Term(ty, is_atom(e)))
         }
         NArg::OfType(t) => {
@@ -60,12 +59,11 @@ pub(crate) fn argument_of_part(
     context: &Context,
     part: u32,
 ) -> Result<Given, Flawed>
-    requires context { IsContext types.old context.now }
-    requires modules { modules_in types.old ≡ modules_of_context context.now }
+    requires context { IsContextOver types.old context.now }
     ensures valid { IfOk result (λ g. IsGiven types.new (scope_in context.now.scope) g) }
-    ensures says { Says (λ g. given_in types.new (scope_in context.now.scope) g) result (under part (argument_given (modules_of_context context.now) (context_in types.old context.now) (narg_of arg.now))) }
+    ensures says { Says (λ g. given_in types.new (scope_in context.now.scope) g) result (under part (argument_given (modules_of_context context.now) (without_joins (context_in types.old context.now)) (narg_of arg.now))) }
     ensures grows { OnOk result (Grows types.old types.new) }
-    ensures context { OnOk result (IsContext types.new context.now) }
+    ensures context { OnOk result (IsContextOver types.new context.now) }
 {
     match argument(alloc, arg, types, &*context) {
         Ok(given) => Ok(given),
@@ -81,12 +79,11 @@ pub(crate) fn arguments(
     types: &mut TypeTable,
     context: &Context,
 ) -> Result<Seq<Given>, Flawed>
-    requires context { IsContext types.old context.now }
-    requires modules { modules_in types.old ≡ modules_of_context context.now }
+    requires context { IsContextOver types.old context.now }
     ensures valid { IfOk result (λ g. AreGiven types.new (scope_in context.now.scope) g) }
-    ensures says { Says (λ g. givens_in types.new (scope_in context.now.scope) g) result (args_from (modules_of_context context.now) (context_in types.old context.now) 0 args.now) }
+    ensures says { Says (λ g. givens_in types.new (scope_in context.now.scope) g) result (args_from (modules_of_context context.now) (without_joins (context_in types.old context.now)) 0 args.now) }
     ensures grows { OnOk result (Grows types.old types.new) }
-    ensures context { OnOk result (IsContext types.new context.now) }
+    ensures context { OnOk result (IsContextOver types.new context.now) }
 {
     let mut given = Seq::new(alloc);
     let mut part = 0u32;
@@ -107,14 +104,13 @@ pub(crate) fn operand_of_part(
     context: &Context,
     part: u32,
 ) -> Result<Given, Flawed>
-    requires context { IsContext types.old context.now }
-    requires modules { modules_in types.old ≡ modules_of_context context.now }
+    requires context { IsContextOver types.old context.now }
     ensures valid { IfOk result (λ g. IsGiven types.new (scope_in context.now.scope) g) }
-    ensures says { Says (λ g. given_in types.new (scope_in context.now.scope) g) result (operand_given (modules_of_context context.now) (context_in types.old context.now) part e.now) }
+    ensures says { Says (λ g. given_in types.new (scope_in context.now.scope) g) result (operand_given (modules_of_context context.now) (without_joins (context_in types.old context.now)) part e.now) }
     ensures grows { OnOk result (Grows types.old types.new) }
-    ensures context { OnOk result (IsContext types.new context.now) }
+    ensures context { OnOk result (IsContextOver types.new context.now) }
 {
-    match judge(alloc, e, types, &*context) {
+    match type_apart(alloc, e, types, &*context) {
         Ok(ty) => Ok(Given::Term(ty, is_atom(e))),
         Err(flawed) => Err(deeper(flawed, part)),
     }
@@ -128,12 +124,11 @@ pub(crate) fn operands(
     types: &mut TypeTable,
     context: &Context,
 ) -> Result<Seq<Given>, Flawed>
-    requires context { IsContext types.old context.now }
-    requires modules { modules_in types.old ≡ modules_of_context context.now }
+    requires context { IsContextOver types.old context.now }
     ensures valid { IfOk result (λ g. AreGiven types.new (scope_in context.now.scope) g) }
-    ensures says { Says (λ g. givens_in types.new (scope_in context.now.scope) g) result (operands_from (modules_of_context context.now) (context_in types.old context.now) 0 operands.now) }
+    ensures says { Says (λ g. givens_in types.new (scope_in context.now.scope) g) result (operands_from (modules_of_context context.now) (without_joins (context_in types.old context.now)) 0 operands.now) }
     ensures grows { OnOk result (Grows types.old types.new) }
-    ensures context { OnOk result (IsContext types.new context.now) }
+    ensures context { OnOk result (IsContextOver types.new context.now) }
 {
     let mut given = Seq::new(alloc);
     let mut part = 0u32;

@@ -1,22 +1,22 @@
 //! What stands behind binders, and lambdas.
-ghost use Rattle.std.specs.Prelude.{◌≡◌, [], ◌∷◌, length, Ok, IfErr, IfOk, OnOk};
+ghost use Rattle.std.specs.Prelude.{◌≡◌, [], ◌∷◌, length, IfErr, IfOk, OnOk};
 ghost use Rattle.fc_model.specs.Says.{Says};
-ghost use Rattle.fc_lint_context.specs.ContextViews.{IsContext, context_in, modules_of_context};
+ghost use Rattle.fc_lint_context.specs.ContextViews.{IsContextOver, context_in, modules_of_context};
 ghost use Rattle.fc_type_scope.specs.Scopes.{scope_in};
-ghost use Rattle.fc_model.specs.Faulting.{and_then, need, under};
+ghost use Rattle.fc_model.specs.Faulting.{under};
 ghost use Rattle.fc_model.specs.Nameless.{NLam};
 ghost use Rattle.fc_model.specs.NamelessView.{nbinder_of, nbinders_of, nexpr_of};
-ghost use Rattle.fc_model.specs.Typing as words;
-ghost use Rattle.fc_model.specs.Typing.{binder_judged, paid, type_or_fault, with_binder, with_binders};
-ghost use Rattle.fc_syntax.specs.declared.fault.FaultKind.TheVariants.{NotAType};
+ghost use Rattle.fc_model.specs.Typing.{type_or_fault, with_binders, without_joins};
+ghost use Rattle.fc_lint_expr.specs.Lambdas.{body_judged};
 ghost use Rattle.fc_model.specs.declared.flaw.Flawed.TheVariants.{Memory as memory};
 ghost use Rattle.fc_type_scope.specs.Behind.{IsEntered, kinds_past};
-ghost use Rattle.fc_type_table.specs.TypeTables.{Grows, IsType, modules_in, nodes_of, shown};
+ghost use Rattle.fc_type_table.specs.TypeTables.{Grows, IsType, nodes_of, shown};
 
 use crate::expressions::type_of_part;
+use crate::written::judged_binder;
 use fc_lint_calls::{body_fits, pays};
 use fc_lint_context::Context;
-use fc_model::{Flawed, deeper};
+use fc_model::Flawed;
 use fc_syntax::{FaultKind, NBinder, NExpr};
 use fc_type_scope::Entered;
 use fc_type_table::{TypeId, TypeTable};
@@ -33,13 +33,12 @@ pub(crate) fn type_behind(
     context: &Context,
     part: u32,
 ) -> Result<TypeId, Flawed>
-    requires context { IsContext types.old context.now }
-    requires modules { modules_in types.old ≡ modules_of_context context.now }
+    requires context { IsContextOver types.old context.now }
     requires entered_in { IsEntered (nodes_of types.old) (scope_in context.now.scope) (nbinders_of binders.now) entered.now }
     ensures valid { IfOk result (λ id. IsType types.new (kinds_past (nbinders_of binders.now) (scope_in context.now.scope)) id) }
     ensures says { Says (λ id. shown types.new (kinds_past (nbinders_of binders.now) (scope_in context.now.scope)) id) result (under part (type_or_fault (modules_of_context context.now) (with_binders (nbinders_of binders.now) (context_in types.old context.now)) (nexpr_of body.now))) }
     ensures grows { OnOk result (Grows types.old types.new) }
-    ensures context { OnOk result (IsContext types.new context.now) }
+    ensures context { OnOk result (IsContextOver types.new context.now) }
     ensures entered_in { OnOk result (IsEntered (nodes_of types.new) (scope_in context.now.scope) (nbinders_of binders.now) entered.now) }
 {
     let kinds = (&*entered).kinds_behind(&*context.scope.kinds);
@@ -47,9 +46,9 @@ pub(crate) fn type_behind(
     type_of_part(alloc, body, types, &inner, part)
 }
 
-/// The type of what stands below a lambda over a binder that was entered here, which is its part 1, and what was still asked of the binder.
+/// The type of the body of a lambda over a binder that was entered here, which is its part 1, and what was still asked of the binder.
 #[cycle(lint)]
-pub(crate) fn type_below(
+fn type_of_body(
     alloc: Global,
     body: &NExpr,
     binder: &NBinder,
@@ -58,13 +57,12 @@ pub(crate) fn type_below(
     types: &mut TypeTable,
     context: &Context,
 ) -> Result<TypeId, Flawed>
-    requires context { IsContext types.old context.now }
-    requires modules { modules_in types.old ≡ modules_of_context context.now }
+    requires context { IsContextOver types.old context.now }
     requires entered_in { IsEntered (nodes_of types.old) (scope_in context.now.scope) (nbinder_of binder.now ∷ []) entered.now }
     ensures valid { IfOk result (λ id. IsType types.new (kinds_past (nbinder_of binder.now ∷ []) (scope_in context.now.scope)) id) }
-    ensures says { Says (λ id. shown types.new (kinds_past (nbinder_of binder.now ∷ []) (scope_in context.now.scope)) id) result (and_then (under 1 (type_or_fault (modules_of_context context.now) (with_binder (nbinder_of binder.now) (context_in types.old context.now)) (nexpr_of body.now))) (λ u. paid owed (need (words.body_fits (modules_of_context context.now) (scope_in context.now.scope) (nbinder_of binder.now) u) NotAType (Ok u)))) }
+    ensures says { Says (λ id. shown types.new (kinds_past (nbinder_of binder.now ∷ []) (scope_in context.now.scope)) id) result (body_judged (modules_of_context context.now) (context_in types.old context.now) (nbinder_of binder.now) (nexpr_of body.now) owed) }
     ensures grows { OnOk result (Grows types.old types.new) }
-    ensures context { OnOk result (IsContext types.new context.now) }
+    ensures context { OnOk result (IsContextOver types.new context.now) }
     ensures entered_in { OnOk result (IsEntered (nodes_of types.new) (scope_in context.now.scope) (nbinder_of binder.now ∷ []) entered.now) }
 {
     let kinds = (&*entered).kinds_behind(&*context.scope.kinds);
@@ -75,24 +73,27 @@ pub(crate) fn type_below(
     Ok(ty)
 }
 
-/// What is asked of the binder of a lambda, its part 0, and what is asked of it behind its body.
-#[tactic(auto, using(crate::proofs::Judging::judging_rules))]
-fn binder_of_lambda(
+/// The same where no join point is in tail reach.
+#[cycle(lint)]
+fn type_below(
     alloc: Global,
+    body: &NExpr,
     binder: &NBinder,
+    entered: &Entered,
+    owed: Option<FaultKind>,
     types: &mut TypeTable,
     context: &Context,
-) -> Result<Option<FaultKind>, Flawed>
-    requires context { IsContext types.old context.now }
-    requires modules { modules_in types.old ≡ modules_of_context context.now }
-    ensures says { Says (λ o. o) result (under 0 (binder_judged (modules_of_context context.now) (scope_in context.now.scope) (nbinder_of binder.now))) }
+) -> Result<TypeId, Flawed>
+    requires context { IsContextOver types.old context.now }
+    requires entered_in { IsEntered (nodes_of types.old) (scope_in context.now.scope) (nbinder_of binder.now ∷ []) entered.now }
+    ensures valid { IfOk result (λ id. IsType types.new (kinds_past (nbinder_of binder.now ∷ []) (scope_in context.now.scope)) id) }
+    ensures says { Says (λ id. shown types.new (kinds_past (nbinder_of binder.now ∷ []) (scope_in context.now.scope)) id) result (body_judged (modules_of_context context.now) (without_joins (context_in types.old context.now)) (nbinder_of binder.now) (nexpr_of body.now) owed) }
     ensures grows { OnOk result (Grows types.old types.new) }
-    ensures context { OnOk result (IsContext types.new context.now) }
+    ensures context { OnOk result (IsContextOver types.new context.now) }
+    ensures entered_in { OnOk result (IsEntered (nodes_of types.new) (scope_in context.now.scope) (nbinder_of binder.now ∷ []) entered.now) }
 {
-    match context.scope.binder_owes(alloc, binder, types) {
-        Ok(owed) => Ok(owed),
-        Err(flawed) => Err(deeper(flawed, 0)),
-    }
+    let inner = context.without_joins();
+    type_of_body(alloc, body, binder, entered, owed, types, &inner)
 }
 
 /// The type of a lambda.
@@ -104,21 +105,26 @@ pub(crate) fn type_of_lambda(
     types: &mut TypeTable,
     context: &Context,
 ) -> Result<TypeId, Flawed>
-    requires context { IsContext types.old context.now }
-    requires modules { modules_in types.old ≡ modules_of_context context.now }
+    requires context { IsContextOver types.old context.now }
     ensures valid { IfOk result (λ id. IsType types.new (scope_in context.now.scope) id) }
     ensures says { Says (λ id. shown types.new (scope_in context.now.scope) id) result (type_or_fault (modules_of_context context.now) (context_in types.old context.now) (NLam (nbinder_of binder.now) (nexpr_of body.now))) }
     ensures grows { OnOk result (Grows types.old types.new) }
-    ensures context { OnOk result (IsContext types.new context.now) }
+    ensures context { OnOk result (IsContextOver types.new context.now) }
 {
-    let owed = binder_of_lambda(alloc, binder, types, context)?;
-    let inner = context.without_joins();
-    let entered = context.scope.enter_one(alloc, binder, types)?;
-    let ty = type_below(alloc, body, binder, &entered, owed, types, &inner)?;
+    let behind = judged_binder(alloc, binder, types, &*context)?;
+    let ty = type_below(
+        alloc,
+        body,
+        binder,
+        &behind.entered,
+        behind.owed,
+        types,
+        &*context,
+    )?;
     Ok(
         context
             .scope
-            .function_over_one(alloc, binder, &entered, ty, types)?,
+            .function_over_one(alloc, binder, &behind.entered, ty, types)?,
     )
 }
 

@@ -1,7 +1,7 @@
 //! Cases and their alternatives.
 ghost use Rattle.std.specs.Prelude.{◌≡◌, IfOk, OnOk};
 ghost use Rattle.fc_model.specs.Says.{Says};
-ghost use Rattle.fc_lint_context.specs.ContextViews.{IsContext, context_in, modules_of_context};
+ghost use Rattle.fc_lint_context.specs.ContextViews.{IsContextOver, context_in, modules_of_context};
 ghost use Rattle.fc_type_scope.specs.Scopes.{scope_in};
 ghost use Rattle.fc_type_scope.specs.Behind.{IsEntered};
 ghost use Rattle.fc_model.specs.Faulting.{under};
@@ -44,13 +44,12 @@ fn head_goes(
     types: &mut TypeTable,
     context: &Context,
 ) -> Result<Before, Flawed>
-    requires context { IsContext types.old context.now }
-    requires modules { modules_in types.old ≡ modules_of_context context.now }
+    requires context { IsContextOver types.old context.now }
     requires scrutinee_in { IsType types.old (scope_in context.now.scope) scrutinee }
     requires entered { IsEntered (nodes_of types.old) (scope_in context.now.scope) (nbinders_of binders.now) entered.now }
     ensures says { Says before_of result (words.head_goes (modules_of_context context.now) (shown types.old (scope_in context.now.scope) scrutinee) (before_of before) head.now (nbinders_of binders.now)) }
     ensures grows { OnOk result (Grows types.old types.new) }
-    ensures context { OnOk result (IsContext types.new context.now) }
+    ensures context { OnOk result (IsContextOver types.new context.now) }
 {
     match head {
         Head::Default => default_goes(alloc, before),
@@ -83,13 +82,12 @@ pub(crate) fn alternative_fits(
     types: &mut TypeTable,
     context: &Context,
 ) -> Result<Before, Flawed>
-    requires context { IsContext types.old context.now }
-    requires modules { modules_in types.old ≡ modules_of_context context.now }
+    requires context { IsContextOver types.old context.now }
     requires scrutinee_in { IsType types.old (scope_in context.now.scope) wanted.scrutinee }
     requires answer_in { IsType types.old (scope_in context.now.scope) wanted.answer }
     ensures says { Says before_of result (alt_judged (modules_of_context context.now) (context_in types.old context.now) (shown types.old (scope_in context.now.scope) wanted.scrutinee) (shown types.old (scope_in context.now.scope) wanted.answer) (before_of before) (nalt_of alternative.now)) }
     ensures grows { OnOk result (Grows types.old types.new) }
-    ensures context { OnOk result (IsContext types.new context.now) }
+    ensures context { OnOk result (IsContextOver types.new context.now) }
 {
     let binders = alternative.binders.as_slice();
     let behind = judged_binders(alloc, binders, types, &*context)?;
@@ -135,13 +133,12 @@ pub(crate) fn alternative_part_fits(
     context: &Context,
     number: u32,
 ) -> Result<Before, Flawed>
-    requires context { IsContext types.old context.now }
-    requires modules { modules_in types.old ≡ modules_of_context context.now }
+    requires context { IsContextOver types.old context.now }
     requires scrutinee_in { IsType types.old (scope_in context.now.scope) wanted.scrutinee }
     requires answer_in { IsType types.old (scope_in context.now.scope) wanted.answer }
     ensures says { Says before_of result (under number (alt_judged (modules_of_context context.now) (context_in types.old context.now) (shown types.old (scope_in context.now.scope) wanted.scrutinee) (shown types.old (scope_in context.now.scope) wanted.answer) (before_of before) (nalt_of alternative.now))) }
     ensures grows { OnOk result (Grows types.old types.new) }
-    ensures context { OnOk result (IsContext types.new context.now) }
+    ensures context { OnOk result (IsContextOver types.new context.now) }
 {
     match alternative_fits(alloc, alternative, wanted, before, types, &*context) {
         Ok(next) => Ok(next),
@@ -158,13 +155,12 @@ pub(crate) fn each_alternative_fits(
     types: &mut TypeTable,
     context: &Context,
 ) -> Result<Before, Flawed>
-    requires context { IsContext types.old context.now }
-    requires modules { modules_in types.old ≡ modules_of_context context.now }
+    requires context { IsContextOver types.old context.now }
     requires scrutinee_in { IsType types.old (scope_in context.now.scope) wanted.scrutinee }
     requires answer_in { IsType types.old (scope_in context.now.scope) wanted.answer }
     ensures says { Says before_of result (alts_judged (modules_of_context context.now) (context_in types.old context.now) (shown types.old (scope_in context.now.scope) wanted.scrutinee) (shown types.old (scope_in context.now.scope) wanted.answer) 3 Start (nalts_of alternatives.now)) }
     ensures grows { OnOk result (Grows types.old types.new) }
-    ensures context { OnOk result (IsContext types.new context.now) }
+    ensures context { OnOk result (IsContextOver types.new context.now) }
 {
     let mut before = Before::Start;
     let mut part = 3u32;
@@ -185,14 +181,13 @@ pub(crate) fn alternatives_fit(
     types: &mut TypeTable,
     context: &Context,
 ) -> Result<Before, Flawed>
-    requires context { IsContext types.old context.now }
-    requires modules { modules_in types.old ≡ modules_of_context context.now }
+    requires context { IsContextOver types.old context.now }
     requires of_in { IsType types.old (scope_in context.now.scope) of }
     requires scrutinee_in { IsType types.old (scope_in context.now.scope) wanted.scrutinee }
     requires answer_in { IsType types.old (scope_in context.now.scope) wanted.answer }
     ensures says { Says before_of result (alts_judged (modules_of_context context.now) (with_value (shown types.old (scope_in context.now.scope) of) (context_in types.old context.now)) (shown types.old (scope_in context.now.scope) wanted.scrutinee) (shown types.old (scope_in context.now.scope) wanted.answer) 3 Start (nalts_of alternatives.now)) }
     ensures grows { OnOk result (Grows types.old types.new) }
-    ensures context { OnOk result (IsContext types.new context.now) }
+    ensures context { OnOk result (IsContextOver types.new context.now) }
 {
     let inner = (&*context).behind_value(of);
     each_alternative_fits(alloc, alternatives, wanted, types, &inner)
@@ -209,13 +204,12 @@ pub(crate) fn type_of_case(
     types: &mut TypeTable,
     context: &Context,
 ) -> Result<TypeId, Flawed>
-    requires context { IsContext types.old context.now }
-    requires modules { modules_in types.old ≡ modules_of_context context.now }
+    requires context { IsContextOver types.old context.now }
     requires scrutinee_in { IsType types.old (scope_in context.now.scope) found }
     ensures valid { IfOk result (λ id. IsType types.new (scope_in context.now.scope) id) }
     ensures says { Says (λ id. shown types.new (scope_in context.now.scope) id) result (case_judged (modules_of_context context.now) (context_in types.old context.now) (shown types.old (scope_in context.now.scope) found) (nty_of of.now) (nty_of answer.now) (nalts_of alternatives.now)) }
     ensures grows { OnOk result (Grows types.old types.new) }
-    ensures context { OnOk result (IsContext types.new context.now) }
+    ensures context { OnOk result (IsContextOver types.new context.now) }
 {
     let binder = kinded_part(alloc, of, types, &*context, 1)?;
     let answer = kinded_part(alloc, answer, types, &*context, 2)?;

@@ -1,7 +1,7 @@
 //! The type of an expression.
 ghost use Rattle.std.specs.Prelude.{◌≡◌, [], Ok, IfOk, OnOk};
 ghost use Rattle.fc_model.specs.Says.{Says};
-ghost use Rattle.fc_lint_context.specs.ContextViews.{IsContext, context_in, modules_of_context};
+ghost use Rattle.fc_lint_context.specs.ContextViews.{IsContextOver, context_in, modules_of_context};
 ghost use Rattle.fc_type_scope.specs.Scopes.{scope_in};
 ghost use Rattle.fc_model.specs.Coercing.{ends_or_fault};
 ghost use Rattle.fc_model.specs.Faulting.{and_then, under};
@@ -37,17 +37,34 @@ pub(crate) fn type_of_part(
     context: &Context,
     part: u32,
 ) -> Result<TypeId, Flawed>
-    requires context { IsContext types.old context.now }
-    requires modules { modules_in types.old ≡ modules_of_context context.now }
+    requires context { IsContextOver types.old context.now }
     ensures valid { IfOk result (λ id. IsType types.new (scope_in context.now.scope) id) }
     ensures says { Says (λ id. shown types.new (scope_in context.now.scope) id) result (under part (type_or_fault (modules_of_context context.now) (context_in types.old context.now) (nexpr_of e.now))) }
     ensures grows { OnOk result (Grows types.old types.new) }
-    ensures context { OnOk result (IsContext types.new context.now) }
+    ensures context { OnOk result (IsContextOver types.new context.now) }
 {
     match judge(alloc, e, types, &*context) {
         Ok(t) => Ok(t),
         Err(flawed) => Err(deeper(flawed, part)),
     }
+}
+
+/// The type of an expression of whose tail no join point is in reach.
+#[cycle(lint)]
+pub(crate) fn type_apart(
+    alloc: Global,
+    e: &NExpr,
+    types: &mut TypeTable,
+    context: &Context,
+) -> Result<TypeId, Flawed>
+    requires context { IsContextOver types.old context.now }
+    ensures valid { IfOk result (λ id. IsType types.new (scope_in context.now.scope) id) }
+    ensures says { Says (λ id. shown types.new (scope_in context.now.scope) id) result (type_or_fault (modules_of_context context.now) (without_joins (context_in types.old context.now)) (nexpr_of e.now)) }
+    ensures grows { OnOk result (Grows types.old types.new) }
+    ensures context { OnOk result (IsContextOver types.new context.now) }
+{
+    let inner = context.without_joins();
+    judge(alloc, e, types, &inner)
 }
 
 /// The type of the first part, which is not in tail reach.
@@ -58,15 +75,16 @@ fn type_of_first(
     types: &mut TypeTable,
     context: &Context,
 ) -> Result<TypeId, Flawed>
-    requires context { IsContext types.old context.now }
-    requires modules { modules_in types.old ≡ modules_of_context context.now }
+    requires context { IsContextOver types.old context.now }
     ensures valid { IfOk result (λ id. IsType types.new (scope_in context.now.scope) id) }
     ensures says { Says (λ id. shown types.new (scope_in context.now.scope) id) result (under 0 (type_or_fault (modules_of_context context.now) (without_joins (context_in types.old context.now)) (nexpr_of e.now))) }
     ensures grows { OnOk result (Grows types.old types.new) }
-    ensures context { OnOk result (IsContext types.new context.now) }
+    ensures context { OnOk result (IsContextOver types.new context.now) }
 {
-    let inner = context.without_joins();
-    type_of_part(alloc, e, types, &inner, 0)
+    match type_apart(alloc, e, types, &*context) {
+        Ok(t) => Ok(t),
+        Err(flawed) => Err(deeper(flawed, 0)),
+    }
 }
 
 /// The type of an application whose head is of this type.
@@ -78,16 +96,14 @@ fn type_of_applied(
     types: &mut TypeTable,
     context: &Context,
 ) -> Result<TypeId, Flawed>
-    requires context { IsContext types.old context.now }
-    requires modules { modules_in types.old ≡ modules_of_context context.now }
+    requires context { IsContextOver types.old context.now }
     requires head_in { IsType types.old (scope_in context.now.scope) head }
     ensures valid { IfOk result (λ id. IsType types.new (scope_in context.now.scope) id) }
     ensures says { Says (λ id. shown types.new (scope_in context.now.scope) id) result (and_then (under 1 (argument_given (modules_of_context context.now) (without_joins (context_in types.old context.now)) (narg_of arg.now))) (λ g. words.applied (shown types.old (scope_in context.now.scope) head) g)) }
     ensures grows { OnOk result (Grows types.old types.new) }
-    ensures context { OnOk result (IsContext types.new context.now) }
+    ensures context { OnOk result (IsContextOver types.new context.now) }
 {
-    let inner = context.without_joins();
-    let given = argument_of_part(alloc, arg, types, &inner, 1)?;
+    let given = argument_of_part(alloc, arg, types, &*context, 1)?;
     applied(alloc, head, &given, types, &context.scope)
 }
 
@@ -100,15 +116,13 @@ fn type_of_constructor(
     types: &mut TypeTable,
     context: &Context,
 ) -> Result<TypeId, Flawed>
-    requires context { IsContext types.old context.now }
-    requires modules { modules_in types.old ≡ modules_of_context context.now }
+    requires context { IsContextOver types.old context.now }
     ensures valid { IfOk result (λ id. IsType types.new (scope_in context.now.scope) id) }
     ensures says { Says (λ id. shown types.new (scope_in context.now.scope) id) result (type_or_fault (modules_of_context context.now) (context_in types.old context.now) (NCon name.now (nargs_of args.now))) }
     ensures grows { OnOk result (Grows types.old types.new) }
-    ensures context { OnOk result (IsContext types.new context.now) }
+    ensures context { OnOk result (IsContextOver types.new context.now) }
 {
-    let inner = context.without_joins();
-    let given = arguments(alloc, args, types, &inner)?;
+    let given = arguments(alloc, args, types, &*context)?;
     match context.constructor_named(name) {
         None => Err(flaw_here(alloc, FaultKind::Unbound)),
         Some(k) => {
@@ -135,15 +149,13 @@ fn type_of_primitive(
     types: &mut TypeTable,
     context: &Context,
 ) -> Result<TypeId, Flawed>
-    requires context { IsContext types.old context.now }
-    requires modules { modules_in types.old ≡ modules_of_context context.now }
+    requires context { IsContextOver types.old context.now }
     ensures valid { IfOk result (λ id. IsType types.new (scope_in context.now.scope) id) }
     ensures says { Says (λ id. shown types.new (scope_in context.now.scope) id) result (type_or_fault (modules_of_context context.now) (context_in types.old context.now) (NPrim op (nexprs_of args.now))) }
     ensures grows { OnOk result (Grows types.old types.new) }
-    ensures context { OnOk result (IsContext types.new context.now) }
+    ensures context { OnOk result (IsContextOver types.new context.now) }
 {
-    let inner = context.without_joins();
-    let given = operands(alloc, args, types, &inner)?;
+    let given = operands(alloc, args, types, &*context)?;
     operated(alloc, given.as_slice(), types, &context.scope)
 }
 
@@ -156,15 +168,13 @@ fn type_of_jump(
     types: &mut TypeTable,
     context: &Context,
 ) -> Result<TypeId, Flawed>
-    requires context { IsContext types.old context.now }
-    requires modules { modules_in types.old ≡ modules_of_context context.now }
+    requires context { IsContextOver types.old context.now }
     ensures valid { IfOk result (λ id. IsType types.new (scope_in context.now.scope) id) }
     ensures says { Says (λ id. shown types.new (scope_in context.now.scope) id) result (type_or_fault (modules_of_context context.now) (context_in types.old context.now) (NJump distance (nargs_of args.now))) }
     ensures grows { OnOk result (Grows types.old types.new) }
-    ensures context { OnOk result (IsContext types.new context.now) }
+    ensures context { OnOk result (IsContextOver types.new context.now) }
 {
-    let inner = context.without_joins();
-    let given = arguments(alloc, args, types, &inner)?;
+    let given = arguments(alloc, args, types, &*context)?;
     match context.join(distance) {
         None => Err(flaw_here(alloc, FaultKind::JumpNotTail)),
         Some(to) => {
@@ -191,13 +201,12 @@ fn type_of_cast(
     types: &mut TypeTable,
     context: &Context,
 ) -> Result<TypeId, Flawed>
-    requires context { IsContext types.old context.now }
-    requires modules { modules_in types.old ≡ modules_of_context context.now }
+    requires context { IsContextOver types.old context.now }
     requires found_in { IsType types.old (scope_in context.now.scope) found }
     ensures valid { IfOk result (λ id. IsType types.new (scope_in context.now.scope) id) }
-    ensures says { Says (λ id. shown types.new (scope_in context.now.scope) id) result (and_then (under 1 (ends_or_fault (modules_of_context context.now) (scope_in context.now.scope) (context_in types.old context.now).coercions (nco_of g.now))) (λ p. cast (shown types.old (scope_in context.now.scope) found) p)) }
+    ensures says { Says (λ id. shown types.new (scope_in context.now.scope) id) result (and_then (under 1 (ends_or_fault (modules_of_context context.now) (context_in types.old context.now).kinds (context_in types.old context.now).coercions (nco_of g.now))) (λ p. cast (shown types.old (scope_in context.now.scope) found) p)) }
     ensures grows { OnOk result (Grows types.old types.new) }
-    ensures context { OnOk result (IsContext types.new context.now) }
+    ensures context { OnOk result (IsContextOver types.new context.now) }
 {
     let ends = ends_of_part(alloc, g, types, &*context, 1)?;
     cast_type(alloc, &ends, found, types, &context.scope)
@@ -211,12 +220,11 @@ fn type_of_fail(
     types: &mut TypeTable,
     context: &Context,
 ) -> Result<TypeId, Flawed>
-    requires context { IsContext types.old context.now }
-    requires modules { modules_in types.old ≡ modules_of_context context.now }
+    requires context { IsContextOver types.old context.now }
     ensures valid { IfOk result (λ id. IsType types.new (scope_in context.now.scope) id) }
     ensures says { Says (λ id. shown types.new (scope_in context.now.scope) id) result (type_or_fault (modules_of_context context.now) (context_in types.old context.now) (NFail (nty_of t.now))) }
     ensures grows { OnOk result (Grows types.old types.new) }
-    ensures context { OnOk result (IsContext types.new context.now) }
+    ensures context { OnOk result (IsContextOver types.new context.now) }
 {
     let read = kinded_part(alloc, t, types, &*context, 0)?;
     let is_value = types.is_value_kind(read.kind);
@@ -231,12 +239,11 @@ pub fn judge(
     types: &mut TypeTable,
     context: &Context,
 ) -> Result<TypeId, Flawed>
-    requires context { IsContext types.old context.now }
-    requires modules { modules_in types.old ≡ modules_of_context context.now }
+    requires context { IsContextOver types.old context.now }
     ensures valid { IfOk result (λ id. IsType types.new (scope_in context.now.scope) id) }
     ensures says { Says (λ id. shown types.new (scope_in context.now.scope) id) result (type_or_fault (modules_of_context context.now) (context_in types.old context.now) (nexpr_of e.now)) }
     ensures grows { OnOk result (Grows types.old types.new) }
-    ensures context { OnOk result (IsContext types.new context.now) }
+    ensures context { OnOk result (IsContextOver types.new context.now) }
 {
     match e {
         NExpr::Var(Ref::Local(distance)) => context.local(alloc, *distance),

@@ -1,7 +1,7 @@
 //! Join points and jumps.
 ghost use Rattle.std.specs.Prelude.{◌≡◌, IfOk, OnOk, if◌then◌else◌};
 ghost use Rattle.fc_model.specs.Says.{Says};
-ghost use Rattle.fc_lint_context.specs.ContextViews.{IsContext, context_in, modules_of_context};
+ghost use Rattle.fc_lint_context.specs.ContextViews.{IsContextOver, context_in, modules_of_context};
 ghost use Rattle.fc_type_scope.specs.Scopes.{scope_in};
 ghost use Rattle.fc_model.specs.Faulting.{under};
 ghost use Rattle.fc_model.specs.Nameless.{NJoin};
@@ -31,12 +31,11 @@ pub(crate) fn join_fits(
     types: &mut TypeTable,
     context: &Context,
 ) -> Result<(), Flawed>
-    requires context { IsContext types.old context.now }
-    requires modules { modules_in types.old ≡ modules_of_context context.now }
+    requires context { IsContextOver types.old context.now }
     requires answer_in { IsType types.old (scope_in context.now.scope) answer }
     ensures says { Says (λ _. (shown types.old (scope_in context.now.scope) answer)) result (join_judged (modules_of_context context.now) (context_in types.old context.now) (shown types.old (scope_in context.now.scope) answer) (njoin_of bind.now)) }
     ensures grows { OnOk result (Grows types.old types.new) }
-    ensures context { OnOk result (IsContext types.new context.now) }
+    ensures context { OnOk result (IsContextOver types.new context.now) }
 {
     let params = bind.params.as_slice();
     let behind = judged_binders(alloc, params, types, &*context)?;
@@ -64,12 +63,11 @@ pub(crate) fn join_part_fits(
     context: &Context,
     part: u32,
 ) -> Result<(), Flawed>
-    requires context { IsContext types.old context.now }
-    requires modules { modules_in types.old ≡ modules_of_context context.now }
+    requires context { IsContextOver types.old context.now }
     requires answer_in { IsType types.old (scope_in context.now.scope) answer }
     ensures says { Says (λ _. (shown types.old (scope_in context.now.scope) answer)) result (under part (join_judged (modules_of_context context.now) (context_in types.old context.now) (shown types.old (scope_in context.now.scope) answer) (njoin_of bind.now))) }
     ensures grows { OnOk result (Grows types.old types.new) }
-    ensures context { OnOk result (IsContext types.new context.now) }
+    ensures context { OnOk result (IsContextOver types.new context.now) }
 {
     match join_fits(alloc, bind, answer, types, &*context) {
         Ok(()) => Ok(()),
@@ -86,12 +84,11 @@ pub(crate) fn each_join_fits(
     types: &mut TypeTable,
     context: &Context,
 ) -> Result<u32, Flawed>
-    requires context { IsContext types.old context.now }
-    requires modules { modules_in types.old ≡ modules_of_context context.now }
+    requires context { IsContextOver types.old context.now }
     requires answer_in { IsType types.old (scope_in context.now.scope) answer }
     ensures says { Says (λ i. i) result (joins_judged (modules_of_context context.now) (context_in types.old context.now) (shown types.old (scope_in context.now.scope) answer) 1 (njoins_of binds.now)) }
     ensures grows { OnOk result (Grows types.old types.new) }
-    ensures context { OnOk result (IsContext types.new context.now) }
+    ensures context { OnOk result (IsContextOver types.new context.now) }
 {
     let mut part = 1u32;
     for bind in binds {
@@ -112,14 +109,13 @@ pub(crate) fn joins_fit(
     types: &mut TypeTable,
     context: &Context,
 ) -> Result<u32, Flawed>
-    requires context { IsContext types.old context.now }
-    requires modules { modules_in types.old ≡ modules_of_context context.now }
+    requires context { IsContextOver types.old context.now }
     requires answer_in { IsType types.old (scope_in context.now.scope) answer }
     requires points_in { AreJoinsAt (nodes_of types.old) (scope_in context.now.scope) points.now }
     requires points_view { shown_joins_at (nodes_of types.old) (scope_in context.now.scope) points.now ≡ views.join_points (shown types.old (scope_in context.now.scope) answer) (njoins_of binds.now) }
     ensures says { Says (λ i. i) result (joins_judged (modules_of_context context.now) (if recursive then with_joins (shown types.old (scope_in context.now.scope) answer) (njoins_of binds.now) (context_in types.old context.now) else (context_in types.old context.now)) (shown types.old (scope_in context.now.scope) answer) 1 (njoins_of binds.now)) }
     ensures grows { OnOk result (Grows types.old types.new) }
-    ensures context { OnOk result (IsContext types.new context.now) }
+    ensures context { OnOk result (IsContextOver types.new context.now) }
 {
     if recursive {
         let inner = (&*context).behind_joins(&*points);
@@ -141,15 +137,14 @@ pub(crate) fn type_behind_joins(
     context: &Context,
     part: u32,
 ) -> Result<TypeId, Flawed>
-    requires context { IsContext types.old context.now }
-    requires modules { modules_in types.old ≡ modules_of_context context.now }
+    requires context { IsContextOver types.old context.now }
     requires answer_in { IsType types.old (scope_in context.now.scope) answer }
     requires points_in { AreJoinsAt (nodes_of types.old) (scope_in context.now.scope) points.now }
     requires points_view { shown_joins_at (nodes_of types.old) (scope_in context.now.scope) points.now ≡ views.join_points (shown types.old (scope_in context.now.scope) answer) (njoins_of binds.now) }
     ensures valid { IfOk result (λ id. IsType types.new (scope_in context.now.scope) id) }
     ensures says { Says (λ id. shown types.new (scope_in context.now.scope) id) result (under part (type_or_fault (modules_of_context context.now) (with_joins (shown types.old (scope_in context.now.scope) answer) (njoins_of binds.now) (context_in types.old context.now)) (nexpr_of body.now))) }
     ensures grows { OnOk result (Grows types.old types.new) }
-    ensures context { OnOk result (IsContext types.new context.now) }
+    ensures context { OnOk result (IsContextOver types.new context.now) }
 {
     let inner = (&*context).behind_joins(&*points);
     type_of_part(alloc, body, types, &inner, part)
@@ -166,12 +161,11 @@ pub(crate) fn type_of_join(
     types: &mut TypeTable,
     context: &Context,
 ) -> Result<TypeId, Flawed>
-    requires context { IsContext types.old context.now }
-    requires modules { modules_in types.old ≡ modules_of_context context.now }
+    requires context { IsContextOver types.old context.now }
     ensures valid { IfOk result (λ id. IsType types.new (scope_in context.now.scope) id) }
     ensures says { Says (λ id. shown types.new (scope_in context.now.scope) id) result (type_or_fault (modules_of_context context.now) (context_in types.old context.now) (NJoin recursive (nty_of t.now) (njoins_of binds.now) (nexpr_of body.now))) }
     ensures grows { OnOk result (Grows types.old types.new) }
-    ensures context { OnOk result (IsContext types.new context.now) }
+    ensures context { OnOk result (IsContextOver types.new context.now) }
 {
     let read = kinded_part(alloc, t, types, &*context, 0)?;
     let is_value = types.is_value_kind(read.kind);

@@ -1,7 +1,7 @@
 //! Lets.
 ghost use Rattle.std.specs.Prelude.{◌≡◌, IfOk, OnOk, if◌then◌else◌};
 ghost use Rattle.fc_model.specs.Says.{Says};
-ghost use Rattle.fc_lint_context.specs.ContextViews.{IsContext, context_in, modules_of_context};
+ghost use Rattle.fc_lint_context.specs.ContextViews.{IsContextOver, context_in, modules_of_context};
 ghost use Rattle.fc_type_scope.specs.Scopes.{scope_in};
 ghost use Rattle.fc_model.specs.Faulting.{under};
 ghost use Rattle.fc_model.specs.Nameless.{NLet};
@@ -29,11 +29,10 @@ pub(crate) fn bind_fits(
     types: &mut TypeTable,
     context: &Context,
 ) -> Result<(), Flawed>
-    requires context { IsContext types.old context.now }
-    requires modules { modules_in types.old ≡ modules_of_context context.now }
+    requires context { IsContextOver types.old context.now }
     ensures says { Says (λ _. nty_of bind.now.ty) result (bind_judged (modules_of_context context.now) (context_in types.old context.now) recursive (nbind_of bind.now)) }
     ensures grows { OnOk result (Grows types.old types.new) }
-    ensures context { OnOk result (IsContext types.new context.now) }
+    ensures context { OnOk result (IsContextOver types.new context.now) }
 {
     let read = kinded_part(alloc, &bind.ty, types, &*context, 0)?;
     let is_value = types.is_value_kind(read.kind);
@@ -52,11 +51,10 @@ pub(crate) fn bind_part_fits(
     context: &Context,
     part: u32,
 ) -> Result<(), Flawed>
-    requires context { IsContext types.old context.now }
-    requires modules { modules_in types.old ≡ modules_of_context context.now }
+    requires context { IsContextOver types.old context.now }
     ensures says { Says (λ _. nty_of bind.now.ty) result (under part (bind_judged (modules_of_context context.now) (context_in types.old context.now) recursive (nbind_of bind.now))) }
     ensures grows { OnOk result (Grows types.old types.new) }
-    ensures context { OnOk result (IsContext types.new context.now) }
+    ensures context { OnOk result (IsContextOver types.new context.now) }
 {
     match bind_fits(alloc, bind, recursive, types, &*context) {
         Ok(()) => Ok(()),
@@ -73,11 +71,10 @@ pub(crate) fn each_bind_fits(
     types: &mut TypeTable,
     context: &Context,
 ) -> Result<u32, Flawed>
-    requires context { IsContext types.old context.now }
-    requires modules { modules_in types.old ≡ modules_of_context context.now }
+    requires context { IsContextOver types.old context.now }
     ensures says { Says (λ i. i) result (binds_judged (modules_of_context context.now) (context_in types.old context.now) recursive 0 (nbinds_of binds.now)) }
     ensures grows { OnOk result (Grows types.old types.new) }
-    ensures context { OnOk result (IsContext types.new context.now) }
+    ensures context { OnOk result (IsContextOver types.new context.now) }
 {
     let mut part = 0u32;
     for bind in binds {
@@ -97,13 +94,12 @@ pub(crate) fn binds_fit(
     types: &mut TypeTable,
     context: &Context,
 ) -> Result<u32, Flawed>
-    requires context { IsContext types.old context.now }
-    requires modules { modules_in types.old ≡ modules_of_context context.now }
+    requires context { IsContextOver types.old context.now }
     requires types_in { AreTypes types.old (scope_in context.now.scope) ids.now }
     requires all { shown_all types.old (scope_in context.now.scope) ids.now ≡ bind_types (nbinds_of binds.now) }
     ensures says { Says (λ i. i) result (binds_judged (modules_of_context context.now) (without_joins (if recursive then with_binds (nbinds_of binds.now) (context_in types.old context.now) else (context_in types.old context.now))) recursive 0 (nbinds_of binds.now)) }
     ensures grows { OnOk result (Grows types.old types.new) }
-    ensures context { OnOk result (IsContext types.new context.now) }
+    ensures context { OnOk result (IsContextOver types.new context.now) }
 {
     if recursive {
         let group = (&*context).behind_binds(&*ids);
@@ -126,14 +122,13 @@ pub(crate) fn type_behind_binds(
     context: &Context,
     part: u32,
 ) -> Result<TypeId, Flawed>
-    requires context { IsContext types.old context.now }
-    requires modules { modules_in types.old ≡ modules_of_context context.now }
+    requires context { IsContextOver types.old context.now }
     requires types_in { AreTypes types.old (scope_in context.now.scope) ids.now }
     requires all { shown_all types.old (scope_in context.now.scope) ids.now ≡ bind_types (nbinds_of binds.now) }
     ensures valid { IfOk result (λ id. IsType types.new (scope_in context.now.scope) id) }
     ensures says { Says (λ id. shown types.new (scope_in context.now.scope) id) result (under part (type_or_fault (modules_of_context context.now) (with_binds (nbinds_of binds.now) (context_in types.old context.now)) (nexpr_of body.now))) }
     ensures grows { OnOk result (Grows types.old types.new) }
-    ensures context { OnOk result (IsContext types.new context.now) }
+    ensures context { OnOk result (IsContextOver types.new context.now) }
 {
     let inner = (&*context).behind_binds(&*ids);
     type_of_part(alloc, body, types, &inner, part)
@@ -149,12 +144,11 @@ pub(crate) fn type_of_let(
     types: &mut TypeTable,
     context: &Context,
 ) -> Result<TypeId, Flawed>
-    requires context { IsContext types.old context.now }
-    requires modules { modules_in types.old ≡ modules_of_context context.now }
+    requires context { IsContextOver types.old context.now }
     ensures valid { IfOk result (λ id. IsType types.new (scope_in context.now.scope) id) }
     ensures says { Says (λ id. shown types.new (scope_in context.now.scope) id) result (type_or_fault (modules_of_context context.now) (context_in types.old context.now) (NLet recursive (nbinds_of binds.now) (nexpr_of body.now))) }
     ensures grows { OnOk result (Grows types.old types.new) }
-    ensures context { OnOk result (IsContext types.new context.now) }
+    ensures context { OnOk result (IsContextOver types.new context.now) }
 {
     let ids = context.types_of_binds(alloc, binds, types)?;
     let group = ids.as_slice();

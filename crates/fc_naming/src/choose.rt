@@ -1,12 +1,13 @@
 //! The word that a binder takes.
 ghost use Rattle.std.specs.Prelude.{◌≡◌, None, Some, if◌then◌else◌, IfOk};
 ghost use Rattle.fc_model.specs.DeclaredWords.{top_by, words_by_space};
+ghost use Rattle.fc_model.specs.WordSets.{set_of};
 ghost use Rattle.fc_scope.specs.ScopeWords.{locals_of};
 ghost use Rattle.fc_naming.specs.Named.{IsChosen, candidate as is_candidate};
 ghost use Rattle.fc_naming.specs.Taken.{more_words, words_around, words_of};
 
-use crate::taken::{Space, add_word, is_among, is_around};
-use fc_model::{Declared, Spaces};
+use crate::taken::{Space, add_word, is_around, words_among};
+use fc_model::{Declared, Spaces, WordSet};
 use fc_scope::Scope;
 use fc_syntax::{Memory, Text};
 use itoa::Buffer;
@@ -34,30 +35,38 @@ pub fn new_word<'x>(
 // THE FIRST WORD THAT IS FREE
 
 /// The word itself, then `w_1`, `w_2` and so on.
-fn candidate(alloc: Global, hint: &Text, number: u32) -> Result<Text, Memory>
-    ensures { IfOk result (λ v. v ≡ is_candidate hint.now number) }
+fn candidate(alloc: Global, word: &Text, number: u32) -> Result<Text, Memory>
+    ensures { IfOk result (λ v. v ≡ is_candidate word.now number) }
 {
     if number == 0 {
-        return hint.copy(alloc);
+        return word.copy(alloc);
     }
     let mut digits = Buffer::new();
-    let mut text = String::from_str(alloc, hint.as_str())?;
+    let mut text = String::from_str(alloc, word.as_str())?;
     text.push_str("_")?;
     text.push_str(digits.format(number))?;
     Text::from_str(alloc, text.as_str())
 }
 
-/// The first candidate that is not taken, where a binder was read with the word `hint`.
-pub fn choose(alloc: Global, hint: &Text, space: Space, taken: &Spaces) -> Result<Text, Memory>
-    ensures { IfOk result (λ v. IsChosen (words_of space (words_by_space taken.now)) hint.now v) }
+/// The first of `w`, `w_1`, `w_2` and so on that is none of these words. Fails only where memory runs out, or where 2^32 - 1 of them are
+/// taken.
+pub fn first_free(alloc: Global, word: &Text, taken: &WordSet) -> Result<Text, Memory>
+    ensures { IfOk result (λ v. IsChosen (set_of taken.now) word.now v) }
 {
     for number in 0..u32::MAX {
-        let next = candidate(alloc, hint, number)?;
-        if !is_among(taken, space, &next) {
+        let next = candidate(alloc, word, number)?;
+        if !taken.has(&next) {
             return Ok(next);
         }
     }
     Err(Memory)
+}
+
+/// The first of them that is not taken, where a binder was read with the word `hint`.
+pub fn choose(alloc: Global, hint: &Text, space: Space, taken: &Spaces) -> Result<Text, Memory>
+    ensures { IfOk result (λ v. IsChosen (words_of space (words_by_space taken.now)) hint.now v) }
+{
+    first_free(alloc, hint, words_among(taken, space))
 }
 
 /// The same, after which the word is taken.

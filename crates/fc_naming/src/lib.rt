@@ -16,6 +16,7 @@ mod types;
 mod used;
 mod variables;
 
+pub use choose::first_free;
 pub use error::NotNamed;
 pub use expressions::named_expr;
 pub use module::name_back;

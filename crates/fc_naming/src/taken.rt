@@ -1,10 +1,11 @@
 //! The words that a binder must not take.
 ghost use Rattle.std.specs.Prelude.{◌≡◌, IfOk, OnOk};
 ghost use Rattle.fc_model.specs.DeclaredWords.{top_by, words_by_space};
+ghost use Rattle.fc_model.specs.WordSets.{set_of};
 ghost use Rattle.fc_scope.specs.ScopeWords.{locals_of};
 ghost use Rattle.fc_naming.specs.Taken.{more_words, words_around, words_of};
 
-use fc_model::{Declared, Spaces};
+use fc_model::{Declared, Spaces, WordSet};
 use fc_scope::{Found, Scope};
 use fc_syntax::{Memory, Text};
 use std::alloc::Global;
@@ -20,15 +21,15 @@ pub enum Space {
     Coercions,
 }
 
-/// Whether a word is one of these.
+/// Those of a space.
 #[tactic(auto, unfolding(fc_model::specs::DeclaredWords::words_by_space))]
-pub fn is_among(words: &Spaces, space: Space, word: &Text) -> bool
-    ensures { result ≡ words_of space (words_by_space words.now) word.now }
+pub fn words_among(words: &Spaces, space: Space) -> &WordSet
+    ensures { set_of result.now ≡ words_of space (words_by_space words.now) }
 {
     match space {
-        Space::Types => words.types.has(word),
-        Space::Terms => words.terms.has(word),
-        Space::Coercions => words.coercions.has(word),
+        Space::Types => &words.types,
+        Space::Terms => &words.terms,
+        Space::Coercions => &words.coercions,
     }
 }
 

@@ -1,3 +1,2 @@
 pub mod Constructed
-pub mod Readable
 pub mod Steps

@@ -9,15 +9,6 @@ use Rattle.fc_model.specs.Nameless.{NTy, NTApp, NArg, NATerm, NAType, NACo, NArg
 use Rattle.fc_model.specs.Typing.{behind_coercion, second_of}
 use Rattle.fc_model.specs.declared.flaw.Flawed.{Flawed}
 use Rattle.fc_model.specs.declared.flaw.Flawed.TheVariants.{Memory, Flaw as OfFlaw}
-use Rattle.fc_lint_context.specs.ContextViews.{IsContext, modules_of_context}
-use Rattle.fc_lint_context.specs.declared.context.Context.{Context}
-use Rattle.fc_type_table.specs.TypeTables.{modules_in}
-use Rattle.fc_type_table.specs.declared.table.TypeTable.{TypeTable}
-
--- types are read off in this context, with their numbers in this table
-pub record IsReadable (table : TypeTable) (c : Context) : Type 0 where
-  pub context : IsContext table c
-  pub modules : modules_in table ≡ modules_of_context c
 
 -- what was judged, or nothing where a premise fails; out of memory is no answer
 abbrev pub IsAnswer : {X : Type 0} → Result X Flawed → Option X → Type 0

@@ -5,7 +5,7 @@ ghost use Rattle.fc_model.specs.Calling.{constructor, from_some};
 ghost use Rattle.fc_model.specs.NamelessView.{nargs_of};
 ghost use Rattle.fc_model.specs.Typing.{constructed_at};
 ghost use Rattle.fc_types.specs.TableViews.{constructor_of};
-ghost use Rattle.fc_lint_context.specs.ContextViews.{IsContext, modules_of_context};
+ghost use Rattle.fc_lint_context.specs.ContextViews.{IsContextOver, modules_of_context};
 ghost use Rattle.fc_type_scope.specs.Scopes.{IsScope, scope_in};
 ghost use Rattle.fc_type_table.specs.TypeTables.{Grows, IsType, shown};
 ghost use Rattle.fc_type_reading.specs.Readings.{applied_to_first, type_of_argument};
@@ -107,7 +107,7 @@ pub(crate) fn constructor_type(
     types: &mut TypeTable,
     context: &Context,
 ) -> Result<Option<TypeId>, Memory>
-    requires { IsContext types.old context.now }
+    requires { IsContextOver types.old context.now }
     ensures valid { IfOk result (λ r. IfSome r (λ id. IsType types.new (scope_in context.now.scope) id)) }
     ensures view { IfOk result (λ r. option_map (λ id. shown types.new (scope_in context.now.scope) id) r ≡ from_some (constructed_at name.now (nargs_of args.now)) (constructor (modules_of_context context.now) name.now)) }
     ensures grows { OnOk result (Grows types.old types.new) }

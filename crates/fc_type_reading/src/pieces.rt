@@ -7,12 +7,12 @@ ghost use Rattle.fc_model.specs.Faulting.{at_distance};
 ghost use Rattle.fc_model.specs.NamelessView.{narg_of, nco_of};
 ghost use Rattle.fc_model.specs.Typing as words;
 ghost use Rattle.fc_model.specs.Typing.{answered, right_end};
-ghost use Rattle.fc_lint_context.specs.ContextViews.{IsContextAt, context_at, context_in, modules_of_context};
+ghost use Rattle.fc_lint_context.specs.ContextViews.{IsContextAt, IsContextOver, context_at, context_in, modules_of_context};
 ghost use Rattle.fc_type_scope.specs.Scopes.{IsScope, scope_in};
 ghost use Rattle.fc_type_table.specs.Scopes.{IsTypeAt, shown_at};
 ghost use Rattle.fc_type_table.specs.TypeTables.{Grows, IsType, shown};
 ghost use Rattle.fc_type_table.specs.declared.node.Node as nodes;
-ghost use Rattle.fc_type_reading.specs.Readings.{IsAnswer, IsReadable, type_applied};
+ghost use Rattle.fc_type_reading.specs.Readings.{IsAnswer, type_applied};
 
 use fc_coercion::ends_of;
 use fc_lint_context::Context;
@@ -84,7 +84,7 @@ pub(crate) fn cast_type(
     types: &mut TypeTable,
     context: &Context,
 ) -> Result<Option<TypeId>, Memory>
-    requires { IsReadable types.old context.now }
+    requires { IsContextOver types.old context.now }
     ensures valid { IfOk result (λ r. IfSome r (λ id. IsType types.new (scope_in context.now.scope) id)) }
     ensures view { IfOk result (λ r. option_map (λ id. shown types.new (scope_in context.now.scope) id) r ≡ right_end (answered (ends_or_fault (modules_of_context context.now) (context_in types.old context.now).kinds (context_in types.old context.now).coercions (nco_of g.now)))) }
     ensures grows { IfOk result (λ r. OnSome r (Grows types.old types.new)) }

@@ -1,7 +1,7 @@
 //! The type of an expression, read off.
 ghost use Rattle.std.specs.Prelude.{◌≡◌, [], ◌∷◌, IfOk, IfSome, OnSome};
 ghost use Rattle.std.specs.Option.{option_map};
-ghost use Rattle.fc_lint_context.specs.ContextViews.{IsContext, context_in, modules_of_context};
+ghost use Rattle.fc_lint_context.specs.ContextViews.{IsContextOver, context_in, modules_of_context};
 ghost use Rattle.fc_lint_context.specs.LocalViews.{bind_types};
 ghost use Rattle.fc_model.specs.Nameless.{NLam, NLet};
 ghost use Rattle.fc_model.specs.NamelessView.{nbinder_of, nbinds_of, nexpr_of};
@@ -10,7 +10,6 @@ ghost use Rattle.fc_model.specs.Typing.{with_binder, with_binds};
 ghost use Rattle.fc_type_scope.specs.Behind.{IsEntered, kinds_past};
 ghost use Rattle.fc_type_scope.specs.Scopes.{AreTypes, scope_in, shown_all};
 ghost use Rattle.fc_type_table.specs.TypeTables.{Grows, IsType, modules_in, nodes_of, shown};
-ghost use Rattle.fc_type_reading.specs.Readings.{IsReadable};
 
 use crate::constructors::constructor_type;
 use crate::pieces::{applied_type, cast_type, judged_type, jump_type};
@@ -30,7 +29,7 @@ fn type_below(
     types: &mut TypeTable,
     context: &Context,
 ) -> Result<Option<TypeId>, Memory>
-    requires readable { IsReadable types.old context.now }
+    requires context { IsContextOver types.old context.now }
     requires entered_in { IsEntered (nodes_of types.old) (scope_in context.now.scope) (nbinder_of binder.now ∷ []) entered.now }
     ensures valid { IfOk result (λ r. IfSome r (λ id. IsType types.new (kinds_past (nbinder_of binder.now ∷ []) (scope_in context.now.scope)) id)) }
     ensures view { IfOk result (λ r. option_map (λ id. shown types.new (kinds_past (nbinder_of binder.now ∷ []) (scope_in context.now.scope)) id) r ≡ words.type_read_off (modules_of_context context.now) (with_binder (nbinder_of binder.now) (context_in types.old context.now)) (nexpr_of body.now)) }
@@ -38,7 +37,7 @@ fn type_below(
 {
     let kinds = (&*entered).kinds_behind(&*context.scope.kinds);
     let inner = (&*context).behind_binders(&*entered, &kinds);
-    type_in(alloc, body, types, &inner)
+    type_read_off(alloc, body, types, &inner)
 }
 
 /// The type of a lambda: what takes an argument for its binder and is then of the type of its body.
@@ -50,7 +49,7 @@ fn lambda_type(
     types: &mut TypeTable,
     context: &Context,
 ) -> Result<Option<TypeId>, Memory>
-    requires { IsReadable types.old context.now }
+    requires { IsContextOver types.old context.now }
     ensures valid { IfOk result (λ r. IfSome r (λ id. IsType types.new (scope_in context.now.scope) id)) }
     ensures view { IfOk result (λ r. option_map (λ id. shown types.new (scope_in context.now.scope) id) r ≡ words.type_read_off (modules_of_context context.now) (context_in types.old context.now) (NLam (nbinder_of binder.now) (nexpr_of body.now))) }
     ensures grows { IfOk result (λ r. OnSome r (Grows types.old types.new)) }
@@ -77,7 +76,7 @@ fn type_behind_binds(
     types: &mut TypeTable,
     context: &Context,
 ) -> Result<Option<TypeId>, Memory>
-    requires readable { IsReadable types.old context.now }
+    requires context { IsContextOver types.old context.now }
     requires types_in { AreTypes types.old (scope_in context.now.scope) ids.now }
     requires all { shown_all types.old (scope_in context.now.scope) ids.now ≡ bind_types (nbinds_of binds.now) }
     ensures valid { IfOk result (λ r. IfSome r (λ id. IsType types.new (scope_in context.now.scope) id)) }
@@ -85,7 +84,7 @@ fn type_behind_binds(
     ensures grows { IfOk result (λ r. OnSome r (Grows types.old types.new)) }
 {
     let inner = (&*context).behind_binds(&*ids);
-    type_in(alloc, body, types, &inner)
+    type_read_off(alloc, body, types, &inner)
 }
 
 /// The type of a let: that of its body behind its binds, of which the written types alone are looked at.
@@ -98,7 +97,7 @@ fn let_type(
     types: &mut TypeTable,
     context: &Context,
 ) -> Result<Option<TypeId>, Memory>
-    requires { IsReadable types.old context.now }
+    requires { IsContextOver types.old context.now }
     ensures valid { IfOk result (λ r. IfSome r (λ id. IsType types.new (scope_in context.now.scope) id)) }
     ensures view { IfOk result (λ r. option_map (λ id. shown types.new (scope_in context.now.scope) id) r ≡ words.type_read_off (modules_of_context context.now) (context_in types.old context.now) (NLet recursive (nbinds_of binds.now) (nexpr_of body.now))) }
     ensures grows { IfOk result (λ r. OnSome r (Grows types.old types.new)) }
@@ -107,16 +106,20 @@ fn let_type(
     type_behind_binds(alloc, body, binds, ids.as_slice(), types, &*context)
 }
 
-/// The type of an expression in a context.
+/// The type of an expression in a context, read off without judging its premises: the type that it has where it has one, and nothing where a
+/// part that the type is read off has none, or a coercion there is refused. Visited are the heads of applications, the bodies of lambdas and lets,
+/// the types of their binders, the type arguments that are put in, and the coercion of a cast, and nothing else. Fails only where memory runs
+/// out, and where a type that is read names a variable out of scope, as no type does of a module that has its names. Where nothing is answered,
+/// what the table then has is left open, as where a call on it fails.
 #[cycle(reading)]
 #[tactic(auto, using(fc_syntax::proofs::View::view_rules))]
-fn type_in(
+pub fn type_read_off(
     alloc: Global,
     e: &NExpr,
     types: &mut TypeTable,
     context: &Context,
 ) -> Result<Option<TypeId>, Memory>
-    requires { IsReadable types.old context.now }
+    requires { IsContextOver types.old context.now }
     ensures valid { IfOk result (λ r. IfSome r (λ id. IsType types.new (scope_in context.now.scope) id)) }
     ensures view { IfOk result (λ r. option_map (λ id. shown types.new (scope_in context.now.scope) id) r ≡ words.type_read_off (modules_of_context context.now) (context_in types.old context.now) (nexpr_of e.now)) }
     ensures grows { IfOk result (λ r. OnSome r (Grows types.old types.new)) }
@@ -125,7 +128,7 @@ fn type_in(
         NExpr::Var(Ref::Local(distance)) => judged_type(context.local(alloc, *distance)),
         NExpr::Var(Ref::Top(name)) => judged_type(context.definition_type(alloc, name)),
         NExpr::Lit(_) => Ok(Some(context.scope.int_hash(types)?)),
-        NExpr::App(head, arg) => match type_in(alloc, head, types, &*context)? {
+        NExpr::App(head, arg) => match type_read_off(alloc, head, types, &*context)? {
             None => Ok(None),
             Some(t) => applied_type(alloc, t, arg, types, &context.scope),
         },
@@ -141,25 +144,4 @@ fn type_in(
         NExpr::Join(_, t, _, _) => Ok(Some(context.scope.read(t, types)?)),
         NExpr::Jump(distance, _) => Ok(jump_type(*distance, &*context)),
     }
-}
-
-/// The type of an expression in a context, read off without judging its premises: the type that it has where it has one, and nothing where a
-/// part that the type is read off has none, or a coercion there is refused. Visited are the heads of applications, the bodies of lambdas and lets,
-/// the types of their binders, the type arguments that are put in, and the coercion of a cast, and nothing else. Fails only where memory runs
-/// out, and where a type that is read names a variable out of scope, as no type does of a module that has its names. Where nothing is answered,
-/// what the table then has is left open, as where a call on it fails.
-pub fn type_read_off(
-    alloc: Global,
-    e: &NExpr,
-    types: &mut TypeTable,
-    context: &Context,
-) -> Result<Option<TypeId>, Memory>
-    requires context { IsContext types.old context.now }
-    requires modules { modules_in types.old ≡ modules_of_context context.now }
-    ensures valid { IfOk result (λ r. IfSome r (λ id. IsType types.new (scope_in context.now.scope) id)) }
-    ensures view { IfOk result (λ r. option_map (λ id. shown types.new (scope_in context.now.scope) id) r ≡ words.type_read_off (modules_of_context context.now) (context_in types.old context.now) (nexpr_of e.now)) }
-    ensures grows { IfOk result (λ r. OnSome r (Grows types.old types.new)) }
-    ensures context { IfOk result (λ r. OnSome r (IsContext types.new context.now)) }
-{
-    type_in(alloc, e, types, context)
 }

@@ -1,8 +1,7 @@
-//! Types of nameless modules: whether two are the same, the declarations that they name, and the kinds of these.
+//! Types of nameless modules: whether two are the same, and the declarations that they name.
 #![tactic(auto)]
 
 mod declarations;
-mod declared_kinds;
 mod families;
 mod keys;
 mod kinds;
@@ -11,6 +10,6 @@ mod tables;
 
 pub use declarations::Declarations;
 pub use families::{is_family_applied, params_of_family};
-pub use kinds::{is_lifted, kind_of_name};
+pub use kinds::is_lifted;
 pub use sameness::{same_kind, same_name, same_role, same_type, same_word};
 pub use tables::{DeclaredAxiom, DeclaredCon};

@@ -12,7 +12,7 @@ ghost use Rattle.fc_types.specs.ModuleViews.{modules_of};
 ghost use Rattle.fc_type_table.specs.TypeTables.{modules_in, nodes_of};
 ghost use Rattle.fc_type_scope.specs.Behind.{IsEntered, kinds_past};
 ghost use Rattle.fc_type_scope.specs.Scopes.{scope_in};
-ghost use Rattle.fc_lint_context.specs.ContextViews.{IsContext, context_in, modules_of_context};
+ghost use Rattle.fc_lint_context.specs.ContextViews.{IsContextOver, context_in, modules_of_context};
 ghost use Rattle.fc_lint_context.specs.DeclaredViews.{AreRead, modules_read};
 ghost use Rattle.fc_typing.specs.Behind.{context_behind};
 ghost use Rattle.fc_typing.specs.Wording.{own_of, types_of};
@@ -45,8 +45,7 @@ pub(crate) trait Question {
         context: &Context,
         words: Words,
     ) -> Result<Self::Answer, Flawed>
-        requires context { IsContext types.old context.now }
-        requires modules { modules_in types.old ≡ modules_of_context context.now }
+        requires context { IsContextOver types.old context.now }
         requires seen { AreSeen (types_of words) }
         requires count { length (scope_in context.now.scope) ≡ length (types_of words) }
         ensures told { IfOk result (λ a. told self.now (modules_of_context context.now) (context_in types.old context.now) (own_of words.entry) (types_of words.entry) a) }
@@ -67,8 +66,7 @@ fn asked_inside<Q: Question>(
     outside: &Context,
     words: Words,
 ) -> Result<Q::Answer, Flawed>
-    requires context { IsContext types.old outside.now }
-    requires modules { modules_in types.old ≡ modules_of_context outside.now }
+    requires context { IsContextOver types.old outside.now }
     requires entered { IsEntered (nodes_of types.old) (scope_in outside.now.scope) (nbinders_of binders.now) bound.now }
     requires seen { AreSeen (types_of words) }
     requires count { length (kinds_past (nbinders_of binders.now) (scope_in outside.now.scope)) ≡ length (types_of words) }

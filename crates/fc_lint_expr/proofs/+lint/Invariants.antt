@@ -7,12 +7,12 @@ use Rattle.fc_syntax.specs.declared.expr.Expr.{size-Expr}
 use Rattle.fc_syntax.specs.declared.expr.JoinBind.{size-JoinBind}
 use Rattle.fc_syntax.specs.declared.ty.Ref.{Ref}
 use Rattle.fc_model.specs.NamelessView.{nalts_of, nbinds_of, njoins_of}
-use Rattle.fc_model.specs.Typing.{Start, alts_judged, binds_judged, joins_judged}
+use Rattle.fc_model.specs.Typing.{Start, alts_judged, binds_judged, joins_judged, without_joins}
 use Rattle.fc_type_scope.specs.Scopes.{scope_in}
-use Rattle.fc_type_table.specs.TypeTables.{Grows, IsType, modules_in, shown}
+use Rattle.fc_type_table.specs.TypeTables.{Grows, IsType, shown}
 use Rattle.fc_lint_calls.specs.AltViews.{before_of}
 use Rattle.fc_lint_calls.specs.GivenViews.{AreGiven, givens_in}
-use Rattle.fc_lint_context.specs.ContextViews.{IsContext, context_in, modules_of_context}
+use Rattle.fc_lint_context.specs.ContextViews.{IsContextOver, context_in, modules_of_context}
 use Rattle.fc_lint_expr.specs.Lists.{args_from, operands_from, with_givens}
 use Rattle.fc_lint_expr.proofs.+lint.Given as goal
 
@@ -20,28 +20,25 @@ use Rattle.fc_lint_expr.proofs.+lint.Given as goal
 abbrev pub invariant-arguments::arguments-loop-arg : goal.invariant-arguments::arguments-loop-arg
 invariant-arguments::arguments-loop-arg l = record {
   grows : Grows l.initial.types l.types;
-  context : IsContext l.types l.context;
-  modules : modules_in l.types ≡ modules_of_context l.context;
+  context : IsContextOver l.types l.context;
   are_given : AreGiven l.types (scope_in l.context.scope) l.given;
-  so_far : args_from (modules_of_context l.context) (context_in l.initial.types l.context) 0 l.args
-      ≡ with_givens (givens_in l.types (scope_in l.context.scope) l.given) (args_from (modules_of_context l.context) (context_in l.initial.types l.context) l.part (drop l.arg-index l.args));
+  so_far : args_from (modules_of_context l.context) (without_joins (context_in l.initial.types l.context)) 0 l.args
+      ≡ with_givens (givens_in l.types (scope_in l.context.scope) l.given) (args_from (modules_of_context l.context) (without_joins (context_in l.initial.types l.context)) l.part (drop l.arg-index l.args));
 }
 
 abbrev pub invariant-arguments::operands-loop-operand : goal.invariant-arguments::operands-loop-operand
 invariant-arguments::operands-loop-operand l = record {
   grows : Grows l.initial.types l.types;
-  context : IsContext l.types l.context;
-  modules : modules_in l.types ≡ modules_of_context l.context;
+  context : IsContextOver l.types l.context;
   are_given : AreGiven l.types (scope_in l.context.scope) l.given;
-  so_far : operands_from (modules_of_context l.context) (context_in l.initial.types l.context) 0 l.operands
-      ≡ with_givens (givens_in l.types (scope_in l.context.scope) l.given) (operands_from (modules_of_context l.context) (context_in l.initial.types l.context) l.part (drop l.operand-index l.operands));
+  so_far : operands_from (modules_of_context l.context) (without_joins (context_in l.initial.types l.context)) 0 l.operands
+      ≡ with_givens (givens_in l.types (scope_in l.context.scope) l.given) (operands_from (modules_of_context l.context) (without_joins (context_in l.initial.types l.context)) l.part (drop l.operand-index l.operands));
 }
 
 abbrev pub invariant-cases::each_alternative_fits-loop-alternative : goal.invariant-cases::each_alternative_fits-loop-alternative
 invariant-cases::each_alternative_fits-loop-alternative l = record {
   grows : Grows l.initial.types l.types;
-  context : IsContext l.types l.context;
-  modules : modules_in l.types ≡ modules_of_context l.context;
+  context : IsContextOver l.types l.context;
   scrutinee : IsType l.types (scope_in l.context.scope) l.wanted.scrutinee;
   answer : IsType l.types (scope_in l.context.scope) l.wanted.answer;
   so_far : alts_judged (modules_of_context l.context) (context_in l.initial.types l.context) (shown l.initial.types (scope_in l.context.scope) l.wanted.scrutinee) (shown l.initial.types (scope_in l.context.scope) l.wanted.answer) 3 Start (nalts_of l.alternatives)
@@ -51,8 +48,7 @@ invariant-cases::each_alternative_fits-loop-alternative l = record {
 abbrev pub invariant-joins::each_join_fits-loop-bind : goal.invariant-joins::each_join_fits-loop-bind
 invariant-joins::each_join_fits-loop-bind l = record {
   grows : Grows l.initial.types l.types;
-  context : IsContext l.types l.context;
-  modules : modules_in l.types ≡ modules_of_context l.context;
+  context : IsContextOver l.types l.context;
   answer : IsType l.types (scope_in l.context.scope) l.answer;
   so_far : joins_judged (modules_of_context l.context) (context_in l.initial.types l.context) (shown l.initial.types (scope_in l.context.scope) l.answer) 1 (njoins_of l.binds)
       ≡ joins_judged (modules_of_context l.context) (context_in l.initial.types l.context) (shown l.initial.types (scope_in l.context.scope) l.answer) l.part (njoins_of (drop l.bind-index l.binds));
@@ -61,8 +57,7 @@ invariant-joins::each_join_fits-loop-bind l = record {
 abbrev pub invariant-lets::each_bind_fits-loop-bind : goal.invariant-lets::each_bind_fits-loop-bind
 invariant-lets::each_bind_fits-loop-bind l = record {
   grows : Grows l.initial.types l.types;
-  context : IsContext l.types l.context;
-  modules : modules_in l.types ≡ modules_of_context l.context;
+  context : IsContextOver l.types l.context;
   so_far : binds_judged (modules_of_context l.context) (context_in l.initial.types l.context) l.recursive 0 (nbinds_of l.binds)
       ≡ binds_judged (modules_of_context l.context) (context_in l.initial.types l.context) l.recursive l.part (nbinds_of (drop l.bind-index l.binds));
 }
@@ -79,19 +74,22 @@ abbrev pub decreases-arguments::arguments : goal.decreases-arguments::arguments
 decreases-arguments::arguments l = 10 * most (size-Arg ℕ Ref) l.args.now + 2
 
 abbrev pub decreases-arguments::operand_of_part : goal.decreases-arguments::operand_of_part
-decreases-arguments::operand_of_part l = 10 * size-Expr ℕ Ref l.e.now + 1
+decreases-arguments::operand_of_part l = 10 * size-Expr ℕ Ref l.e.now + 2
 
 abbrev pub decreases-arguments::operands : goal.decreases-arguments::operands
-decreases-arguments::operands l = 10 * most (size-Expr ℕ Ref) l.operands.now + 2
+decreases-arguments::operands l = 10 * most (size-Expr ℕ Ref) l.operands.now + 3
 
 abbrev pub decreases-binding::type_behind : goal.decreases-binding::type_behind
 decreases-binding::type_behind l = 10 * size-Expr ℕ Ref l.body.now + 2
 
+abbrev pub decreases-binding::type_of_body : goal.decreases-binding::type_of_body
+decreases-binding::type_of_body l = 10 * size-Expr ℕ Ref l.body.now + 2
+
 abbrev pub decreases-binding::type_below : goal.decreases-binding::type_below
-decreases-binding::type_below l = 10 * size-Expr ℕ Ref l.body.now + 2
+decreases-binding::type_below l = 10 * size-Expr ℕ Ref l.body.now + 3
 
 abbrev pub decreases-binding::type_of_lambda : goal.decreases-binding::type_of_lambda
-decreases-binding::type_of_lambda l = 10 * size-Expr ℕ Ref l.body.now + 3
+decreases-binding::type_of_lambda l = 10 * size-Expr ℕ Ref l.body.now + 4
 
 abbrev pub decreases-cases::alternative_fits : goal.decreases-cases::alternative_fits
 decreases-cases::alternative_fits l = 10 * size-Alt ℕ Ref l.alternative.now
@@ -115,7 +113,7 @@ abbrev pub decreases-expressions::type_of_constructor : goal.decreases-expressio
 decreases-expressions::type_of_constructor l = 10 * most (size-Arg ℕ Ref) l.args.now + 3
 
 abbrev pub decreases-expressions::type_of_primitive : goal.decreases-expressions::type_of_primitive
-decreases-expressions::type_of_primitive l = 10 * most (size-Expr ℕ Ref) l.args.now + 3
+decreases-expressions::type_of_primitive l = 10 * most (size-Expr ℕ Ref) l.args.now + 4
 
 abbrev pub decreases-expressions::type_of_jump : goal.decreases-expressions::type_of_jump
 decreases-expressions::type_of_jump l = 10 * most (size-Arg ℕ Ref) l.args.now + 3
@@ -158,6 +156,9 @@ decreases-lets::type_behind_binds l = 10 * size-Expr ℕ Ref l.body.now + 2
 
 abbrev pub decreases-lets::type_of_let : goal.decreases-lets::type_of_let
 decreases-lets::type_of_let l = 10 * max (size-Expr ℕ Ref l.body.now) (most (size-Bind ℕ Ref) l.binds.now) + 4
+
+abbrev pub decreases-expressions::type_apart : goal.decreases-expressions::type_apart
+decreases-expressions::type_apart l = 10 * size-Expr ℕ Ref l.e.now + 1
 
 abbrev pub decreases-expressions::type_of_first : goal.decreases-expressions::type_of_first
 decreases-expressions::type_of_first l = 10 * size-Expr ℕ Ref l.e.now + 2

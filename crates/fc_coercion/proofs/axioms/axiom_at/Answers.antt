@@ -1,11 +1,10 @@
-use Rattle.std.proofs.Common.{◌≡◌, ◌∙◌, sym, ap, subst, Some, None, Ok, Err, rules}
+use Rattle.std.proofs.Common.{◌≡◌, ◌∙◌, sym, ap, Some, None, Ok, rules}
 use Rattle.std.specs.Option.{option_map}
 use Rattle.fc_model.specs.Coercing as words
 use Rattle.fc_model.specs.Coercing.{axiom_named}
 use Rattle.fc_model.specs.Kinding.{Modules}
 use Rattle.fc_model.specs.Nameless.{NTy}
 use Rattle.fc_model.specs.NamelessView.{ndecl_of}
-use Rattle.fc_model.specs.Says.{Refuses}
 use Rattle.fc_types.specs.TableViews.{axiom_of}
 use Rattle.fc_coercion_forms.specs.Axioms.{fits_or_fault, sides_at}
 use Rattle.fc_coercion_forms.specs.declared.axioms.Pair.{Pair}
@@ -14,25 +13,16 @@ use Rattle.fc_lint_context.specs.ContextViews.{modules_of_context}
 use Rattle.fc_type_scope.proofs.Proven.{shown_all_ends-grows}
 use Rattle.fc_type_scope.specs.EndViews.{shown_all_ends_at}
 use Rattle.fc_type_scope.specs.Scopes.{scope_in}
-use Rattle.fc_type_table.specs.TypeTables.{modules_in, nodes_of, shown}
-use Rattle.fc_coercion.proofs.AxiomEnds.{AreSides, axiom_answers, axiom_refused, sides_found}
-use Rattle.fc_coercion.proofs.Beside.{says_err}
+use Rattle.fc_type_table.specs.TypeTables.{nodes_of, shown}
+use Rattle.fc_coercion.proofs.AxiomEnds.{AreSides, axiom_answers, axiom_fails, sides_found}
 use Rattle.fc_coercion.proofs.axioms.axiom_at.Goals as goal
 
 pub returns-in_err-role-clause-says : goal.returns-in_err-role-clause-says
 returns-in_err-role-clause-says c =
     let ctx = c.args.context.now in
-    let f = c.in_err-role.field-0.0 in
     let n = c.args.name.now in
-    let ks = scope_in ctx.scope in
-    let es = shown_all_ends_at (nodes_of c.args.types.now) ks c.args.group.now in
-    let a = axiom_of n.module (ndecl_of c.in-Some.found.decl.now) in
-    let named : a ≡ axiom_named (modules_of_context ctx) n = c.in-Some.ensures.view (nodes_of c.args.types.now) c.requires.context in
-    let said : Refuses f (fits_or_fault (modules_in c.args.types.now) ks a es) = c.in_err-role.ensures.says n.module in
-    let here : Refuses f (fits_or_fault (modules_of_context ctx) ks (axiom_named (modules_of_context ctx) n) es) =
-    subst (λ x. Refuses f (fits_or_fault (modules_of_context ctx) ks x es)) named (subst (λ (m : Modules). Refuses f (fits_or_fault m ks a es)) c.requires.modules said) in
-    let given : c.from_residual.result ≡ Err f = search rules in
-    says_err _ f c.from_residual.result _ given (axiom_refused (modules_of_context ctx) ks es (axiom_named (modules_of_context ctx) n) f here)
+    let said = rw (c.requires.context.modules, c.in-Some.ensures.view _ c.requires.context.valid) at (c.in_err-role.ensures.says n.module) in
+    axiom_fails (modules_of_context ctx) (scope_in ctx.scope) (shown_all_ends_at (nodes_of c.args.types.now) (scope_in ctx.scope) c.args.group.now) _ _ (axiom_named (modules_of_context ctx) n) _ said (search rules)
 
 pub returns-in_default-2-clause-says : goal.returns-in_default-2-clause-says
 returns-in_default-2-clause-says c =
@@ -48,8 +38,8 @@ returns-in_default-2-clause-says c =
     let a = axiom_of n.module (ndecl_of k.decl.now) in
     let l : NTy = shown mid ks k.left in
     let u : NTy = shown mid ks k.right in
-    let fits : fits_or_fault ms ks a es ≡ Ok c.in_ok-role.role = ap (λ (m : Modules). fits_or_fault m ks a es) (sym c.requires.modules) ∙ c.in_ok-role.ensures.says n.module in
-    let later = IsContextAt-grows k0 k1 ctx c.in_ok-role.ensures.grows.nodes c.requires.context in
+    let fits : fits_or_fault ms ks a es ≡ Ok c.in_ok-role.role = ap (λ (m : Modules). fits_or_fault m ks a es) (sym c.requires.context.modules) ∙ c.in_ok-role.ensures.says n.module in
+    let later = IsContextAt-grows k0 k1 ctx c.in_ok-role.ensures.grows.nodes c.requires.context.valid in
     let shows : AreSides ms ks es l u a = λ x e. ((c.in-Some.ensures.sides k1 later x e).left, (c.in-Some.ensures.sides k1 later x e).right) in
     let none : c.in_ok-at.field-0 ≡ None = search rules in
     let grown : shown_all_ends_at k1 ks c.args.group.now ≡ es = shown_all_ends-grows k0 k1 ks c.args.group.now c.in_ok-role.ensures.grows.nodes c.requires.group_in in
@@ -70,11 +60,11 @@ returns-clause-says c =
     let k = c.in-Some.found in
     let es = shown_all_ends_at k0 ks c.args.group.now in
     let a = axiom_of n.module (ndecl_of k.decl.now) in
-    let named : a ≡ axiom_named ms n = c.in-Some.ensures.view k0 c.requires.context in
+    let named : a ≡ axiom_named ms n = c.in-Some.ensures.view k0 c.requires.context.valid in
     let l : NTy = shown mid ks k.left in
     let u : NTy = shown mid ks k.right in
-    let fits : fits_or_fault ms ks a es ≡ Ok c.in_ok-role.role = ap (λ (m : Modules). fits_or_fault m ks a es) (sym c.requires.modules) ∙ c.in_ok-role.ensures.says n.module in
-    let later = IsContextAt-grows k0 k1 ctx c.in_ok-role.ensures.grows.nodes c.requires.context in
+    let fits : fits_or_fault ms ks a es ≡ Ok c.in_ok-role.role = ap (λ (m : Modules). fits_or_fault m ks a es) (sym c.requires.context.modules) ∙ c.in_ok-role.ensures.says n.module in
+    let later = IsContextAt-grows k0 k1 ctx c.in_ok-role.ensures.grows.nodes c.requires.context.valid in
     let shows : AreSides ms ks es l u a = λ x e. ((c.in-Some.ensures.sides k1 later x e).left, (c.in-Some.ensures.sides k1 later x e).right) in
     let grown : shown_all_ends_at k1 ks c.args.group.now ≡ es = shown_all_ends-grows k0 k1 ks c.args.group.now c.in_ok-role.ensures.grows.nodes c.requires.group_in in
     let view : Pair → NTy × NTy = λ p. (shown new ks p.left, shown new ks p.right) in

@@ -5,8 +5,8 @@ use Rattle.fc_model.specs.Coercing.{all_ends_or_fault}
 use Rattle.fc_model.specs.NamelessView.{ncos_of}
 use Rattle.fc_type_scope.specs.EndViews.{AreEndsAt, shown_all_ends_at}
 use Rattle.fc_type_scope.specs.Scopes.{scope_in}
-use Rattle.fc_type_table.specs.TypeTables.{Grows, modules_in, nodes_of}
-use Rattle.fc_lint_context.specs.ContextViews.{IsContext, context_in, modules_of_context}
+use Rattle.fc_type_table.specs.TypeTables.{Grows, nodes_of}
+use Rattle.fc_lint_context.specs.ContextViews.{IsContextOver, context_in, modules_of_context}
 use Rattle.fc_coercion.specs.Pairs.{with_ends}
 use Rattle.fc_coercion.proofs.coercions.+coercions.Given as goal
 
@@ -14,8 +14,7 @@ use Rattle.fc_coercion.proofs.coercions.+coercions.Given as goal
 abbrev pub invariant-each_ends-loop-g : goal.invariant-each_ends-loop-g
 invariant-each_ends-loop-g l = record {
   grows : Grows l.initial.types l.types;
-  context : IsContext l.types l.context;
-  modules : modules_in l.types ≡ modules_of_context l.context;
+  context : IsContextOver l.types l.context;
   are_proven : AreEndsAt (nodes_of l.types) (scope_in l.context.scope) l.group;
   so_far : all_ends_or_fault (modules_of_context l.context) (scope_in l.context.scope) (context_in l.initial.types l.context).coercions 0 (ncos_of l.gs)
       ≡ with_ends (shown_all_ends_at (nodes_of l.types) (scope_in l.context.scope) l.group)

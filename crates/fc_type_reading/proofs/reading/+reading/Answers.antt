@@ -1,10 +1,10 @@
 use Rattle.std.proofs.Common.{◌≡◌, [], ◌∷◌, Some, None, arith, rules, subst, sym}
 use Rattle.fc_lint_context.proofs.Contexts.{context_at-grows}
+use Rattle.fc_lint_context.proofs.Growing.{stays}
 use Rattle.fc_lint_context.specs.ContextViews.{context_at, modules_of_context}
 use Rattle.fc_lint_context.specs.LocalViews.{bind_types}
 use Rattle.fc_model.specs.NamelessView.{nbinder_of, nbinds_of, nexpr_of}
 use Rattle.fc_model.specs.Typing.{type_read_off, with_binder}
-use Rattle.fc_type_reading.proofs.Readable.{IsReadable-grows}
 use Rattle.fc_type_reading.proofs.Steps.{lambda-none, lambda-some, let-is, reads-as}
 use Rattle.fc_type_scope.proofs.Growing.{IsEntered-grows}
 use Rattle.fc_type_scope.proofs.ScopeKinds.{scope_grows}
@@ -17,7 +17,7 @@ use Rattle.fc_type_reading.proofs.reading.+reading.Goals as goal
 
 pub lambda_type-type_below-requires : goal.lambda_type-type_below-requires
 lambda_type-type_below-requires t c =
-    (omega arith, (IsReadable-grows c.args.types.now c.enter_one.new.types c.args.context.now c.in_ok-entered.ensures.grows c.requires, c.in_ok-entered.ensures.entered))
+    (omega arith, (stays c.args.types.now c.enter_one.new.types c.args.context.now c.in_ok-entered.ensures.grows c.requires, c.in_ok-entered.ensures.entered))
 
 pub lambda_type-returns-in-None-clause-view : goal.lambda_type-returns-in-None-clause-view
 lambda_type-returns-in-None-clause-view t c =
@@ -27,7 +27,7 @@ lambda_type-returns-in-None-clause-view t c =
     let mid = nodes_of c.enter_one.new.types in
     let b = nbinder_of c.args.binder.now in
     let e = nexpr_of c.args.body.now in
-    let same : context_at mid ctx ≡ context_at old ctx = context_at-grows old mid ctx c.in_ok-entered.ensures.grows.nodes c.requires.context in
+    let same : context_at mid ctx ≡ context_at old ctx = context_at-grows old mid ctx c.in_ok-entered.ensures.grows.nodes c.requires.valid in
     let none : None ≡ type_read_off ms (with_binder b (context_at mid ctx)) e = search rules in
     lambda-none ms (context_at old ctx) (context_at mid ctx) same b e none
 
@@ -38,7 +38,7 @@ lambda_type-function_over_one-requires-clause-scope t c =
     let below = c.type_below.new.types in
     let grows : Grows mid below = search rules in
     let further : Grows first below = Grows-further first mid below c.in_ok-entered.ensures.grows grows in
-    scope_grows (nodes_of first) (nodes_of below) c.args.context.now.scope.kinds.now further.nodes c.requires.context.scope
+    scope_grows (nodes_of first) (nodes_of below) c.args.context.now.scope.kinds.now further.nodes c.requires.valid.scope
 
 pub lambda_type-function_over_one-requires-clause-entered_in : goal.lambda_type-function_over_one-requires-clause-entered_in
 lambda_type-function_over_one-requires-clause-entered_in t c =
@@ -57,7 +57,7 @@ lambda_type-returns-clause-view t c =
     let b = nbinder_of c.args.binder.now in
     let e = nexpr_of c.args.body.now in
     let u = shown c.type_below.new.types (kinds_past (b ∷ []) ks) c.in-Some.id in
-    let same : context_at mid ctx ≡ context_at old ctx = context_at-grows old mid ctx c.in_ok-entered.ensures.grows.nodes c.requires.context in
+    let same : context_at mid ctx ≡ context_at old ctx = context_at-grows old mid ctx c.in_ok-entered.ensures.grows.nodes c.requires.valid in
     let found : Some u ≡ type_read_off ms (with_binder b (context_at mid ctx)) e = search rules in
     lambda-some ms (context_at old ctx) (context_at mid ctx) same b e u (shown c.function_over_one.new.types ks c.in_ok-whole-in-Some.whole) found c.in_ok-whole-in-Some.ensures.view
 
@@ -68,7 +68,7 @@ let_type-type_behind_binds-requires t c =
     let here = sym c.as_slice.ensures in (
       omega arith,
       (
-        IsReadable-grows c.args.types.now c.types_of_binds.new.types c.args.context.now c.in_ok-ids.ensures.grows c.requires,
+        stays c.args.types.now c.types_of_binds.new.types c.args.context.now c.in_ok-ids.ensures.grows c.requires,
         (
           subst (λ ids. AreTypesAt mid ks ids) here c.in_ok-ids.ensures.valid,
           subst (λ ids. shown_all_at mid ks ids ≡ bind_types (nbinds_of c.args.binds.now)) here c.in_ok-ids.ensures.all,
@@ -81,13 +81,13 @@ let_type-returns-clause-view t c =
     let ctx = c.args.context.now in
     let old = nodes_of c.args.types.now in
     let mid = nodes_of c.types_of_binds.new.types in
-    let same : context_at mid ctx ≡ context_at old ctx = context_at-grows old mid ctx c.in_ok-ids.ensures.grows.nodes c.requires.context in
+    let same : context_at mid ctx ≡ context_at old ctx = context_at-grows old mid ctx c.in_ok-ids.ensures.grows.nodes c.requires.valid in
     reads-as (λ (id : TypeId). shown c.type_behind_binds.new.types (scope_in ctx.scope) id) c.type_behind_binds.result _ _
     (sym (let-is (modules_of_context ctx) (context_at old ctx) (context_at mid ctx) same (nbinds_of c.args.binds.now) (nexpr_of c.args.body.now))) c.type_behind_binds.ensures.view
 
-pub type_in-applied_type-requires-clause-scope : goal.type_in-applied_type-requires-clause-scope
-type_in-applied_type-requires-clause-scope t c =
+pub type_read_off-applied_type-requires-clause-scope : goal.type_read_off-applied_type-requires-clause-scope
+type_read_off-applied_type-requires-clause-scope t c =
     let old = c.args.types.now in
-    let new = c.type_in.new.types in
+    let new = c.type_read_off.new.types in
     let grows : Grows old new = search rules in
-    scope_grows (nodes_of old) (nodes_of new) c.args.context.now.scope.kinds.now grows.nodes c.requires.context.scope
+    scope_grows (nodes_of old) (nodes_of new) c.args.context.now.scope.kinds.now grows.nodes c.requires.valid.scope

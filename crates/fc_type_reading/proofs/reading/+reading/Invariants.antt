@@ -5,8 +5,8 @@ use Rattle.fc_type_reading.proofs.reading.+reading.Given as goal
 
 -- the depth of what is read, where a function that is given the body stands above those that it calls
 
-abbrev pub decreases-type_in : goal.decreases-type_in
-decreases-type_in l = 10 * size-Expr ℕ Ref l.e.now
+abbrev pub decreases-type_read_off : goal.decreases-type_read_off
+decreases-type_read_off l = 10 * size-Expr ℕ Ref l.e.now
 
 abbrev pub decreases-type_below : goal.decreases-type_below
 decreases-type_below l = 10 * size-Expr ℕ Ref l.body.now + 1
