@@ -1,5 +1,6 @@
 -- What the parts of a judgement come to.
-use Rattle.std.proofs.Common.{◌≡◌, ◌≤◌, ℕ, List, None, Some, Option, Result, Ok, Err, IfOk, IfErr, IfSome, length, reverse, slice_get, sym, subst, refl}
+use Rattle.std.proofs.Common.{◌≡◌, ◌≤◌, ◌<◌, ◌∙◌, ap, get_or, map, option_map, ℕ, List, None, Some, Option, Result, Ok, Err, IfOk, IfErr, IfSome, length, reverse, slice_get, sym, subst, refl}
+use Rattle.std.proofs.lemmas.Option.{slice_get-map, slice_get_read}
 use Rattle.fc_files.specs.Outside.{FileMap}
 use Rattle.fc_syntax.specs.Limits.{standard_limits}
 use Rattle.fc_syntax.specs.Tree.{Word, Module}
@@ -15,8 +16,8 @@ use Rattle.fc_model.specs.Says.{fault_of}
 use Rattle.fc_model.specs.declared.flaw.Flaw.{Flaw}
 use Rattle.fc_plan.specs.Refusing.{Tells}
 use Rattle.fc_load.specs.Loading.{AllReadTo, nothing_read}
-use Rattle.fc_build.specs.Acceptance.{FaultOfSet, faulty, of_module as fault_of_module, too_many, unlinted, unplanned}
-use Rattle.fc_build.specs.Judging.{Judges, JudgesSet}
+use Rattle.fc_build.specs.Acceptance.{FaultOfSet, faulty, of_module as fault_of_module, of_one_too_many, of_the_set, too_many, unlinted, unplanned}
+use Rattle.fc_build.specs.Judging.{IsOfFiles, Judges, JudgesSet}
 use Rattle.fc_build.specs.declared.judge.Judged.{Judged}
 use Rattle.fc_build.specs.declared.judge.Judged.TheVariants as judged
 
@@ -54,9 +55,28 @@ pub judged_all : (held : Option FileMap) (files : List (List ℕ)) (ms : List Mo
 judged_all None files ms j few read judges = tt
 judged_all (Some m) files ms j few read judges = judged_files files m ms j few read judges
 
+-- the name of a number among those of files
+pub named_at : {X : Type 0} (now : X → List ℕ) (names : List X) (i : ℕ) (x : X) → i < length names → x ≡ get_or names i x → slice_get (map now names) i ≡ Some (now x)
+named_at now names i x below is = slice_get-map now names i ∙ ap (option_map now) (slice_get_read names (length names) i x refl below is)
+
 -- a file too many, and what is answered then
 pub too_many_as : (held : Option FileMap) (files : List (List ℕ)) (name : List ℕ) (r : Result Fault Memory) (j : Judged) → slice_get files standard_limits.modules ≡ Some name
     → IfOk r (λ f. f ≡ of_file kind.TooManyModules name place.Nowhere) → IfOk r (λ f. j ≡ judged.Refused f) → IfErr r (λ x. j ≡ judged.Memory) → IfSome held (λ m. Judges files m j)
 too_many_as None files name r j at is told untold = tt
 too_many_as (Some m) files name (Ok f) j at is told untold = subst (Judges files m) (sym told) (too_many name at is)
 too_many_as (Some m) files name (Err x) j at is told untold = subst (Judges files m) (sym untold) tt
+
+-- WHATEVER FILES HOLD
+
+-- what is answered of modules, of which there are as many as files
+pub judged_of : (files : List (List ℕ)) (ms : List Module) (j : Judged) → length files ≤ standard_limits.modules → length ms ≡ length files → JudgesSet ms j → IsOfFiles files j
+judged_of files ms (judged.Accepted s) few as_many judges = record { few = few; as_many = ap length judges.0 ∙ as_many; planned = subst (λ ns. plan_fault ns ≡ None) (sym judges.0) judges.1 }
+judged_of files ms (judged.Refused f) few as_many judges = of_the_set ms few as_many judges
+judged_of files ms (judged.ReadFault name) few as_many judges = absurd judges
+judged_of files ms judged.Memory few as_many judges = tt
+
+-- a file too many
+pub too_many_of : (files : List (List ℕ)) (name : List ℕ) (r : Result Fault Memory) (j : Judged) → slice_get files standard_limits.modules ≡ Some name
+    → IfOk r (λ f. f ≡ of_file kind.TooManyModules name place.Nowhere) → IfOk r (λ f. j ≡ judged.Refused f) → IfErr r (λ x. j ≡ judged.Memory) → IsOfFiles files j
+too_many_of files name (Ok f) j at is told untold = subst (IsOfFiles files) (sym told) (of_one_too_many name at is)
+too_many_of files name (Err x) j at is told untold = subst (IsOfFiles files) (sym untold) tt

@@ -3,6 +3,7 @@ pub mod InterfacesWritten
 pub mod JudgeLemmas
 pub mod LineLemmas
 pub mod MeaningLemmas
+pub mod OneAnswer
 pub mod Ordered
 pub mod Products
 pub mod RunLemmas

@@ -24,21 +24,11 @@ use Rattle.fc_build.specs.declared.deliver.Delivery.{Delivery}
 use Rattle.fc_build.specs.declared.deliver.Delivery.TheVariants as delivery
 use Rattle.fc_build.specs.declared.prepare.Stop.{Stop}
 use Rattle.fc_build.specs.declared.prepare.Stop.TheVariants as stop
+use Rattle.fc_build.proofs.OneAnswer.{exclusive}
 use Rattle.fc_build.proofs.MeaningLemmas.{faithful, keeps_meaning}
 use Rattle.fc_build.proofs.Ordered.{built_names_differ, order_keeps}
 
 -- A SET WITH A FAULT IS NOT ACCEPTED
-
-not_in_set : (ms : List Module) (f : Fault) → FaultOfSet ms f → plan_fault ms ≡ None → SetLints (build_order ms) → ⊥
-not_in_set ms f (unplanned p is at) none lints = let clash : _ ≡ _ = sym none ∙ is in cc
-not_in_set ms f (unlinted m k def path none' fails is) none lints = let clash : _ ≡ _ = sym lints ∙ fails in cc
-
-exclusive : (files : List (List ℕ)) (m : FileMap) (f : Fault) (ms : List Module) → FirstFault files m f → Accepted files m ms → ⊥
-exclusive files m f ms (too_many file at is) accepted = omega (arith, slice_get_within files standard_limits.modules file at, accepted.few)
-exclusive files m f ms (unread few fault) accepted = no_fault_of_read accepted.read fault
-exclusive files m f ms (faulty ns few read fault) accepted =
-    let same : ns ≡ ms = one_reading read accepted.read in
-    not_in_set ns f fault (subst (λ k. plan_fault k ≡ None) (sym same) accepted.planned) (subst (λ k. SetLints (build_order k)) (sym same) accepted.lints)
 
 -- the words ask for one thing at most
 same_some : (a b : Asked) → Some a ≡ Some b → a ≡ b
@@ -56,7 +46,7 @@ no_fault : (words : List (List ℕ)) (held : Option FileMap) (r : Asked) (set : 
 no_fault words None r set P input a asks = tt
 no_fault words (Some m) r set P input a asks = λ f fault.
     let same : r ≡ a = asked_one (asked words) r a input.asks asks in
-    absurd (exclusive (files_in a) m f set fault (subst (λ (x : Asked). Accepted (files_in x) m set) same input.accepted))
+    absurd (exclusive (files_in a) m set f (subst (λ (x : Asked). Accepted (files_in x) m set) same input.accepted) fault)
 
 -- WHERE NOTHING IS WRITTEN
 
@@ -66,7 +56,7 @@ pub stop_complete : (words : List (List ℕ)) (held : Option FileMap) (reads rea
 stop_complete words None reads reads' s status is why a asks stays = tt
 stop_complete words (Some m) reads reads' (stop.Refused line) status is why a asks stays = λ n accepted.
     let same : why.first.request ≡ a = asked_one (asked words) why.first.request a why.first.asks asks in
-    absurd (exclusive (files_in a) m why.fault n (subst (λ (x : Asked). FirstFault (files_in x) m why.fault) same why.first.first) accepted)
+    absurd (exclusive (files_in a) m n why.fault accepted (subst (λ (x : Asked). FirstFault (files_in x) m why.fault) same why.first.first))
 stop_complete words (Some m) reads reads' stop.Usage status is why a asks stays = λ n accepted. absurd (asked_none (asked words) a why asks)
 stop_complete words (Some m) reads reads' (stop.ReadFault name) status is why a asks stays = λ n accepted. absurd (stays why.rose)
 stop_complete words (Some m) reads reads' stop.Memory status is why a asks stays = λ n accepted. inr is

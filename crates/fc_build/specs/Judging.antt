@@ -1,15 +1,16 @@
 -- What the judge of a list of files answers.
-use Rattle.std.specs.Prelude.{◌≡◌, ⊤, ℕ, List, map, slice_get, Some, None}
+use Rattle.std.specs.Prelude.{◌≡◌, ◌≤◌, ⊤, ℕ, List, length, map, slice_get, Some, None}
 use Rattle.std.specs.List.{All}
 use Rattle.fc_files.specs.Outside.{FileMap}
+use Rattle.fc_syntax.specs.Limits.{standard_limits}
 use Rattle.fc_syntax.specs.Tree.{Module}
 use Rattle.fc_syntax.specs.View.{module_of}
 use Rattle.fc_model.specs.Formed.{IsFormed}
 use Rattle.fc_model.specs.Linting.{SetLints, nameless_forms}
 use Rattle.fc_model.specs.NamelessView.{nmodules_of}
 use Rattle.fc_model.specs.Planning.{build_order, plan_fault}
-use Rattle.fc_load.specs.Answers.{IsReached}
-use Rattle.fc_build.specs.Acceptance.{Accepted, FaultOfSet, FirstFault}
+use Rattle.fc_load.specs.Answers.{IsAmong, IsReached}
+use Rattle.fc_build.specs.Acceptance.{Accepted, FaultOfSet, FirstFault, IsFaultOfFiles, IsSetOf}
 use Rattle.fc_build.specs.declared.judge.Judged.{Judged}
 use Rattle.fc_build.specs.declared.judge.Judged.TheVariants as judged
 use Rattle.fc_build.specs.declared.judge.Set.{Set}
@@ -31,6 +32,13 @@ Judges files held (judged.Accepted s) = Accepted files held (modules_in s)
 Judges files held (judged.Refused f) = FirstFault files held f
 Judges files held (judged.ReadFault name) = IsReached held files name.now
 Judges files held judged.Memory = ⊤
+
+-- whatever the names hold
+abbrev pub IsOfFiles : List (List ℕ) → Judged → Type 0
+IsOfFiles files (judged.Accepted s) = IsSetOf files (modules_in s)
+IsOfFiles files (judged.Refused f) = IsFaultOfFiles files f
+IsOfFiles files (judged.ReadFault name) = (length files ≤ standard_limits.modules) × IsAmong files name.now
+IsOfFiles files judged.Memory = ⊤
 
 -- the modules of a set have words of their forms, and lint in the order in which they are built
 pub record IsReady (ms : List Module) : Type 0 where

@@ -7,7 +7,7 @@ ghost use Rattle.fc_syntax.specs.View.{module_of};
 ghost use Rattle.fc_model.specs.Formed.{IsFormed};
 ghost use Rattle.fc_model.specs.Planning.{build_order, of_file as fault_of_file, plan_fault};
 ghost use Rattle.fc_build.specs.Acceptance.{of_module as fault_of_module};
-ghost use Rattle.fc_build.specs.Judging.{IsReadFault, IsReadyAnswer, Judges, JudgesSet};
+ghost use Rattle.fc_build.specs.Judging.{IsOfFiles, IsReadFault, IsReadyAnswer, Judges, JudgesSet};
 
 use fc_files::Files;
 use fc_lint_set::{SetFlawed, lint_set};
@@ -138,6 +138,7 @@ fn judge_files<'a, F: Files>(alloc: Global, files: &mut F, names: &[&'a str]) ->
     ensures reads { F.read_faults files.old ≤ F.read_faults files.new }
     ensures cause { IsReadFault result → Rose (F.read_faults files.old) (F.read_faults files.new) }
     ensures answer { IfSome (F.held files.old) (λ m. Judges (map (λ s. s.now) names.now) m result) }
+    ensures of_files { IsOfFiles (map (λ s. s.now) names.now) result }
     ensures ready { IsReadyAnswer result }
 {
     match load(alloc, files, names) {
@@ -155,6 +156,7 @@ pub(crate) fn judge<'a, F: Files>(alloc: Global, files: &mut F, names: &[&'a str
     ensures reads { F.read_faults files.old ≤ F.read_faults files.new }
     ensures cause { IsReadFault result → Rose (F.read_faults files.old) (F.read_faults files.new) }
     ensures answer { IfSome (F.held files.old) (λ m. Judges (map (λ s. s.now) names.now) m result) }
+    ensures of_files { IsOfFiles (map (λ s. s.now) names.now) result }
     ensures ready { IsReadyAnswer result }
 {
     match names.get(Limits::standard().modules as usize) {

@@ -51,7 +51,7 @@ pub fn run<F: Files, O: Sink, E: Sink>(
     // 4: only where the count of failed writes, or of failed puts, rose; a prefix of the work stands
     ensures write_fault { result ≡ 4 → IsWriteFault (texts words.now) (F.held files.old) (F.held files.new) (F.write_faults files.old) (F.write_faults files.new) (O.taken out.old) (O.taken out.new) (O.faults out.old) (O.faults out.new) (E.taken err.old) (E.taken err.new) (E.faults err.old) (E.faults err.new) }
 
-    // 5: free before the last file is written; a prefix of the work stands
+    // 5: free before the last line is put; a prefix of the work stands
     ensures memory { result ≡ 5 → IsMemoryEnd (texts words.now) (F.held files.old) (F.held files.new) (O.taken out.old) (O.taken out.new) (E.taken err.old) (E.taken err.new) (E.faults err.old) (E.faults err.new) }
 
     // on 1, 2 and 3 no file was written and nothing was put

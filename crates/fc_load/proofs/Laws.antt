@@ -1,10 +1,14 @@
--- That files hold at most one list of modules, and none where there is a first fault of reading.
-use Rattle.std.proofs.Common.{◌≡◌, ◌∙◌, ℕ, List, ◌∷◌, refl, sym, ap, subst, arith}
+-- That files hold at most one list of modules, and none where there is a first fault of reading, of which there is one at most.
+use Rattle.std.proofs.Common.{◌≡◌, ◌∙◌, ℕ, List, ◌∷◌, Option, Some, None, refl, sym, ap, subst, arith}
+use Rattle.fc_syntax.specs.Tokens.{ByteFault}
 use Rattle.fc_syntax.specs.Tree.{Module}
 use Rattle.fc_syntax.specs.declared.fault.Fault.{Fault}
+use Rattle.fc_syntax.specs.declared.fault.Place.TheVariants as place
 use Rattle.fc_model.specs.FileForms.{ModuleFile}
+use Rattle.fc_model.specs.Planning.{of_file}
 use Rattle.fc_model.specs.Texts.{Spells}
 use Rattle.fc_reader.proofs.Laws.{none_spelled, one_spelled}
+use Rattle.fc_reader.proofs.OneFault.{one_first_fault}
 use Rattle.fc_load.specs.Loading.{Amount, AllReadTo, FaultOfBytes, FaultOfEntry, FaultOfReading, FileReadsTo, Holding, in_first, in_later, no_files, one_file, room_for_size, too_long, unread, with_file}
 
 -- a file holds the same bytes each time
@@ -38,3 +42,24 @@ pub no_fault_of_read : {held : Holding} {read : Amount} {files : List (List ℕ)
 no_fault_of_read no_files none = elim none [ ]
 no_fault_of_read {held = held} {f = f} (one_file {read = read} {file = file} {bytes = bytes} {m = m} p ps) (in_first e) = no_fault_of_bytes held read file bytes m f p (subst (λ entry. FaultOfEntry read file entry f) p.holds e)
 no_fault_of_read {held = held} {f = f} (one_file {files = files} p ps) (in_later q more) = no_fault_of_read ps (subst (λ r. FaultOfReading held f r files) (same_rest p q) more)
+
+-- bytes have one fault at most
+one_fault_of_bytes : (read : Amount) (file bytes : List ℕ) (f g : Fault) → FaultOfBytes read file bytes f → FaultOfBytes read file bytes g → f ≡ g
+one_fault_of_bytes read file bytes f g (too_long more is) (too_long more' is') = is ∙ sym is'
+one_fault_of_bytes read file bytes f g (too_long more is) (unread e short first is') = absurd (omega arith)
+one_fault_of_bytes read file bytes f g (unread e short first is) (too_long more is') = absurd (omega arith)
+one_fault_of_bytes read file bytes f g (unread e short first is) (unread d short' first' is') =
+    is ∙ ap (λ (x : ByteFault). of_file x.kind file (place.Byte x.at)) (one_first_fault ModuleFile (room_for_size read) bytes e d first first') ∙ sym is'
+
+one_fault_of_entry : (read : Amount) (file : List ℕ) (entry : Option (List ℕ)) (f g : Fault) → FaultOfEntry read file entry f → FaultOfEntry read file entry g → f ≡ g
+one_fault_of_entry read file None f g is is' = is ∙ sym is'
+one_fault_of_entry read file (Some bytes) f g e e' = one_fault_of_bytes read file bytes f g e e'
+
+-- so has reading
+pub one_fault_of_read : {held : Holding} {f g : Fault} {read : Amount} {files : List (List ℕ)} → FaultOfReading held f read files → FaultOfReading held g read files → f ≡ g
+one_fault_of_read {held = held} {f = f} {g = g} (in_first {read = read} {file = file} e) (in_first e') = one_fault_of_entry read file (held file) f g e e'
+one_fault_of_read {held = held} {f = f} (in_first {read = read} {file = file} e) (in_later {bytes = bytes} {m = m} q more) =
+    absurd (no_fault_of_bytes held read file bytes m f q (subst (λ entry. FaultOfEntry read file entry f) q.holds e))
+one_fault_of_read {held = held} {g = g} (in_later {read = read} {file = file} {bytes = bytes} {m = m} q more) (in_first e) =
+    absurd (no_fault_of_bytes held read file bytes m g q (subst (λ entry. FaultOfEntry read file entry g) q.holds e))
+one_fault_of_read {held = held} {g = g} (in_later {files = files} p more) (in_later q more') = one_fault_of_read more (subst (λ r. FaultOfReading held g r files) (same_rest p q) more')

@@ -1,12 +1,13 @@
 -- What the next file of a set comes to, behind those so far.
-use Rattle.std.proofs.Common.{◌≡◌, ◌≤◌, ◌<◌, ◌∙◌, ◌+◌, ℕ, List, [], ◌∷◌, ◌++◌, length, map, take, drop, get_or, suc, Option, Some, None, IfSome, sym, ap, subst}
+use Rattle.std.proofs.Common.{◌≡◌, ◌≤◌, ◌<◌, ◌∙◌, ◌+◌, ℕ, List, [], ◌∷◌, ◌++◌, length, map, take, drop, get_or, suc, Option, Some, None, IfSome, option_map, sym, ap, subst}
 use Rattle.std.proofs.Math.ListN.{get_or-map}
 use Rattle.std.proofs.Math.Seq.{split_at}
 use Rattle.std.proofs.lemmas.List.{length-map, take_all, take_more}
+use Rattle.std.proofs.lemmas.Option.{slice_get-get_or, slice_get-map}
 use Rattle.fc_files.specs.Outside.{FileMap}
 use Rattle.fc_syntax.specs.Tree.{Module}
 use Rattle.fc_syntax.specs.declared.fault.Fault.{Fault}
-use Rattle.fc_load.specs.Answers.{IsReached}
+use Rattle.fc_load.specs.Answers.{IsAmong, IsReached}
 use Rattle.fc_load.specs.Loading.{Amount, AllReadTo, FaultOfEntry, FaultOfReading, nothing_read}
 use Rattle.fc_load.specs.OneFile.{GoesOn}
 use Rattle.fc_load.proofs.SoFar.{IsSoFar, all_so_far, fault_next, one_so_far}
@@ -22,6 +23,10 @@ more_names : {X : Type 0} (now : X → List ℕ) (names : List X) (i : ℕ) (d :
     → take (i + 1) (map now names) ≡ take i (map now names) ++ now (get_or names i d) ∷ []
 more_names now names i d below =
     take_more (map now names) i (now d) (rw length-map below) ∙ ap (λ n. take i (map now names) ++ n ∷ []) (get_or-map now names i d)
+
+-- the one at a place is one of them
+pub among_at : {X : Type 0} (now : X → List ℕ) (names : List X) (i : ℕ) (d : X) → i < length names → IsAmong (map now names) (now (get_or names i d))
+among_at now names i d below = (i, slice_get-map now names i ∙ ap (option_map now) (slice_get-get_or names i d below))
 
 -- the next file has a fault
 pub refused_next : {X : Type 0} (now : X → List ℕ) (names : List X) (i : ℕ) (d : X) (held next : Option FileMap) (read : Amount) (done : List Module) (f : Fault) → i < length names → next ≡ held

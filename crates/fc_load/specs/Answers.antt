@@ -1,5 +1,5 @@
 -- What the reading of files answers.
-use Rattle.std.specs.Prelude.{◌≡◌, ⊤, ℕ, List, ◌∷◌, ◌++◌, map}
+use Rattle.std.specs.Prelude.{◌≡◌, ⊤, ℕ, List, ◌∷◌, ◌++◌, Some, length, map, slice_get}
 use Rattle.std.specs.List.{All}
 use Rattle.fc_files.specs.Outside.{FileMap}
 use Rattle.fc_syntax.specs.Tree.{Module}
@@ -30,3 +30,14 @@ AreFormed (loaded.Modules ms) = All IsFormed (map module_of ms.items)
 AreFormed (loaded.Refused f) = ⊤
 AreFormed (loaded.ReadFault name) = ⊤
 AreFormed loaded.Memory = ⊤
+
+-- this is one of the files
+abbrev pub IsAmong : List (List ℕ) → List ℕ → Type 0
+IsAmong files name = (i : ℕ) × (slice_get files i ≡ Some name)
+
+-- whatever the names hold: there is a module for each, or one of them has the fault, or its read failed
+abbrev pub IsOfFiles : List (List ℕ) → Loaded → Type 0
+IsOfFiles files (loaded.Modules ms) = length (map module_of ms.items) ≡ length files
+IsOfFiles files (loaded.Refused f) = IsAmong files f.«module»
+IsOfFiles files (loaded.ReadFault name) = IsAmong files name.now
+IsOfFiles files loaded.Memory = ⊤

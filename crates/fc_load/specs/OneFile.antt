@@ -37,3 +37,10 @@ IsFormedOne (one.Module m after) = IsFormed (module_of m)
 IsFormedOne (one.Refused f) = ⊤
 IsFormedOne one.ReadFault = ⊤
 IsFormedOne one.Memory = ⊤
+
+-- a fault has the name of the file, whatever that holds
+abbrev pub IsOfFile : List ℕ → LoadedFile → Type 0
+IsOfFile file (one.Module m after) = ⊤
+IsOfFile file (one.Refused f) = f.«module» ≡ file
+IsOfFile file one.ReadFault = ⊤
+IsOfFile file one.Memory = ⊤

@@ -1,7 +1,7 @@
 //! The files of a set, one after the other.
 ghost use Rattle.std.specs.Prelude.{◌≡◌, ◌≤◌, IfSome, map};
 ghost use Rattle.fc_files.specs.Outside.{Rose};
-ghost use Rattle.fc_load.specs.Answers.{AreFormed, Loads};
+ghost use Rattle.fc_load.specs.Answers.{AreFormed, IsOfFiles, Loads};
 
 use crate::amount::Read;
 use crate::one_file::{LoadedFile, load_one};
@@ -32,6 +32,7 @@ pub fn load<'a, F: Files>(alloc: Global, files: &mut F, names: &[&'a str]) -> Lo
     ensures reads { F.read_faults files.old ≤ F.read_faults files.new }
     ensures cause { (name : _) → result ≡ Loaded.ReadFault name → Rose (F.read_faults files.old) (F.read_faults files.new) }
     ensures answer { IfSome (F.held files.old) (λ m. Loads m (map (λ s. s.now) names.now) result) }
+    ensures named { IsOfFiles (map (λ s. s.now) names.now) result }
     ensures formed { AreFormed result }
 {
     let mut modules = Vec::new(alloc);

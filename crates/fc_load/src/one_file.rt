@@ -4,7 +4,7 @@ ghost use Rattle.fc_files.specs.Outside.{Rose};
 ghost use Rattle.fc_model.specs.Planning.{of_file as fault_of_file};
 ghost use Rattle.fc_load.specs.Amounts.{amount_of};
 ghost use Rattle.fc_load.specs.Loading.{room_for_bytes};
-ghost use Rattle.fc_load.specs.OneFile.{IsFormedOne, LoadsBytes, LoadsOne};
+ghost use Rattle.fc_load.specs.OneFile.{IsFormedOne, IsOfFile, LoadsBytes, LoadsOne};
 
 use crate::amount::Read;
 use fc_files::{Files, ReadAnswer};
@@ -53,6 +53,7 @@ fn refused(fault: Result<Fault, Memory>) -> LoadedFile
 fn load_bytes(alloc: Global, file: &str, bytes: Vec<u8>, read: Read) -> LoadedFile
     requires { length bytes.items ≤ room_for_bytes (amount_of read) }
     ensures answer { LoadsBytes (amount_of read) file.now bytes.items result }
+    ensures named { IsOfFile file.now result }
     ensures formed { IsFormedOne result }
 {
     let count = bytes.len() as u32;
@@ -75,6 +76,7 @@ pub(crate) fn load_one<F: Files>(alloc: Global, files: &mut F, file: &str, read:
     ensures reads { F.read_faults files.old ≤ F.read_faults files.new }
     ensures cause { result ≡ LoadedFile.ReadFault → Rose (F.read_faults files.old) (F.read_faults files.new) }
     ensures answer { IfSome (F.held files.old) (λ m. LoadsOne m (amount_of read) file.now result) }
+    ensures named { IsOfFile file.now result }
     ensures formed { IsFormedOne result }
 {
     let most = read.bytes_left();

@@ -1,4 +1,4 @@
-use Rattle.std.proofs.Common.{◌≡◌, ◌≤◌, IfSome, map, take}
+use Rattle.std.proofs.Common.{◌≡◌, ◌≤◌, IfSome, length, map, take}
 use Rattle.std.specs.List.{All}
 use Rattle.fc_syntax.specs.View.{module_of}
 use Rattle.fc_model.specs.Formed.{IsFormed}
@@ -12,5 +12,6 @@ invariant-loop-name g l = record {
   writes : g.F.Files.write_faults l.files ≡ g.F.Files.write_faults l.initial.files;
   reads : g.F.Files.read_faults l.initial.files ≤ g.F.Files.read_faults l.files;
   so_far : IfSome (g.F.Files.held l.initial.files) (λ m. IsSoFar m (amount_of l.read) (take l.name-index (map (λ s. s.now) l.names)) (map module_of l.modules.items));
+  count : length (map module_of l.modules.items) ≡ l.name-index;
   formed : All IsFormed (map module_of l.modules.items);
 }

@@ -1,0 +1,9 @@
+//! Lint of a set by rules, and the law that a set lints exactly where they hold.
+#![tactic(auto)]
+
+ghost use Rattle.fc_set_rules.specs.SetRules.{SetLintIsByCases};
+
+/// A set of modules, in the order in which they are built, has no fault of Lint exactly where each of its modules holds in it by the rules.
+pub fn set_rules_are_lint()
+    ensures by_cases { SetLintIsByCases }
+{}
