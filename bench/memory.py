@@ -44,9 +44,9 @@ def build(shim, example, at):
 
 
 def is_prefix(example, files, whole):
-    """Nothing, or the core alone, whole or cut, or the whole core and the interface."""
-    core, interface = example + ".opt.fc", example + ".fci"
-    return not files or set(files) == {core} or (set(files) == {core, interface} and files[core] == whole[core])
+    """Some first files, all but the last of them whole."""
+    names = [example + ".opt.fc", example + ".fci", example + ".why"][: len(files)]
+    return set(files) == set(names) and all(files[name] == whole[name] for name in names[:-1])
 
 
 def try_each(shim, example):

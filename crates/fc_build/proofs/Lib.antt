@@ -1,9 +1,10 @@
 pub mod Delivered
+pub mod Faithful
 pub mod InterfacesWritten
 pub mod JudgeLemmas
 pub mod LineLemmas
-pub mod MeaningLemmas
 pub mod OneAnswer
 pub mod Ordered
 pub mod Products
 pub mod RunLemmas
+pub mod Standing

@@ -1,32 +1,26 @@
 -- What the parts of the work come to in the answers of the top call.
 use Rattle.std.proofs.Common.{◌≡◌, ◌⊎◌, ◌∙◌, ◌∷◌, ℕ, List, [], map, Option, Some, None, IfSome, inr, refl, sym, ap, subst, arith}
-use Rattle.std.proofs.lemmas.Option.{slice_get_within}
 use Rattle.fc_files.specs.Outside.{FileMap, Rose, Told}
-use Rattle.fc_syntax.specs.Limits.{standard_limits}
 use Rattle.fc_syntax.specs.Tree.{Module}
 use Rattle.fc_syntax.specs.declared.fault.Fault.{Fault}
-use Rattle.fc_model.specs.Formed.{IsFormed}
-use Rattle.fc_model.specs.Headers.{set_written}
-use Rattle.fc_model.specs.Linting.{SetLints}
-use Rattle.fc_model.specs.Planning.{build_order, plan_fault}
-use Rattle.fc_load.proofs.Laws.{no_fault_of_read, one_reading}
+use Rattle.fc_model.specs.Headers.{name_of}
+use Rattle.fc_model.specs.Planning.{build_order}
 use Rattle.fc_words.specs.Asking.{Asked, Order, Building, Linting, asked}
 use Rattle.fc_words.specs.declared.Tuning.{Tuning}
-use Rattle.fc_build.specs.Acceptance.{Accepted, FaultOfSet, FirstFault, faulty, too_many, unlinted, unplanned, unread}
-use Rattle.fc_build.specs.Judging.{IsReady}
-use Rattle.fc_build.specs.Meaning.{KeepsMeaning}
+use Rattle.fc_build.specs.Acceptance.{Accepted, FirstFault}
+use Rattle.fc_build.specs.Building.{AreFaithful, AreSteps, IsBuild, Leaves, Stand}
 use Rattle.fc_build.specs.Delivering.{Delivers, IsSameDevice}
 use Rattle.fc_build.specs.Preparing.{IsAccepted, IsProduct, Stops, files_in}
-use Rattle.fc_build.specs.Product.{AreSteps, Step, all_files, core_name, linted_step, put_all}
+use Rattle.fc_build.specs.Product.{Step, all_files, linted_step, put_all}
 use Rattle.fc_build.specs.Ending.{TellsDelivery, delivery_status, stop_status}
-use Rattle.fc_build.specs.Run.{AreFaithful, IsDone, IsMemoryEnd, IsWriteFault, Keeps, at_a_file, at_file, at_out}
+use Rattle.fc_build.specs.Run.{IsDone, IsMemoryEnd, IsWriteFault, at_a_file, at_file, at_out}
 use Rattle.fc_build.specs.declared.deliver.Delivery.{Delivery}
 use Rattle.fc_build.specs.declared.deliver.Delivery.TheVariants as delivery
 use Rattle.fc_build.specs.declared.prepare.Stop.{Stop}
 use Rattle.fc_build.specs.declared.prepare.Stop.TheVariants as stop
 use Rattle.fc_build.proofs.OneAnswer.{exclusive}
-use Rattle.fc_build.proofs.MeaningLemmas.{faithful, keeps_meaning}
-use Rattle.fc_build.proofs.Ordered.{built_names_differ, order_keeps}
+use Rattle.fc_build.proofs.Ordered.{AreDistinctWords, built_names_differ}
+use Rattle.fc_build.proofs.Standing.{stand}
 
 -- A SET WITH A FAULT IS NOT ACCEPTED
 
@@ -63,14 +57,17 @@ stop_complete words (Some m) reads reads' stop.Memory status is why a asks stays
 
 -- WHERE SOMETHING IS WRITTEN
 
--- what stands at the names of the cores means what was read
-means : (tuning : Tuning) (prefix : List ℕ) (set : List Module) (steps : List Step) (held held' : Option FileMap) → IsReady set → AreFaithful (build_order set)
-    → AreSteps (Building tuning prefix) (build_order set) steps → Told held held' (λ m m'. m' ≡ put_all (all_files steps) m)
-    → Told held held' (λ m m'. KeepsMeaning (build_order set) (map (λ w. m' (core_name prefix w)) (set_written (build_order set))))
-means tuning prefix set steps None held' ready is built told = tt
-means tuning prefix set steps (Some m) None ready is built told = told
-means tuning prefix set steps (Some m) (Some m') ready is built told =
-    keeps_meaning tuning prefix (build_order set) steps ready.lints is (built_names_differ set) built m m' told
+-- the names of what is written differ, as those of what was read do
+written_differ : (set written : List Module) → AreFaithful (build_order set) written → AreDistinctWords (map name_of written)
+written_differ set written faithful = subst AreDistinctWords (sym faithful.names) (built_names_differ set)
+
+-- the files of a build stand
+build_stands : (tuning : Tuning) (prefix : List ℕ) (set : List Module) (steps : List Step) (build : IsBuild tuning prefix (build_order set) steps) (held held' : Option FileMap)
+    → Told held held' (λ m m'. m' ≡ put_all (all_files steps) m) → Told held held' (λ m m'. Stand tuning prefix build.written build.logs m')
+build_stands tuning prefix set steps build None held' told = tt
+build_stands tuning prefix set steps build (Some m) None told = told
+build_stands tuning prefix set steps build (Some m) (Some m') told =
+    stand tuning prefix build.written build.logs steps build.are (written_differ set build.written build.faithful) m m' told
 
 -- Lint has no files to write
 lint_files : (ms : List Module) → all_files (map linted_step ms) ≡ []
@@ -79,13 +76,12 @@ lint_files (m ∷ ms) = lint_files ms
 
 no_files : (order : Order) (ms : List Module) (steps : List Step) → order ≡ Linting → AreSteps order ms steps → all_files steps ≡ []
 no_files (Building tuning prefix) ms steps e are = absurd cc
-no_files Linting ms steps e are = ap all_files are ∙ lint_files (set_written ms)
+no_files Linting ms steps e are = ap all_files are ∙ lint_files ms
 
-keeps : (order : Order) (set : List Module) (steps : List Step) (held held' : Option FileMap) → IsReady set → AreSteps order (build_order set) steps
-    → Told held held' (λ m m'. m' ≡ put_all (all_files steps) m) → (all_files steps ≡ [] → held' ≡ held) → Keeps order (build_order set) held held'
-keeps (Building tuning prefix) set steps held held' ready are told same =
-    let is = faithful (build_order set) (order_keeps IsFormed set ready.formed) ready.lints in (is, means tuning prefix set steps held held' ready is are told)
-keeps Linting set steps held held' ready are told same = same (no_files Linting (build_order set) steps refl are)
+leaves : (order : Order) (set : List Module) (steps : List Step) (are : AreSteps order (build_order set) steps) (held held' : Option FileMap)
+    → Told held held' (λ m m'. m' ≡ put_all (all_files steps) m) → (all_files steps ≡ [] → held' ≡ held) → Leaves order (build_order set) steps are held held'
+leaves (Building tuning prefix) set steps are held held' told same = build_stands tuning prefix set steps are held held' told
+leaves Linting set steps are held held' told same = same (no_files Linting (build_order set) steps refl are)
 
 -- a set of which there is a product has no fault
 pub product_has_no_fault : (words : List (List ℕ)) (held : Option FileMap) (steps : List Step) (P : Type 0) → IsProduct words held steps
@@ -113,7 +109,7 @@ module _ (words : List (List ℕ)) (held mid held' : Option FileMap) (steps : Li
         product = product;
         files = all.0;
         lines = all.1;
-        keeps = keeps product.request.order product.set steps held held' product.input.ready product.are all.0 (λ none. (nothing_written go none).0);
+        leaves = leaves product.request.order product.set steps product.are held held' all.0 (λ none. (nothing_written go none).0);
       }
   delivered_done (delivery.WriteFault name) is go e = absurd (omega (arith, e))
   delivered_done delivery.PutFault is go e = absurd (omega (arith, e))

@@ -1,9 +1,9 @@
 pub mod Acceptance
+pub mod Building
 pub mod Delivering
 pub mod Ending
 pub mod Judging
 pub mod Lines
-pub mod Meaning
 pub mod Preparing
 pub mod Product
 pub mod Run

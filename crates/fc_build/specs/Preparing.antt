@@ -14,7 +14,8 @@ use Rattle.fc_build.specs.declared.product.Step as rust
 use Rattle.fc_load.specs.Answers.{IsAmong, IsReached}
 use Rattle.fc_build.specs.Judging.{IsReady}
 use Rattle.fc_refusals.specs.Lines.{refusal_line}
-use Rattle.fc_build.specs.Product.{AreSteps, Step}
+use Rattle.fc_build.specs.Building.{AreSteps}
+use Rattle.fc_build.specs.Product.{Step}
 use Rattle.fc_build.specs.Delivering.{steps_in}
 
 -- the files that the words ask for

@@ -1,18 +1,17 @@
 -- What is done for each module of a set, in the order in which the modules are built: its files, and then its line on the output.
-use Rattle.std.specs.Prelude.{◌≡◌, ◌⊎◌, ◌≤◌, ⊤, ℕ, Bool, false, List, [], ◌∷◌, ◌++◌, codes, length, map, take, string_bytes}
+use Rattle.std.specs.Prelude.{◌≡◌, ◌⊎◌, ◌≤◌, ℕ, Bool, false, List, [], ◌∷◌, ◌++◌, codes, length, map, take, string_bytes}
 use Rattle.fc_files.specs.Outside.{FileMap, SameBut, put}
 use Rattle.fc_syntax.specs.Demands.{NoDemands, Sig, SigOf}
-use Rattle.fc_syntax.specs.Tree.{Decl, DDef, DWrap, Module}
+use Rattle.fc_syntax.specs.Tree.{Word, Decl, DDef, DWrap, Module}
 use Rattle.fc_model.specs.Canonical.{canonical}
 use Rattle.fc_model.specs.Grammar.{Interface}
-use Rattle.fc_model.specs.Headers.{decls_in, name_of, set_written}
+use Rattle.fc_model.specs.Headers.{decls_in, name_of}
 use Rattle.fc_model.specs.InterfaceTexts.{interface_text}
-use Rattle.fc_model.specs.Linting.{nameless_forms}
-use Rattle.fc_model.specs.Nameless.{NModule}
-use Rattle.fc_reaching.specs.Recursion.{AreRecursive}
 use Rattle.fc_iface.specs.Interfaces.{interface_of}
-use Rattle.fc_words.specs.declared.Tuning.{Tuning}
-use Rattle.fc_words.specs.Asking.{Order, Building, Linting}
+use Rattle.fc_log.specs.Shapes.{phases_of_build}
+use Rattle.fc_log.specs.Texts.{log_text}
+use Rattle.fc_log.specs.declared.log.Entry.TheVariants as entry
+use Rattle.fc_log.specs.declared.log.Log.{Log}
 use Rattle.fc_build.specs.declared.product.File.{File}
 
 -- FILES
@@ -38,6 +37,9 @@ core_name prefix m = file_name prefix m (codes ".opt.fc")
 abbrev pub interface_name : List ℕ → Module → List ℕ
 interface_name prefix m = file_name prefix m (codes ".fci")
 
+abbrev pub log_name : List ℕ → Module → List ℕ
+log_name prefix m = file_name prefix m (codes ".why")
+
 -- the canonical text of a module
 abbrev pub core_output : List ℕ → Module → Output
 core_output prefix m = record { name = core_name prefix m; text = canonical m }
@@ -57,6 +59,14 @@ interface_written grow recursive m = interface_of grow recursive m (unknown_sigs
 abbrev pub interface_output : List ℕ → Module → Interface → Output
 interface_output prefix m i = record { name = interface_name prefix m; text = interface_text i }
 
+-- the log of a module to which no step was taken: each phase of a build ends
+abbrev pub unchanged_log : Word → Log
+unchanged_log m = record { «module» = m; entries = map entry.Mark phases_of_build }
+
+-- the text of a log
+abbrev pub log_output : List ℕ → Module → Log → Output
+log_output prefix m l = record { name = log_name prefix m; text = log_text l }
+
 -- THE STEPS OF A SET
 
 -- what is done for a module
@@ -64,35 +74,16 @@ pub record Step : Type 0 where
   pub files : List Output
   pub line : List ℕ
 
--- a build writes both files of a module under the header that is written, of which this is the interface
-abbrev pub built_step : List ℕ → Module → Interface → Step
-built_step prefix m i = record {
-  files = core_output prefix m ∷ interface_output prefix m i ∷ [];
+-- a build writes the three files of a module under the header that is written, of which this is the interface and this the log
+abbrev pub built_step : List ℕ → Module → Interface → Log → Step
+built_step prefix m i l = record {
+  files = core_output prefix m ∷ interface_output prefix m i ∷ log_output prefix m l ∷ [];
   line = codes "built " ++ (name_of m ++ 10 ∷ []);
 }
 
 -- Lint writes nothing
 abbrev pub linted_step : Module → Step
 linted_step m = record { files = []; line = codes "ok " ++ (name_of m ++ 10 ∷ []) }
-
--- This is the step of a build for a module that has this nameless form: truth values say which of its declarations are definitions that reach
--- themselves, and the interface tells of the others, and of each `wrap`, what has at most so many nodes.
-pub record IsBuilt (tuning : Tuning) (prefix : List ℕ) (form : NModule) (m : Module) (s : Step) : Type 0 where
-  pub recursive : List Bool
-  pub reach : AreRecursive form recursive
-  pub is : s ≡ built_step prefix m (interface_written tuning.grow recursive m)
-
--- the steps of a build of modules, one after the other, each with its nameless form
-abbrev pub AreBuilt : Tuning → List ℕ → List NModule → List Module → List Step → Type 0
-AreBuilt tuning prefix [] [] [] = ⊤
-AreBuilt tuning prefix (form ∷ forms) (m ∷ ms) (s ∷ steps) = IsBuilt tuning prefix form m s × AreBuilt tuning prefix forms ms steps
-AreBuilt tuning prefix forms ms steps = ⊥
-
--- These are the steps that an order asks for, of modules in the order in which they are built. A header that is written changes no declaration, so which
--- reach themselves is asked of the modules as they were read.
-abbrev pub AreSteps : Order → List Module → List Step → Type 0
-AreSteps (Building tuning prefix) ms steps = AreBuilt tuning prefix (nameless_forms ms) (set_written ms) steps
-AreSteps Linting ms steps = steps ≡ map linted_step (set_written ms)
 
 -- the files of steps, one after the other, and their lines
 abbrev pub all_files : List Step → List Output

@@ -1,48 +1,22 @@
 -- What each answer of the top call says.
-use Rattle.std.specs.Prelude.{◌≡◌, ℕ, Bool, List, [], ◌∷◌, ◌++◌, map, Option}
-use Rattle.std.specs.List.{All}
+use Rattle.std.specs.Prelude.{◌≡◌, ℕ, List, [], ◌∷◌, ◌++◌, Option}
 use Rattle.fc_files.specs.Outside.{FileMap, Rose, Told}
-use Rattle.fc_syntax.specs.Tree.{Module}
 use Rattle.fc_syntax.specs.declared.fault.Fault.{Fault}
-use Rattle.fc_model.specs.Canonical.{canonical}
-use Rattle.fc_model.specs.Headers.{decls_in, exports_of, name_of, set_written}
-use Rattle.fc_model.specs.InterfaceTexts.{interface_text}
-use Rattle.fc_model.specs.Linting.{SetLints}
 use Rattle.fc_model.specs.Planning.{build_order}
-use Rattle.fc_model.specs.Texts.{Spells, SpellsInterface}
-use Rattle.fc_words.specs.Asking.{Order, Building, Linting}
 use Rattle.fc_build.specs.Lines.{Gets, memory_line, read_fault_line, write_fault_line}
 use Rattle.fc_refusals.specs.Lines.{refusal_line}
-use Rattle.fc_build.specs.Meaning.{KeepsMeaning}
+use Rattle.fc_build.specs.Building.{Leaves}
 use Rattle.fc_build.specs.Preparing.{FailsToRead, HasFault, IsProduct}
-use Rattle.fc_build.specs.Product.{IsNameAmong, Step, Stopped, StopsAt, TakesSome, WritesSome, all_files, all_lines, core_name, interface_written, put_all}
+use Rattle.fc_build.specs.Product.{IsNameAmong, Step, Stopped, StopsAt, TakesSome, WritesSome, all_files, all_lines, put_all}
 
--- the text of an interface spells the interface
-abbrev pub InterfaceSpells : ℕ → List Bool → Module → Type 0
-InterfaceSpells grow recursive m = SpellsInterface (interface_text (interface_written grow recursive m)) (interface_written grow recursive m)
-
--- The texts written spell modules that lint as a set, of the same names, with the same exports at the same types: each declaration is unchanged. And the
--- text of an interface spells the interface, whatever it tells.
-pub record AreFaithful (ms : List Module) : Type 0 where
-  pub spell : All (λ m. Spells (canonical m) m) (set_written ms)
-  pub interfaces : (grow : ℕ) (recursive : List Bool) → All (InterfaceSpells grow recursive) (set_written ms)
-  pub lint : SetLints (set_written ms)
-  pub names : map name_of (set_written ms) ≡ map name_of ms
-  pub exports : map exports_of (set_written ms) ≡ map exports_of ms
-  pub declarations : map decls_in (set_written ms) ≡ map decls_in ms
-
--- what a build keeps, of modules in the order in which they are built: what was written is faithful to what was read, and it means the same
-abbrev pub Keeps : Order → List Module → Option FileMap → Option FileMap → Type 0
-Keeps (Building tuning prefix) ms held held' = AreFaithful ms × Told held held' (λ m m'. KeepsMeaning ms (map (λ w. m' (core_name prefix w)) (set_written ms)))
-Keeps Linting ms held held' = held' ≡ held
-
--- The work is done: the set is accepted, the files held are those before with the files of all modules put in, and the stream got the lines.
+-- The work is done: the set is accepted, the files held are those before with the files of all modules put in, so that they hold the modules written and
+-- their interfaces, and the stream got the lines.
 pub record IsDone (words : List (List ℕ)) (held held' : Option FileMap) (out out' : Option (List ℕ)) : Type 0 where
   pub steps : List Step
   pub product : IsProduct words held steps
   pub files : Told held held' (λ m m'. m' ≡ put_all (all_files steps) m)
   pub lines : Told out out' (λ a b. b ≡ a ++ all_lines steps)
-  pub keeps : Keeps product.request.order (build_order product.set) held held'
+  pub leaves : Leaves product.request.order (build_order product.set) steps product.are held held'
 
 -- The set is refused: the line names its first fault.
 pub record IsRefused (words : List (List ℕ)) (held : Option FileMap) (err err' : Option (List ℕ)) (faults faults' : ℕ) : Type 0 where

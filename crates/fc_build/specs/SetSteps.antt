@@ -3,14 +3,14 @@ use Rattle.std.specs.Prelude.{◌≡◌, ⊤, ℕ, Bool, List, [], ◌∷◌, Ve
 use Rattle.std.specs.declared.alloc.Global.{Global}
 use Rattle.std.specs.List.{filter_map}
 use Rattle.fc_syntax.specs.Tree.{Module}
-use Rattle.fc_model.specs.Headers.{written_of}
+use Rattle.fc_model.specs.Headers.{name_of, written_of}
 use Rattle.fc_model.specs.Nameless.{NModule}
 use Rattle.fc_model.specs.NamelessView.{nmodules_of}
 use Rattle.fc_reaching.specs.Recursion.{AreRecursive}
 use Rattle.fc_words.specs.declared.Tuning.{Tuning}
 use Rattle.fc_words.specs.Asking.{Order, Building, Linting}
 use Rattle.fc_build.specs.Judging.{modules_in}
-use Rattle.fc_build.specs.Product.{Step, built_step, interface_written, linted_step}
+use Rattle.fc_build.specs.Product.{Step, built_step, interface_written, linted_step, unchanged_log}
 use Rattle.fc_build.specs.declared.judge.Set.{Set}
 
 -- what is said of the first module, and of those behind it
@@ -25,7 +25,7 @@ behind_first (r ∷ rs) = rs
 -- what a build does for modules, where for each it is said which of its declarations reach themselves; nothing is said of those behind the end
 abbrev pub built_steps : Tuning → List ℕ → List (List Bool) → List Module → List Step
 built_steps tuning prefix recursive [] = []
-built_steps tuning prefix recursive (m ∷ ms) = built_step prefix m (interface_written tuning.grow (first_of recursive) m) ∷ built_steps tuning prefix (behind_first recursive) ms
+built_steps tuning prefix recursive (m ∷ ms) = built_step prefix m (interface_written tuning.grow (first_of recursive) m) (unchanged_log (name_of m)) ∷ built_steps tuning prefix (behind_first recursive) ms
 
 -- for each module it is said which of its declarations are definitions that reach themselves
 abbrev pub AreAllRecursive : List NModule → List (List Bool) → Type 0

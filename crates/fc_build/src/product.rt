@@ -5,13 +5,14 @@ ghost use Rattle.fc_syntax.specs.View.{decls_of, module_of};
 ghost use Rattle.fc_model.specs.Headers.{written_of};
 ghost use Rattle.fc_model.specs.NamelessView.{nmodules_of};
 ghost use Rattle.fc_lattice.specs.View.{sigs_of};
+ghost use Rattle.fc_log.specs.declared.log.Entry.TheVariants as entry_kind;
 ghost use Rattle.fc_words.specs.Asking.{order_of};
 ghost use Rattle.fc_words.specs.Numbers.{IsWithinRanges};
 ghost use Rattle.fc_build.specs.Delivering.{IsSameDevice, WritesAll, step_in, steps_in};
 ghost use Rattle.fc_plan.specs.Modules.{behind};
 ghost use Rattle.fc_build.specs.Judging.{modules_in};
 ghost use Rattle.fc_build.specs.Product as spec;
-ghost use Rattle.fc_build.specs.Product.{core_output, interface_output, interface_written, output_of, outputs};
+ghost use Rattle.fc_build.specs.Product.{core_output, interface_output, interface_written, log_output, output_of, outputs};
 ghost use Rattle.fc_build.specs.SetSteps as marks;
 ghost use Rattle.fc_build.specs.SetSteps.{AreAllRecursive, AreBuiltOf, AreStepsOf, built_steps, marks_in};
 
@@ -19,12 +20,26 @@ use crate::judge::Set;
 use fc_files::{Files, WriteAnswer};
 use fc_iface::{interface, print_interface};
 use fc_lattice::Sig;
+use fc_log::{Entry, Log, Phase, print};
 use fc_plan::in_order;
 use fc_printer::{print_module, written};
 use fc_reaching::recursive;
 use fc_syntax::{Decl, Memory, Module, NModule, Seq, Text};
 use fc_words::{Command, Tuning};
 use std::alloc::{AllocError, Global};
+
+/// The phases of a build, in their order.
+const PHASES: [Phase; 9] = [
+    Phase::Simplify,
+    Phase::Special,
+    Phase::Simplify,
+    Phase::FloatOut,
+    Phase::Simplify,
+    Phase::FloatIn,
+    Phase::Strict,
+    Phase::Split,
+    Phase::Simplify,
+];
 
 /// A file to be written.
 #[derive(Debug, Drop)]
@@ -108,6 +123,36 @@ fn interface_file(
     Ok(File { name, text })
 }
 
+/// The marks that end phases, one after the other.
+fn marks_of(alloc: Global, phases: &[Phase]) -> Result<Seq<Entry>, Memory>
+    ensures { IfOk result (λ entries. entries ≡ map entry_kind.Mark phases.now) }
+{
+    let mut entries = Seq::new(alloc);
+    for phase in phases {
+        entries.push(Entry::Mark(*phase))?;
+    }
+    Ok(entries)
+}
+
+/// The log of a module to which no step was taken: each phase of a build ends.
+fn unchanged_log(alloc: Global, name: &Text) -> Result<Log, Memory>
+    ensures { IfOk result (λ l. l ≡ spec.unchanged_log name.now) }
+{
+    let module = name.copy(alloc)?;
+    let entries = marks_of(alloc, PHASES.as_slice())?;
+    Ok(Log { module, entries })
+}
+
+/// The log of a module, under its name.
+fn log_file(alloc: Global, prefix: &str, m: &Module) -> Result<File, Memory>
+    ensures { IfOk result (λ f. output_of f ≡ log_output prefix.now (module_of m.now) (spec.unchanged_log m.now.name)) }
+{
+    let name = file_name(alloc, prefix, m.name.as_str(), ".why")?;
+    let log = unchanged_log(alloc, &m.name)?;
+    let text = print(alloc, &log)?;
+    Ok(File { name, text })
+}
+
 /// The files of a module, in the order in which they are written.
 fn files_of(
     alloc: Global,
@@ -117,11 +162,12 @@ fn files_of(
     m: &Module,
 ) -> Result<Vec<File>, Memory>
     requires { grow ≤ 10000 }
-    ensures { IfOk result (λ files. outputs files.items ≡ core_output prefix.now (module_of m.now) ∷ interface_output prefix.now (module_of m.now) (interface_written grow recursive.now (module_of m.now)) ∷ []) }
+    ensures { IfOk result (λ files. outputs files.items ≡ core_output prefix.now (module_of m.now) ∷ interface_output prefix.now (module_of m.now) (interface_written grow recursive.now (module_of m.now)) ∷ log_output prefix.now (module_of m.now) (spec.unchanged_log m.now.name) ∷ []) }
 {
     let core = core_file(alloc, prefix, m)?;
     let interface = interface_file(alloc, grow, recursive, prefix, m)?;
-    Ok(vec![in alloc; core, interface]?)
+    let log = log_file(alloc, prefix, m)?;
+    Ok(vec![in alloc; core, interface, log]?)
 }
 
 /// A line of a word and the name of a module.
@@ -143,7 +189,7 @@ fn built_step(
     m: &Module,
 ) -> Result<Step, Memory>
     requires { tuning.grow ≤ 10000 }
-    ensures { IfOk result (λ s. step_in s ≡ spec.built_step prefix.now (module_of m.now) (interface_written tuning.grow recursive.now (module_of m.now))) }
+    ensures { IfOk result (λ s. step_in s ≡ spec.built_step prefix.now (module_of m.now) (interface_written tuning.grow recursive.now (module_of m.now)) (spec.unchanged_log m.now.name)) }
 {
     let line = line_of(alloc, "built ", &m.name)?;
     let files = files_of(alloc, tuning.grow, recursive, prefix, m)?;

@@ -32,7 +32,8 @@ pub fn run<F: Files, O: Sink, E: Sink>(
 ) -> u8
     ensures known { result ≤ 5 }
 
-    // 0: the set is accepted, the files are those before with the files of all modules put in, and the lines are put
+    // 0: the set is accepted, the files are those before with the files of all modules put in, so that they hold modules faithful to those that were read,
+    // and the lines are put
     ensures done { result ≡ 0 → IsDone (texts words.now) (F.held files.old) (F.held files.new) (O.taken out.old) (O.taken out.new) }
     ensures silent { result ≡ 0 → IsSilent (E.taken err.old) (E.taken err.new) (E.faults err.old) (E.faults err.new) }
 

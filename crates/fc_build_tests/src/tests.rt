@@ -543,6 +543,7 @@ fn lint_writes_no_file(rt: HostRuntime) -> Result<(), Fail> {
     assert_eq!(rt; ran.status, 0);
     assert!(rt; holds(alloc, &mut ran, "./M.opt.fc", None)?);
     assert!(rt; holds(alloc, &mut ran, "./M.fci", None)?);
+    assert!(rt; holds(alloc, &mut ran, "./M.why", None)?);
     Ok(())
 }
 
@@ -555,6 +556,7 @@ fn a_prefix_stands_before_the_names_of_files(rt: HostRuntime) -> Result<(), Fail
     assert!(rt; holds(alloc, &mut ran, "made/x-M.opt.fc", Some(core))?);
     let interface: &[u8] = b"(interface 1 M (imports) (exports))\n";
     assert!(rt; holds(alloc, &mut ran, "made/x-M.fci", Some(interface))?);
+    assert!(rt; !holds(alloc, &mut ran, "made/x-M.why", None)?);
     assert!(rt; holds(alloc, &mut ran, "./M.opt.fc", None)?);
     Ok(())
 }

@@ -1,2 +1,2 @@
-mod Agreeing
+pub mod Agreeing
 mod WordSteps

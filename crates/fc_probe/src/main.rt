@@ -9,6 +9,7 @@ mod answers;
 mod binders;
 mod changing;
 mod interfaces;
+mod logs;
 mod named;
 mod names;
 mod occurring;
@@ -97,6 +98,7 @@ fn answer_of(alloc: Global, words: &[&str], files: &[File]) -> Result<Vec<u8>, N
         (["print_interface"], [file]) => interfaces::printed(alloc, file),
         (["interface", grow], [file]) => interfaces::told(alloc, grow, file),
         (["imports"], files) => interfaces::imported(alloc, files),
+        (["print_log"], [file]) => logs::printed(alloc, file),
         (["resolve"], [file]) => names::resolved(alloc, file),
         (["name_back", words], [file]) => names::named_with(alloc, words, file),
         (["name_back_body"], [file]) => names::named_body(alloc, file),

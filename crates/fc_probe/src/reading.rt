@@ -6,6 +6,7 @@ use crate::answers::{NoAnswer, flawed_in};
 use fc_files::{Files, ReadAnswer};
 use fc_iface::read_interface;
 use fc_lattice::Interface;
+use fc_log::{Log, read as read_log};
 use fc_reader::read_module;
 use fc_resolve::resolve;
 use fc_syntax::{Limits, Module, NModule, Text};
@@ -91,6 +92,11 @@ pub(crate) fn interface_in_room(
 /// The interface in a file.
 pub(crate) fn interface_in(alloc: Global, file: &File) -> Result<Interface, NoAnswer> {
     interface_in_room(alloc, file, Limits::standard().size)
+}
+
+/// The log in a file.
+pub(crate) fn log_in(alloc: Global, file: &File) -> Result<Log, NoAnswer> {
+    Ok(read_log(alloc, file.name, file.bytes())?)
 }
 
 /// The nameless form of a module.

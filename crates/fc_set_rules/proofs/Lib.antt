@@ -1,1 +1,4 @@
+pub mod FormsLint
+mod FoundAmong
+mod NamesOffered
 pub mod SetsAre

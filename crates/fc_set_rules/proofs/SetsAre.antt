@@ -70,7 +70,7 @@ all_hold ns (m ∷ ms) h =
     let q = and_then_inv (resolved_or_fault m) _ done p.0 in
     rw q.1 (one_module (judged_holds ns m q.0 q.1 p.0) (all_hold ns ms p.1))
 
-hold_forms : {ns ks : List NModule} {ms : List Module} → AllHold ns ms ks → nameless_forms ms ≡ ks
+pub hold_forms : {ns ks : List NModule} {ms : List Module} → AllHold ns ms ks → nameless_forms ms ≡ ks
 hold_forms no_modules = refl
 hold_forms (one_module h rest) = rw (module_is_resolved h.resolves, hold_forms rest) refl
 

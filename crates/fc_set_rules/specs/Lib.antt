@@ -1,1 +1,2 @@
+pub mod FormsDecide
 pub mod SetRules

@@ -8,6 +8,9 @@ const CORE: &[u8] = b"(module M (imports) (exports))\n";
 
 const INTERFACE: &[u8] = b"(interface 1 M (imports) (exports))\n";
 
+const LOG: &[u8] =
+    b"log 1 M\nmark simplify\nmark special\nmark simplify\nmark float-out\nmark simplify\nmark float-in\nmark strict\nmark split\nmark simplify\n";
+
 /// The line for a file that is one bracket.
 const REFUSED: &[u8] = b"refused 3 BadForm M.fc - @1\n";
 
@@ -23,8 +26,10 @@ fn is_as_told(rt: &impl Abort, alloc: Global, row: &Row<'_>) -> Result<(), Fail>
     assert_eq!(rt; ran.err.bytes(), *err);
     let core = if *written > 0 { Some(CORE) } else { None };
     let interface = if *written > 1 { Some(INTERFACE) } else { None };
+    let log = if *written > 2 { Some(LOG) } else { None };
     assert!(rt; holds(alloc, &mut ran, "./M.opt.fc", core)?);
     assert!(rt; holds(alloc, &mut ran, "./M.fci", interface)?);
+    assert!(rt; holds(alloc, &mut ran, "./M.why", log)?);
     assert!(rt; holds(alloc, &mut ran, "M.fc", Some(*text))?);
     Ok(())
 }
@@ -56,11 +61,12 @@ const fn err<'a>(calls: &'a [u64], numbers: &'a [u64], room: usize) -> Devices<'
 #[test]
 fn files_that_fail_are_told(rt: HostRuntime) -> Result<(), Fail> {
     let alloc = rt.alloc();
-    let rows: [Row<'_>; 4] = [
-        (SOUND, HEADER, 0, b"built M\n", b"", 2),
+    let rows: [Row<'_>; 5] = [
+        (SOUND, HEADER, 0, b"built M\n", b"", 3),
         (calls(&[1]), HEADER, 3, b"", b"read fault M.fc\n", 0),
         (calls(&[2]), HEADER, 4, b"", b"write fault ./M.opt.fc\n", 0),
         (calls(&[3]), HEADER, 4, b"", b"write fault ./M.fci\n", 1),
+        (calls(&[4]), HEADER, 4, b"", b"write fault ./M.why\n", 2),
     ];
     for row in &rows {
         is_as_told(&rt, alloc, row)?;
@@ -72,14 +78,14 @@ fn files_that_fail_are_told(rt: HostRuntime) -> Result<(), Fail> {
 fn an_output_that_fails_is_told(rt: HostRuntime) -> Result<(), Fail> {
     let alloc = rt.alloc();
     let rows: [Row<'_>; 7] = [
-        (out(&[1], 100), HEADER, 4, b"", b"write fault -\n", 2),
+        (out(&[1], 100), HEADER, 4, b"", b"write fault -\n", 3),
         // there is one put
-        (out(&[2], 100), HEADER, 0, b"built M\n", b"", 2),
+        (out(&[2], 100), HEADER, 0, b"built M\n", b"", 3),
         // it takes what fits
-        (out(&[], 0), HEADER, 4, b"", b"write fault -\n", 2),
-        (out(&[], 5), HEADER, 4, b"built", b"write fault -\n", 2),
-        (out(&[], 7), HEADER, 4, b"built M", b"write fault -\n", 2),
-        (out(&[], 8), HEADER, 0, b"built M\n", b"", 2),
+        (out(&[], 0), HEADER, 4, b"", b"write fault -\n", 3),
+        (out(&[], 5), HEADER, 4, b"built", b"write fault -\n", 3),
+        (out(&[], 7), HEADER, 4, b"built M", b"write fault -\n", 3),
+        (out(&[], 8), HEADER, 0, b"built M\n", b"", 3),
         // nothing is put where the file is refused
         (out(&[1], 0), b"(", 1, b"", REFUSED, 0),
     ];
@@ -105,7 +111,7 @@ fn an_error_stream_that_fails_changes_no_status(rt: HostRuntime) -> Result<(), F
         (err(&[], &[2], 100), b"(", 1, b"", REFUSED, 0),
         (err(&[], &[], 10), b"(", 1, b"", b"refused 3 ", 0),
         // nothing is put there where all is well
-        (err(&[], &[1], 0), HEADER, 0, b"built M\n", b"", 2),
+        (err(&[], &[1], 0), HEADER, 0, b"built M\n", b"", 3),
     ];
     for row in &rows {
         is_as_told(&rt, alloc, row)?;

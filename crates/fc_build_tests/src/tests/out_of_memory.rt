@@ -21,15 +21,17 @@ fn build(rt: &impl Abort, alloc: Global) -> Result<(), Fail> {
     assert!(rt; holds(alloc, &mut ran, "M.fc", Some(TEXT))?);
     let core = holds(alloc, &mut ran, "./M.opt.fc", Some(CORE))?;
     let interface = holds(alloc, &mut ran, "./M.fci", Some(INTERFACE))?;
+    let log = !holds(alloc, &mut ran, "./M.why", None)?;
     match ran.status {
         0 => {
-            assert!(rt; core && interface);
+            assert!(rt; core && interface && log);
             assert_eq!(rt; ran.out.bytes(), b"built M\n".as_slice());
             assert_eq!(rt; ran.err.bytes(), b"".as_slice());
         }
         status => {
             assert_eq!(rt; status, 5);
             assert!(rt; core || !interface);
+            assert!(rt; interface || !log);
             assert_eq!(rt; ran.out.bytes(), b"".as_slice());
             assert_eq!(rt; ran.err.bytes(), b"out of memory\n".as_slice());
         }

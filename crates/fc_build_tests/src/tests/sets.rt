@@ -19,6 +19,9 @@ const CORE_B: &[u8] = b"(module B (imports A) (exports x)\n (def x A.T (con A.K)
 
 const CORE_C: &[u8] = b"(module C (imports B A) (exports) (hidden y)\n (def y A.T B.x))\n";
 
+const LOG_C: &[u8] =
+    b"log 1 C\nmark simplify\nmark special\nmark simplify\nmark float-out\nmark simplify\nmark float-in\nmark strict\nmark split\nmark simplify\n";
+
 const INTERFACE_C: &[u8] =
     b"(interface 1 C (imports B A) (exports) (hidden y)\n (value y A.T (sig) (def B.x)))\n";
 
@@ -38,18 +41,22 @@ fn modules_are_written_in_the_order_in_which_they_are_built(rt: HostRuntime) -> 
     assert!(rt; holds(alloc, &mut ran, "./B.opt.fc", Some(CORE_B))?);
     assert!(rt; holds(alloc, &mut ran, "./C.opt.fc", Some(CORE_C))?);
     assert!(rt; holds(alloc, &mut ran, "./C.fci", Some(INTERFACE_C))?);
+    assert!(rt; holds(alloc, &mut ran, "./C.why", Some(LOG_C))?);
     Ok(())
 }
 
-/// Fails unless so many of the six files stand, the first in the order in which they are written, and no other.
+/// Fails unless so many of the nine files stand, the first in the order in which they are written, and no other.
 fn stand_up_to(rt: &impl Abort, alloc: Global, ran: &mut Ran, count: usize) -> Result<(), Fail> {
     let names = [
         "./A.opt.fc",
         "./A.fci",
+        "./A.why",
         "./B.opt.fc",
         "./B.fci",
+        "./B.why",
         "./C.opt.fc",
         "./C.fci",
+        "./C.why",
     ];
     for (number, name) in names.iter().enumerate() {
         let absent = holds(alloc, ran, *name, None)?;
@@ -90,7 +97,7 @@ const fn puts(numbers: &[u64], room: usize) -> Devices<'_> {
 
 #[test]
 fn each_call_that_fails_is_told(rt: HostRuntime) -> Result<(), Fail> {
-    let rows: [Row<'_>; 9] = [
+    let rows: [Row<'_>; 12] = [
         // reads, in the order of the words
         (calls(&[1]), 3, b"", b"read fault C.fc\n", 0),
         (calls(&[2]), 3, b"", b"read fault A.fc\n", 0),
@@ -98,21 +105,30 @@ fn each_call_that_fails_is_told(rt: HostRuntime) -> Result<(), Fail> {
         // writes, in the order in which modules are built; the line of a module is put behind its files
         (calls(&[4]), 4, b"", b"write fault ./A.opt.fc\n", 0),
         (calls(&[5]), 4, b"", b"write fault ./A.fci\n", 1),
-        (calls(&[6]), 4, b"built A\n", b"write fault ./B.opt.fc\n", 2),
-        (calls(&[7]), 4, b"built A\n", b"write fault ./B.fci\n", 3),
+        (calls(&[6]), 4, b"", b"write fault ./A.why\n", 2),
+        (calls(&[7]), 4, b"built A\n", b"write fault ./B.opt.fc\n", 3),
+        (calls(&[8]), 4, b"built A\n", b"write fault ./B.fci\n", 4),
+        (calls(&[9]), 4, b"built A\n", b"write fault ./B.why\n", 5),
         (
-            calls(&[8]),
+            calls(&[10]),
             4,
             b"built A\nbuilt B\n",
             b"write fault ./C.opt.fc\n",
-            4,
+            6,
         ),
         (
-            calls(&[9]),
+            calls(&[11]),
             4,
             b"built A\nbuilt B\n",
             b"write fault ./C.fci\n",
-            5,
+            7,
+        ),
+        (
+            calls(&[12]),
+            4,
+            b"built A\nbuilt B\n",
+            b"write fault ./C.why\n",
+            8,
         ),
     ];
     are_as_told(&rt, rt.alloc(), rows.as_slice())
@@ -121,18 +137,18 @@ fn each_call_that_fails_is_told(rt: HostRuntime) -> Result<(), Fail> {
 #[test]
 fn each_put_that_fails_is_told(rt: HostRuntime) -> Result<(), Fail> {
     let rows: [Row<'_>; 5] = [
-        (puts(&[1], 100), 4, b"", b"write fault -\n", 2),
-        (puts(&[2], 100), 4, b"built A\n", b"write fault -\n", 4),
+        (puts(&[1], 100), 4, b"", b"write fault -\n", 3),
+        (puts(&[2], 100), 4, b"built A\n", b"write fault -\n", 6),
         (
             puts(&[3], 100),
             4,
             b"built A\nbuilt B\n",
             b"write fault -\n",
-            6,
+            9,
         ),
         // the stream takes what fits
-        (puts(&[], 11), 4, b"built A\nbui", b"write fault -\n", 4),
-        (puts(&[], 24), 0, b"built A\nbuilt B\nbuilt C\n", b"", 6),
+        (puts(&[], 11), 4, b"built A\nbui", b"write fault -\n", 6),
+        (puts(&[], 24), 0, b"built A\nbuilt B\nbuilt C\n", b"", 9),
     ];
     are_as_told(&rt, rt.alloc(), rows.as_slice())
 }

@@ -4,9 +4,10 @@ use Rattle.fc_syntax.specs.Tree.{Word}
 use Rattle.fc_syntax.specs.View.{module_of}
 use Rattle.fc_syntax.specs.declared.module.Module as RustModule
 use Rattle.fc_syntax.specs.declared.ty.Name.{Name}
+use Rattle.fc_model.specs.Headers.{name_of}
 use Rattle.fc_build.specs.Delivering.{step_in, steps_in}
 use Rattle.fc_plan.specs.Modules.{behind}
-use Rattle.fc_build.specs.Product.{built_step, interface_written}
+use Rattle.fc_build.specs.Product.{built_step, interface_written, unchanged_log}
 use Rattle.fc_build.specs.SetSteps.{behind_first, built_steps, first_of, marks_in}
 use Rattle.fc_build.proofs.Delivered.{first_under}
 use Rattle.fc_build.proofs.Products.{built_first}
@@ -27,8 +28,9 @@ returns-in_ok-push-in-len1-up t c =
     let s = c.in_ok-built_step-in-len1-up.field-0 in
     let last : c.push.new.self.items ≡ c.args.steps.now.items ++ s ∷ [] = search rules in
     let marks : c.first_of.result.now ≡ first_of recursive = search rules in
-    let made : step_in s ≡ built_step prefix m (interface_written tuning.grow c.first_of.result.now m) = search rules in
-    let first : pushed ≡ old ++ built_step prefix m (interface_written tuning.grow (first_of recursive) m) ∷ []
-    = ap steps_in last ∙ map-append step_in c.args.steps.now.items (s ∷ []) ∙ ap (λ x. old ++ x ∷ []) (made ∙ ap (λ r. built_step prefix m (interface_written tuning.grow r m)) marks) in
+    let log = unchanged_log (name_of m) in
+    let made : step_in s ≡ built_step prefix m (interface_written tuning.grow c.first_of.result.now m) log = search rules in
+    let first : pushed ≡ old ++ built_step prefix m (interface_written tuning.grow (first_of recursive) m) log ∷ []
+    = ap steps_in last ∙ map-append step_in c.args.steps.now.items (s ∷ []) ∙ ap (λ x. old ++ x ∷ []) (made ∙ ap (λ r. built_step prefix m (interface_written tuning.grow r m) log) marks) in
     let others : OnOk c.add_built.result (new ≡ pushed ++ built_steps tuning prefix (behind_first recursive) rest) = search rules in
     built_first c.add_built.result tuning prefix recursive (behind c.args.modules.now) m rest old pushed new parts first others

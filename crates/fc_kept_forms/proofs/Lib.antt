@@ -1,0 +1,3 @@
+pub mod KeptWords
+mod LowerWords
+mod Lists

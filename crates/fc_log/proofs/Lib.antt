@@ -1,0 +1,15 @@
+pub mod Cutting
+pub mod Printed
+pub mod Stops
+pub mod Paths
+pub mod Faults
+pub mod Numerals
+pub mod Plain
+pub mod Lines
+pub mod GoesOn
+pub mod OneMore
+pub mod ReadBack
+pub mod Formed
+pub mod FormedStands
+pub mod Clean
+pub mod OneFault
