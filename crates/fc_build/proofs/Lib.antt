@@ -6,5 +6,8 @@ pub mod LineLemmas
 pub mod OneAnswer
 pub mod Ordered
 pub mod Products
+pub mod Replayed
 pub mod RunLemmas
+pub mod SomeAnswer
 pub mod Standing
+pub mod Written

@@ -1,4 +1,4 @@
--- That files have at most one answer.
+-- That files have one answer.
 use Rattle.std.proofs.Common.{◌≡◌, ◌∙◌, ℕ, List, None, Some, sym, subst, arith}
 use Rattle.std.proofs.lemmas.Option.{slice_get_within}
 use Rattle.fc_syntax.specs.Limits.{standard_limits}
@@ -8,6 +8,7 @@ use Rattle.fc_model.specs.Linting.{SetLints}
 use Rattle.fc_model.specs.Planning.{build_order, plan_fault}
 use Rattle.fc_load.proofs.Laws.{no_fault_of_read, one_fault_of_read, one_reading}
 use Rattle.fc_load.specs.Loading.{Holding}
+use Rattle.fc_build.proofs.SomeAnswer.{an_answer}
 use Rattle.fc_build.specs.Acceptance.{Accepted, FaultOfSet, FirstFault, HaveOneAnswer, faulty, too_many, unlinted, unplanned, unread}
 
 -- a set has one fault at most, and none that is accepted
@@ -41,4 +42,4 @@ module _ (files : List (List ℕ)) (held : Holding) where
   one_fault f g (faulty ms few read fault) (faulty ns few' read' fault') = one_of_set ms f g fault (subst (λ k. FaultOfSet k g) (one_reading read' read) fault')
 
   pub have_one_answer : HaveOneAnswer files held
-  have_one_answer = record { one_set = λ ms ns a b. one_reading a.read b.read; one_fault = one_fault; not_both = exclusive }
+  have_one_answer = record { an_answer = an_answer held files; one_set = λ ms ns a b. one_reading a.read b.read; one_fault = one_fault; not_both = exclusive }

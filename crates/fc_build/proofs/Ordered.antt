@@ -6,6 +6,7 @@ use Rattle.std.proofs.lemmas.List.Elements.{All-nil, All-cons, All-head, All-tai
 use Rattle.std.proofs.lemmas.Option.{slice_get-map}
 use Rattle.fc_syntax.specs.Tree.{Word, Module}
 use Rattle.fc_model.specs.Headers.{imports_of, name_of}
+use Rattle.fc_model.proofs.Sameness.{bytes_eq_eq}
 use Rattle.fc_model.specs.Planning.{build_order, built_behind, first_ready, is_among, is_ready}
 
 -- what follows of an answer, where there is one
@@ -95,6 +96,31 @@ if_ready built x xs false m is there e = there m e
 first_is_ready : (built : List Word) (ms : List Module) (m : Module) → first_ready built ms ≡ Some m → is_ready built m ≡ true
 first_is_ready built [] m e = absurd cc
 first_is_ready built (x ∷ xs) m e = if_ready built x xs (is_ready built x) m refl (λ n g. first_is_ready built xs n g) e
+
+-- a module that is built behind others imports none but them, and is none of them
+abbrev pub NamesOthers : Module → Type 0
+NamesOthers m = All (λ w. bytes_eq w (name_of m) ≡ false) (imports_of m)
+
+other : (built : List Word) (w n : Word) (b : Bool) → is_among built n ≡ false → is_among built w ≡ true → bytes_eq w n ≡ b → b ≡ false
+other built w n true absent there same = let is = subst (λ v. is_among built v ≡ true) (bytes_eq_eq w n same) there in cc
+other built w n false absent there same = refl
+
+all_others : (built : List Word) (n : Word) (ws : List Word) → is_among built n ≡ false → list_all (is_among built) ws ≡ true → All (λ w. bytes_eq w n ≡ false) ws
+all_others built n [] absent there = All-nil (λ w. bytes_eq w n ≡ false)
+all_others built n (w ∷ ws) absent there =
+    let p = and_parts (is_among built w) (list_all (is_among built) ws) there in
+    All-cons (λ v. bytes_eq v n ≡ false) w ws (other built w n (bytes_eq w n) absent p.0 refl) (all_others built n ws absent p.1)
+
+ready_names_others : (built : List Word) (m : Module) → is_ready built m ≡ true → NamesOthers m
+ready_names_others built m e = all_others built (name_of m) (imports_of m) (ready_is_new built m e) (and_parts (not (is_among built (name_of m))) (list_all (is_among built) (imports_of m)) e).1
+
+built_name_others : (most : ℕ) (built : List Word) (ms : List Module) → All NamesOthers (built_behind most built ms)
+built_name_others zero built ms = All-nil NamesOthers
+built_name_others (suc most) built ms =
+    next_are NamesOthers most built ms (first_ready built ms) (λ m e. ready_names_others built m (first_is_ready built ms m e)) (λ m. built_name_others most (name_of m ∷ built) ms)
+
+pub order_names_others : (ms : List Module) → All NamesOthers (build_order ms)
+order_names_others ms = built_name_others (length ms) [] ms
 
 abbrev names_of : List Module → List Word
 names_of ms = map name_of ms

@@ -1,154 +1,150 @@
--- What is done for the modules of an accepted set is what is done for them in the order in which they are built.
-use Rattle.std.proofs.Common.{◌≡◌, ◌<◌, ◌+◌, ◌∙◌, ℕ, Bool, All, List, [], ◌∷◌, ◌++◌, Vec, Result, Ok, Err, OnOk, get_or, length, map, slice_get, take, arith, refl, sym, ap, subst, append_assoc}
+-- What is done for the modules of an accepted set is a build of them, in the order in which they are built.
+use Rattle.std.proofs.Common.{◌≡◌, ◌<◌, ◌+◌, ◌∙◌, ℕ, zero, suc, arith, Bool, All, List, [], ◌∷◌, ◌++◌, get_or, length, map, take, refl, sym, ap, subst}
 use Rattle.std.proofs.lemmas.List.{map-append, take_more}
 use Rattle.std.proofs.lemmas.List.Elements.{All-head, All-tail}
-use Rattle.std.specs.declared.alloc.Global.{Global}
-use Rattle.std.specs.List.{filter_map}
-use Rattle.fc_syntax.specs.Tree.{Word, Module}
+use Rattle.fc_syntax.specs.Tree.{Module}
+use Rattle.fc_syntax.specs.View.{module_of}
 use Rattle.fc_syntax.specs.declared.module.Module as RustModule
 use Rattle.fc_syntax.specs.declared.ty.Ref.{Ref}
 use Rattle.fc_model.specs.Formed.{IsFormed}
-use Rattle.fc_model.specs.Headers.{name_of, set_written, written_of}
-use Rattle.fc_model.specs.Linting.{nameless_forms}
-use Rattle.fc_model.specs.Nameless.{NDecl, NModule, NModuleOf}
+use Rattle.fc_model.specs.Headers.{name_of, set_written}
+use Rattle.fc_model.specs.Linting.{SetLints, nameless_forms}
+use Rattle.fc_model.specs.Nameless.{NModule}
 use Rattle.fc_model.specs.NamelessView.{nmodule_of, nmodules_of}
 use Rattle.fc_model.specs.Planning.{build_order}
-use Rattle.fc_model.proofs.SetWritten.{HideMore, no_modules, one_module, set_forms_hide}
+use Rattle.fc_model.specs.ResolutionRules.{Resolves}
+use Rattle.fc_headers.specs.NamelessHeaders.{form_written_among}
 use Rattle.fc_iface.proofs.ReadInterface.{interface_spells}
+use Rattle.fc_lint_set.specs.Sets.{hints_kept}
 use Rattle.fc_printer.proofs.ReadBack.{canonical_spells}
-use Rattle.fc_reaching.specs.Reaching.{MentionsDefinition, ReachesDefinition, at_once, through}
+use Rattle.fc_reaching.specs.Numbering.{word_of}
 use Rattle.fc_reaching.specs.Recursion.{AreRecursive}
+use Rattle.fc_set_rules.specs.FormsDecide.{AllResolve, none_resolve, one_resolves}
 use Rattle.fc_words.specs.declared.Tuning.{Tuning}
-use Rattle.fc_words.specs.Asking.{Order, Building, Linting}
-use Rattle.fc_build.specs.Building.{AreBuilt, AreSteps, IsBuilt, none_built, one_built}
+use Rattle.fc_words.specs.Asking.{Order, Building, Explaining, Linting}
+use Rattle.fc_build.specs.Building.{AreBuilt, AreReplays, AreSteps, IsBuild, IsExplanation, Outcome, none_built, one_built}
+use Rattle.fc_build.specs.Delivering.{step_in, steps_in}
 use Rattle.fc_build.specs.Judging.{IsReadySet, modules_in}
-use Rattle.fc_build.specs.Product.{Step, built_step, interface_written, linted_step, unchanged_log}
-use Rattle.fc_build.specs.SetSteps.{AreAllRecursive, AreStepsOf, behind_first, built_steps, first_of, marks_in}
+use Rattle.fc_build.specs.Product.{Step, built_step, explained_step, interface_written, linted_step, unchanged_log}
+use Rattle.fc_build.specs.SetSteps.{AreBuiltForms, AreStepsOf, IsBuiltForm, IsWritable, explained_form, forms_written, no_forms, one_form}
 use Rattle.fc_build.specs.declared.judge.Set.{Set}
-use Rattle.fc_build.proofs.Faithful.{as_many, set_faithful, set_replayed, unchanged_logs, unchanged_spells, written_alone, written_are_formed}
+use Rattle.fc_build.specs.declared.product.Step as rust
+use Rattle.fc_build.proofs.Faithful.{set_faithful, written_names}
 use Rattle.fc_build.proofs.InterfacesWritten.{written_is_formed}
-use Rattle.fc_build.proofs.Ordered.{order_keeps, picked, picked_map}
+use Rattle.fc_build.proofs.Ordered.{NamesOthers, order_keeps, order_names_others, picked}
+use Rattle.fc_build.proofs.Replayed.{all_spell, replayed, unchanged_logs, unchanged_spells}
+use Rattle.fc_build.proofs.Written.{form_names, resolved_forms, set_resolves, set_writable, written_are_formed, written_resolves}
 
--- in their order, each under its header
-ordered : (set : Set) → IsReadySet set → filter_map (slice_get (map written_of (modules_in set))) set.order ≡ set_written (build_order (modules_in set))
-ordered set ready =
-    let ms = modules_in set in
-    picked_map written_of ms set.order ∙ ap (map written_of) (picked ms set.order (build_order ms) ready.order) ∙ sym (written_alone (build_order ms) ready.ready.lints)
+abbrev Form : Type 0
+Form = RustModule.Module ℕ Ref
 
--- WHO REACHES ITSELF, of a module that hides more
+-- WHAT IS WRITTEN OF A MODULE
 
-module _ (m : Word) (imports exports hidden more : List Word) (ds : List NDecl) where
-  abbrev before : NModule
-  before = NModuleOf m imports exports hidden ds
-
-  abbrev behind : NModule
-  behind = NModuleOf m imports exports (hidden ++ more) ds
-
-  mentions_still : (v w : Word) → MentionsDefinition before v w → MentionsDefinition behind v w
-  mentions_still v w is = record { right = is.right; defined = is.defined; mentioned = is.mentioned; other = is.other; other_defined = is.other_defined }
-
-  mentions_before : (v w : Word) → MentionsDefinition behind v w → MentionsDefinition before v w
-  mentions_before v w is = record { right = is.right; defined = is.defined; mentioned = is.mentioned; other = is.other; other_defined = is.other_defined }
-
-  reaches_still : (v w : Word) → ReachesDefinition before v w → ReachesDefinition behind v w
-  reaches_still v w (at_once _ _ is) = at_once v w (mentions_still v w is)
-  reaches_still v w (through u _ _ is rest) = through u v w (mentions_still v u is) (reaches_still u w rest)
-
-  reaches_before : (v w : Word) → ReachesDefinition behind v w → ReachesDefinition before v w
-  reaches_before v w (at_once _ _ is) = at_once v w (mentions_before v w is)
-  reaches_before v w (through u _ _ is rest) = through u v w (mentions_before v u is) (reaches_before u w rest)
-
-  recursive_still : (marks : List Bool) → AreRecursive before marks → AreRecursive behind marks
-  recursive_still marks are = record {
-    count = are.count;
-    recursive = λ k. (
-      λ marked. let is = (are.recursive k).0 marked in record { word = is.word; first = is.first; reached = reaches_still is.word is.word is.reached },
-      λ is. (are.recursive k).1 (record { word = is.word; first = is.first; reached = reaches_before is.word is.word is.reached }),
-    );
-  }
-
-all_recursive_still : {ns ks : List NModule} → HideMore ns ks → (recursive : List (List Bool)) → AreAllRecursive ns recursive → AreAllRecursive ks recursive
-all_recursive_still no_modules [] are = tt
-all_recursive_still no_modules (r ∷ rs) are = absurd are
-all_recursive_still (one_module more rest) [] are = absurd are
-all_recursive_still (one_module {m = m} {imports = imports} {exports = exports} {hidden = hidden} more {ds = ds} rest) (r ∷ rs) are =
-    (recursive_still m imports exports hidden more ds r are.0, all_recursive_still rest rs are.1)
-
--- WHAT A BUILD DOES
-
--- the step for a module whose words are of their forms
-is_built : (tuning : Tuning) (prefix : List ℕ) (form : NModule) (m : Module) (recursive : List Bool) → IsFormed m → AreRecursive form recursive
-    → IsBuilt tuning prefix form (unchanged_log (name_of m)) m (built_step prefix m (interface_written tuning.grow recursive m) (unchanged_log (name_of m)))
-is_built tuning prefix form m recursive formed reach = record {
-  interface = interface_written tuning.grow recursive m;
-  tells = record { recursive = recursive; reach = reach; is = refl };
-  core_spells = canonical_spells m formed;
-  interface_spells = interface_spells (interface_written tuning.grow recursive m) (written_is_formed tuning.grow recursive m formed);
-  log_spells = unchanged_spells m formed;
-  is = refl;
+pub form_built : (tuning : Tuning) (prefix : List ℕ) (form : NModule) (m : Module) (recursive : List Bool) (s : Step) → Resolves m form → IsFormed m → AreRecursive form recursive
+    → s ≡ built_step prefix m (interface_written tuning.grow recursive m) (unchanged_log (name_of m)) → IsBuiltForm tuning prefix form s
+form_built tuning prefix form m recursive s resolves formed reach is = record {
+  written = m;
+  resolves = resolves;
+  formed = formed;
+  built = record {
+    interface = interface_written tuning.grow recursive m;
+    tells = record { recursive = recursive; reach = reach; is = refl };
+    core_spells = canonical_spells m formed;
+    interface_spells = interface_spells (interface_written tuning.grow recursive m) (written_is_formed tuning.grow recursive m formed);
+    log_spells = unchanged_spells m formed;
+    is = is;
+  };
 }
 
--- what is made of truth values for each module is the steps of a build
-all_built : (tuning : Tuning) (prefix : List ℕ) (forms : List NModule) (ms : List Module) (recursive : List (List Bool)) → length forms ≡ length ms → All IsFormed ms
-    → AreAllRecursive forms recursive → AreBuilt tuning prefix forms (unchanged_logs (map name_of ms)) ms (built_steps tuning prefix recursive ms)
-all_built tuning prefix [] [] recursive e formed are = none_built
-all_built tuning prefix [] (m ∷ ms) recursive e formed are = absurd (omega (arith, e))
-all_built tuning prefix (f ∷ fs) [] recursive e formed are = absurd (omega (arith, e))
-all_built tuning prefix (f ∷ fs) (m ∷ ms) [] e formed are = absurd are
-all_built tuning prefix (f ∷ fs) (m ∷ ms) (r ∷ rs) e formed are =
-    one_built (is_built tuning prefix f m r (All-head IsFormed m ms formed) are.0) (all_built tuning prefix fs ms rs (omega (arith, e)) (All-tail IsFormed m ms formed) are.1)
+-- one more form, and its step
+form_behind : {tuning : Tuning} {prefix : List ℕ} {forms : List NModule} {steps : List Step} {form : NModule} {s : Step} → AreBuiltForms tuning prefix forms steps
+    → IsBuiltForm tuning prefix form s → AreBuiltForms tuning prefix (forms ++ form ∷ []) (steps ++ s ∷ [])
+form_behind no_forms is = one_form is no_forms
+form_behind (one_form first rest) is = one_form first (form_behind rest is)
 
--- those of the modules that were read are of the modules that are written
-recursive_written : (set : Set) → IsReadySet set → (recursive : List (List Bool)) → AreAllRecursive (nmodules_of set.forms.items) recursive
-    → AreAllRecursive (nameless_forms (set_written (build_order (modules_in set)))) recursive
-recursive_written set ready recursive reach =
-    all_recursive_still (set_forms_hide (build_order (modules_in set)) ready.ready.lints) recursive (subst (λ forms. AreAllRecursive forms recursive) ready.forms reach)
+-- the form of a number among those that can be written
+pub writable_at : (forms : List Form) (i : ℕ) (form : Form) → All IsWritable (map module_of forms) → i < length forms → form ≡ get_or forms i form → IsWritable (module_of form)
+writable_at [] i form all low here = absurd (omega (arith, low))
+writable_at (f ∷ fs) zero form all low here = subst (λ k. IsWritable (module_of k)) (sym here) (All-head IsWritable (module_of f) (map module_of fs) all)
+writable_at (f ∷ fs) (suc i) form all low here = writable_at fs i form (All-tail IsWritable (module_of f) (map module_of fs) all) (omega (arith, low)) here
 
-pub steps_are : (order : Order) (set : Set) (steps : List Step) → IsReadySet set → AreStepsOf order set steps → AreSteps order (build_order (modules_in set)) steps
-steps_are (Building tuning prefix) set steps ready is =
-    let ms = build_order (modules_in set) in
-    let lints = ready.ready.lints in
-    let read_formed = order_keeps IsFormed (modules_in set) ready.ready.formed in
-    let formed = written_are_formed ms lints read_formed in
-    let faithful = set_faithful ms lints in
-    record {
-      written = set_written ms;
-      logs = unchanged_logs (map name_of ms);
-      replayed = set_replayed ms lints read_formed;
-      faithful = faithful;
-      are =
-          subst (λ names. AreBuilt tuning prefix (nameless_forms (set_written ms)) (unchanged_logs names) (set_written ms) steps) faithful.names
-          (subst (AreBuilt tuning prefix (nameless_forms (set_written ms)) (unchanged_logs (map name_of (set_written ms))) (set_written ms))
-          (sym (is.are ∙ ap (built_steps tuning prefix is.recursive) (ordered set ready)))
-          (all_built tuning prefix (nameless_forms (set_written ms)) (set_written ms) is.recursive (as_many (set_written ms) faithful.lint) formed (recursive_written set ready is.recursive is.reach)));
-    }
-steps_are Linting set steps ready is = is ∙ ap (map linted_step) (picked (modules_in set) set.order (build_order (modules_in set)) ready.order)
-
--- one more module, and what is said of it
-recursive_more : (forms : List NModule) (all : List (List Bool)) (form : NModule) (marks : List Bool) → AreAllRecursive forms all → AreRecursive form marks
-    → AreAllRecursive (forms ++ form ∷ []) (all ++ marks ∷ [])
-recursive_more [] [] form marks are is = (is, tt)
-recursive_more [] (r ∷ rs) form marks are is = absurd are
-recursive_more (f ∷ fs) [] form marks are is = absurd are
-recursive_more (f ∷ fs) (r ∷ rs) form marks are is = (are.0, recursive_more fs rs form marks are.1 is)
-
--- the same of the next of a list
-pub recursive_step : (forms : List (RustModule.Module ℕ Ref)) (all more : List (Vec Bool Global)) (i : ℕ) (form : RustModule.Module ℕ Ref) (marks : Vec Bool Global)
-    → more ≡ all ++ marks ∷ [] → AreRecursive (nmodule_of form) marks.items → i < length forms → form ≡ get_or forms i form
-    → AreAllRecursive (nmodules_of (take i forms)) (marks_in all) → AreAllRecursive (nmodules_of (take (i + 1) forms)) (marks_in more)
-recursive_step forms all more i form marks pushed is within here are =
+pub one_form_more : (tuning : Tuning) (prefix : List ℕ) (forms : List Form) (steps more : List rust.Step) (i : ℕ) (form : Form) (s : rust.Step)
+    → more ≡ steps ++ s ∷ [] → IsBuiltForm tuning prefix (nmodule_of form) (step_in s) → i < length forms → form ≡ get_or forms i form
+    → AreBuiltForms tuning prefix (nmodules_of (take i forms)) (steps_in steps) → AreBuiltForms tuning prefix (nmodules_of (take (i + 1) forms)) (steps_in more)
+one_form_more tuning prefix forms steps more i form s pushed is within here are =
     let forms_more : nmodules_of (take (i + 1) forms) ≡ nmodules_of (take i forms) ++ nmodule_of form ∷ []
     = ap nmodules_of (take_more forms i form within) ∙ ap (λ f. nmodules_of (take i forms ++ f ∷ [])) (sym here) ∙ map-append nmodule_of (take i forms) (form ∷ []) in
-    let marks_more : marks_in more ≡ marks_in all ++ marks.items ∷ [] = ap marks_in pushed ∙ map-append (λ (m : Vec Bool Global). m.items) all (marks ∷ []) in
-    subst (λ fs. AreAllRecursive fs (marks_in more)) (sym forms_more)
-    (subst (AreAllRecursive (nmodules_of (take i forms) ++ nmodule_of form ∷ [])) (sym marks_more) (recursive_more (nmodules_of (take i forms)) (marks_in all) (nmodule_of form) marks.items are is))
+    let steps_more : steps_in more ≡ steps_in steps ++ step_in s ∷ [] = ap steps_in pushed ∙ map-append step_in steps (s ∷ []) in
+    subst (λ fs. AreBuiltForms tuning prefix fs (steps_in more)) (sym forms_more) (subst (AreBuiltForms tuning prefix (nmodules_of (take i forms) ++ nmodule_of form ∷ [])) (sym steps_more) (form_behind are is))
 
--- what a build does for a first module, and for those behind it
-pub built_first : {X E : Type 0} (r : Result X E) (tuning : Tuning) (prefix : List ℕ) (recursive : List (List Bool)) (all : List Module) (m : Module) (ms : List Module) (old pushed new : List Step)
-    → all ≡ m ∷ ms → pushed ≡ old ++ built_step prefix m (interface_written tuning.grow (first_of recursive) m) (unchanged_log (name_of m)) ∷ [] → OnOk r (new ≡ pushed ++ built_steps tuning prefix (behind_first recursive) ms)
-    → OnOk r (new ≡ old ++ built_steps tuning prefix recursive all)
-built_first (Err e) tuning prefix recursive all m ms old pushed new parts first others = tt
-built_first (Ok x) tuning prefix recursive all m ms old pushed new parts first others =
-    let step = built_step prefix m (interface_written tuning.grow (first_of recursive) m) (unchanged_log (name_of m)) in
-    let rest = built_steps tuning prefix (behind_first recursive) ms in
-    others ∙ ap (λ ss. ss ++ rest) first ∙ append_assoc old (step ∷ []) rest ∙ ap (λ ks. old ++ built_steps tuning prefix recursive ks) (sym parts)
+-- what can be written of the modules of an accepted set, under their headers
+pub set_is_writable : (set : Set) → IsReadySet set → (fs : List Form) → nmodules_of fs ≡ forms_written (nmodules_of set.forms.items) → map hints_kept fs ≡ map hints_kept set.forms.items
+    → All IsWritable (map module_of fs)
+set_is_writable set ready fs forms words =
+    let ms = build_order (modules_in set) in
+    set_writable ms ready.ready.lints (order_keeps IsFormed (modules_in set) ready.ready.formed) (order_names_others (modules_in set)) fs (forms ∙ ap forms_written ready.forms) (words ∙ ready.words)
+
+-- WHAT COMES OF A SET
+
+-- modules that have the forms of a set that lints, under their headers, come of it with logs of no step
+outcome : (ms ks : List Module) → SetLints ms → All IsFormed ms → All NamesOthers ms → AllResolve ks (forms_written (nameless_forms ms)) → Outcome ms
+outcome ms ks lint formed others resolves =
+    let read = set_resolves ms lint in
+    let names : map name_of ks ≡ map name_of ms = written_names ms ks lint resolves in
+    record {
+      written = ks;
+      logs = unchanged_logs (map name_of ks);
+      replayed =
+          subst (AreReplays (map name_of ms) (unchanged_logs (map name_of ks)) (nameless_forms ms)) (ap (λ ws. map (form_written_among ws) (nameless_forms ms)) (form_names read) ∙ sym (resolved_forms resolves))
+          (subst (λ ws. AreReplays (map name_of ms) (unchanged_logs ws) (nameless_forms ms) (map (form_written_among (map name_of ms)) (nameless_forms ms))) (sym names)
+          (replayed (map name_of ms) read formed));
+      faithful = set_faithful ms ks lint others resolves;
+    }
+
+-- the modules that a build writes, one after the other
+record Written (tuning : Tuning) (prefix : List ℕ) (forms : List NModule) (steps : List Step) : Type 0 where
+  modules : List Module
+  resolve : AllResolve modules forms
+  are : AreBuilt tuning prefix forms (unchanged_logs (map name_of modules)) modules steps
+
+all_written : {tuning : Tuning} {prefix : List ℕ} {forms : List NModule} {steps : List Step} → AreBuiltForms tuning prefix forms steps → Written tuning prefix forms steps
+all_written no_forms = record { modules = []; resolve = none_resolve; are = none_built }
+all_written (one_form first rest) =
+    let others = all_written rest in record { modules = first.written ∷ others.modules; resolve = one_resolves first.resolves others.resolve; are = one_built first.built others.are }
+
+is_build : (tuning : Tuning) (prefix : List ℕ) (ms : List Module) (steps : List Step) → SetLints ms → All IsFormed ms → All NamesOthers ms
+    → AreBuiltForms tuning prefix (forms_written (nameless_forms ms)) steps → IsBuild tuning prefix ms steps
+unfolding outcome all_written
+is_build tuning prefix ms steps lint formed others are =
+    let w = all_written are in record {
+      outcome = outcome ms w.modules lint formed others w.resolve;
+      are = subst (λ ns. AreBuilt tuning prefix ns (unchanged_logs (map name_of w.modules)) w.modules steps) (sym (resolved_forms w.resolve)) w.are;
+    }
+
+-- an explanation speaks of the modules as they were read, under their headers
+is_explanation : (ms : List Module) (steps : List Step) → SetLints ms → All IsFormed ms → All NamesOthers ms → steps ≡ map explained_step (unchanged_logs (map word_of (nameless_forms ms)))
+    → IsExplanation ms steps
+unfolding outcome
+is_explanation ms steps lint formed others are =
+    let ks = set_written ms in
+    let resolves = written_resolves ms lint in
+    record {
+      outcome = outcome ms ks lint formed others resolves;
+      spell = all_spell ks (written_are_formed ms lint formed);
+      are = are ∙ ap (λ ws. map explained_step (unchanged_logs ws)) (sym (form_names (set_resolves ms lint)) ∙ sym (written_names ms ks lint resolves));
+    }
+
+explained_logs : (ns : List NModule) → map explained_form ns ≡ map explained_step (unchanged_logs (map word_of ns))
+explained_logs [] = refl
+explained_logs (n ∷ ns) = ap (λ ss. explained_form n ∷ ss) (explained_logs ns)
+
+pub steps_are : (order : Order) (set : Set) (steps : List Step) → IsReadySet set → AreStepsOf order set steps → AreSteps order (build_order (modules_in set)) steps
+steps_are (Building tuning prefix) set steps ready are =
+    let ms = build_order (modules_in set) in
+    is_build tuning prefix ms steps ready.ready.lints (order_keeps IsFormed (modules_in set) ready.ready.formed) (order_names_others (modules_in set))
+    (subst (λ ns. AreBuiltForms tuning prefix (forms_written ns) steps) ready.forms are)
+steps_are (Explaining tuning) set steps ready are =
+    let ms = build_order (modules_in set) in
+    is_explanation ms steps ready.ready.lints (order_keeps IsFormed (modules_in set) ready.ready.formed) (order_names_others (modules_in set))
+    (are ∙ ap (map explained_form) ready.forms ∙ explained_logs (nameless_forms ms))
+steps_are Linting set steps ready is = is ∙ ap (map linted_step) (picked (modules_in set) set.order (build_order (modules_in set)) ready.order)

@@ -5,13 +5,14 @@ use Rattle.fc_syntax.specs.Tree.{Module}
 use Rattle.fc_syntax.specs.declared.fault.Fault.{Fault}
 use Rattle.fc_model.specs.Headers.{name_of}
 use Rattle.fc_model.specs.Planning.{build_order}
-use Rattle.fc_words.specs.Asking.{Asked, Order, Building, Linting, asked}
+use Rattle.fc_words.specs.Asking.{Asked, Order, Building, Explaining, Linting, asked}
+use Rattle.fc_log.specs.declared.log.Log.{Log}
 use Rattle.fc_words.specs.declared.Tuning.{Tuning}
 use Rattle.fc_build.specs.Acceptance.{Accepted, FirstFault}
-use Rattle.fc_build.specs.Building.{AreFaithful, AreSteps, IsBuild, Leaves, Stand}
+use Rattle.fc_build.specs.Building.{AreFaithful, AreSteps, IsBuild, IsReading, Leaves, Stand}
 use Rattle.fc_build.specs.Delivering.{Delivers, IsSameDevice}
 use Rattle.fc_build.specs.Preparing.{IsAccepted, IsProduct, Stops, files_in}
-use Rattle.fc_build.specs.Product.{Step, all_files, linted_step, put_all}
+use Rattle.fc_build.specs.Product.{Step, all_files, explained_step, linted_step, put_all}
 use Rattle.fc_build.specs.Ending.{TellsDelivery, delivery_status, stop_status}
 use Rattle.fc_build.specs.Run.{IsDone, IsMemoryEnd, IsWriteFault, at_a_file, at_file, at_out}
 use Rattle.fc_build.specs.declared.deliver.Delivery.{Delivery}
@@ -63,25 +64,31 @@ written_differ set written faithful = subst AreDistinctWords (sym faithful.names
 
 -- the files of a build stand
 build_stands : (tuning : Tuning) (prefix : List ℕ) (set : List Module) (steps : List Step) (build : IsBuild tuning prefix (build_order set) steps) (held held' : Option FileMap)
-    → Told held held' (λ m m'. m' ≡ put_all (all_files steps) m) → Told held held' (λ m m'. Stand tuning prefix build.written build.logs m')
+    → Told held held' (λ m m'. m' ≡ put_all (all_files steps) m) → Told held held' (λ m m'. Stand tuning prefix build.outcome.written build.outcome.logs m')
 build_stands tuning prefix set steps build None held' told = tt
 build_stands tuning prefix set steps build (Some m) None told = told
 build_stands tuning prefix set steps build (Some m) (Some m') told =
-    stand tuning prefix build.written build.logs steps build.are (written_differ set build.written build.faithful) m m' told
+    let o = build.outcome in stand tuning prefix o.written o.logs steps build.are (written_differ set o.written o.faithful) m m' told
 
--- Lint has no files to write
+-- an explanation and Lint have no files to write
+no_log_files : (ls : List Log) → all_files (map explained_step ls) ≡ []
+no_log_files [] = refl
+no_log_files (l ∷ ls) = no_log_files ls
+
 lint_files : (ms : List Module) → all_files (map linted_step ms) ≡ []
 lint_files [] = refl
 lint_files (m ∷ ms) = lint_files ms
 
-no_files : (order : Order) (ms : List Module) (steps : List Step) → order ≡ Linting → AreSteps order ms steps → all_files steps ≡ []
-no_files (Building tuning prefix) ms steps e are = absurd cc
-no_files Linting ms steps e are = ap all_files are ∙ lint_files ms
+no_files : (order : Order) (ms : List Module) (steps : List Step) → IsReading order → AreSteps order ms steps → all_files steps ≡ []
+no_files (Building tuning prefix) ms steps reading are = absurd reading
+no_files (Explaining tuning) ms steps reading are = ap all_files are.are ∙ no_log_files are.outcome.logs
+no_files Linting ms steps reading are = ap all_files are ∙ lint_files ms
 
 leaves : (order : Order) (set : List Module) (steps : List Step) (are : AreSteps order (build_order set) steps) (held held' : Option FileMap)
     → Told held held' (λ m m'. m' ≡ put_all (all_files steps) m) → (all_files steps ≡ [] → held' ≡ held) → Leaves order (build_order set) steps are held held'
 leaves (Building tuning prefix) set steps are held held' told same = build_stands tuning prefix set steps are held held' told
-leaves Linting set steps are held held' told same = same (no_files Linting (build_order set) steps refl are)
+leaves (Explaining tuning) set steps are held held' told same = same (no_files (Explaining tuning) (build_order set) steps tt are)
+leaves Linting set steps are held held' told same = same (no_files Linting (build_order set) steps tt are)
 
 -- a set of which there is a product has no fault
 pub product_has_no_fault : (words : List (List ℕ)) (held : Option FileMap) (steps : List Step) (P : Type 0) → IsProduct words held steps
@@ -136,10 +143,10 @@ module _ (words : List (List ℕ)) (held mid held' : Option FileMap) (steps : Li
         let all = delivered delivery.Memory is in
         record { stands = at_a_file steps product all.0 all.1 all.2; line = says }
 
-  lints_nothing : (a : Asked) → asked words ≡ Some a → a.order ≡ Linting → all_files steps ≡ []
-  lints_nothing a asks lint =
+  reads_alone : (a : Asked) → asked words ≡ Some a → IsReading a.order → all_files steps ≡ []
+  reads_alone a asks reading =
       let one : product.request ≡ a = asked_one (asked words) product.request a product.input.asks asks in
-      no_files product.request.order (build_order product.set) steps (ap (λ (x : Asked). x.order) one ∙ lint) product.are
+      no_files product.request.order (build_order product.set) steps (subst (λ (x : Asked). IsReading x.order) (sym one) reading) product.are
 
-  pub delivered_lint : (all_files steps ≡ [] → IsSameDevice mid held' mid_writes writes') → (a : Asked) → asked words ≡ Some a → a.order ≡ Linting → IsSameDevice held held' writes writes'
-  delivered_lint go a asks lint = nothing_written go (lints_nothing a asks lint)
+  pub delivered_reading : (all_files steps ≡ [] → IsSameDevice mid held' mid_writes writes') → (a : Asked) → asked words ≡ Some a → IsReading a.order → IsSameDevice held held' writes writes'
+  delivered_reading go a asks reading = nothing_written go (reads_alone a asks reading)

@@ -1,5 +1,5 @@
 -- When a list of files is accepted, and what its first fault is.
-use Rattle.std.specs.Prelude.{◌≡◌, ◌≤◌, ℕ, List, Option, Some, None, length, Err, slice_get}
+use Rattle.std.specs.Prelude.{◌≡◌, ◌≤◌, ◌⊎◌, ℕ, List, Option, Some, None, length, Err, slice_get}
 use Rattle.fc_syntax.specs.Limits.{standard_limits}
 use Rattle.fc_syntax.specs.Tree.{Word, Module}
 use Rattle.fc_syntax.specs.declared.fault.Fault.{Fault}
@@ -48,8 +48,9 @@ pub data FirstFault (files : List (List ℕ)) (held : Holding) (f : Fault) : Typ
   unread : length files ≤ standard_limits.modules → FaultOfReading held f nothing_read files → FirstFault files held f
   faulty : (ms : List Module) → length files ≤ standard_limits.modules → AllReadTo held nothing_read files ms → FaultOfSet ms f → FirstFault files held f
 
--- Files have at most one accepted set and at most one first fault, and never both.
+-- Files have an accepted set or a first fault, at most one of each, and never both.
 pub record HaveOneAnswer (files : List (List ℕ)) (held : Holding) : Type 0 where
+  pub an_answer : ((ms : List Module) × Accepted files held ms) ⊎ ((f : Fault) × FirstFault files held f)
   pub one_set : (ms ns : List Module) → Accepted files held ms → Accepted files held ns → ms ≡ ns
   pub one_fault : (f g : Fault) → FirstFault files held f → FirstFault files held g → f ≡ g
   pub not_both : (ms : List Module) (f : Fault) → Accepted files held ms → FirstFault files held f → ⊥

@@ -1,5 +1,6 @@
 -- What a build does for an accepted set, and what stands after it.
-use Rattle.std.specs.Prelude.{◌≡◌, true, ℕ, Bool, List, [], ◌∷◌, map, Option, Some}
+use Rattle.std.specs.Prelude.{◌≡◌, ⊤, true, ℕ, Bool, List, [], ◌∷◌, map, Option, Some}
+use Rattle.std.specs.List.{All}
 use Rattle.fc_files.specs.Outside.{FileMap, Told}
 use Rattle.fc_syntax.specs.Tree.{Word, Module}
 use Rattle.fc_model.specs.Canonical.{canonical}
@@ -21,9 +22,9 @@ use Rattle.fc_meaning.specs.Laws.{ShowsTheSame}
 use Rattle.fc_reaching.specs.Numbering.{word_of}
 use Rattle.fc_reaching.specs.Recursion.{AreRecursive}
 use Rattle.fc_rows.specs.Replaying.{Replays}
-use Rattle.fc_words.specs.Asking.{Order, Building, Linting}
+use Rattle.fc_words.specs.Asking.{Order, Building, Explaining, Linting}
 use Rattle.fc_words.specs.declared.Tuning.{Tuning}
-use Rattle.fc_build.specs.Product.{Step, built_step, core_name, interface_name, interface_written, linted_step, log_name}
+use Rattle.fc_build.specs.Product.{Step, built_step, core_name, explained_step, interface_name, interface_written, linted_step, log_name}
 
 -- WHAT A MODULE OFFERS
 
@@ -94,19 +95,36 @@ pub data AreBuilt (tuning : Tuning) (prefix : List ℕ) : List NModule → List 
   one_built : {form : NModule} {l : Log} {m : Module} {s : Step} {forms : List NModule} {ls : List Log} {ms : List Module} {steps : List Step} → IsBuilt tuning prefix form l m s
       → AreBuilt tuning prefix forms ls ms steps → AreBuilt tuning prefix (form ∷ forms) (l ∷ ls) (m ∷ ms) (s ∷ steps)
 
--- A build of modules that were read, in the order in which they are built: there are logs, and modules that are their replays and faithful to what was
--- read, and the steps write these modules, their interfaces and the logs.
-pub record IsBuild (tuning : Tuning) (prefix : List ℕ) (read : List Module) (steps : List Step) : Type 0 where
+-- What comes of modules that were read, in the order in which they are built: there are logs, and modules that are their replays and faithful to what was
+-- read.
+pub record Outcome (read : List Module) : Type 0 where
   pub written : List Module
   pub logs : List Log
   pub replayed : AreReplays (map name_of read) logs (nameless_forms read) (nameless_forms written)
   pub faithful : AreFaithful read written
-  pub are : AreBuilt tuning prefix (nameless_forms written) logs written steps
+
+-- a build writes these modules, their interfaces and the logs
+pub record IsBuild (tuning : Tuning) (prefix : List ℕ) (read : List Module) (steps : List Step) : Type 0 where
+  pub outcome : Outcome read
+  pub are : AreBuilt tuning prefix (nameless_forms outcome.written) outcome.logs outcome.written steps
+
+-- an explanation puts the texts of the logs, which spell these
+pub record IsExplanation (read : List Module) (steps : List Step) : Type 0 where
+  pub outcome : Outcome read
+  pub spell : All (λ l. SpellsLog (log_text l) l) outcome.logs
+  pub are : steps ≡ map explained_step outcome.logs
 
 -- the steps that an order asks for, of modules in the order in which they are built
 abbrev pub AreSteps : Order → List Module → List Step → Type 0
 AreSteps (Building tuning prefix) ms steps = IsBuild tuning prefix ms steps
+AreSteps (Explaining tuning) ms steps = IsExplanation ms steps
 AreSteps Linting ms steps = steps ≡ map linted_step ms
+
+-- the orders that only read files
+abbrev pub IsReading : Order → Type 0
+IsReading (Building tuning prefix) = ⊥
+IsReading (Explaining tuning) = ⊤
+IsReading Linting = ⊤
 
 -- WHAT STANDS
 
@@ -134,7 +152,8 @@ pub record Stand (tuning : Tuning) (prefix : List ℕ) (written : List Module) (
   pub interfaces : HoldInterfaces tuning.grow (map (λ w. files (interface_name prefix w)) written) (nameless_forms written) written
   pub logs : HoldLogs (map (λ w. files (log_name prefix w)) written) told
 
--- what is left when all steps are done; Lint leaves the files as they were
+-- what is left when all steps are done; an explanation and Lint leave the files as they were
 abbrev pub Leaves : (order : Order) (read : List Module) (steps : List Step) → AreSteps order read steps → Option FileMap → Option FileMap → Type 0
-Leaves (Building tuning prefix) read steps are held held' = Told held held' (λ m m'. Stand tuning prefix are.written are.logs m')
+Leaves (Building tuning prefix) read steps are held held' = Told held held' (λ m m'. Stand tuning prefix are.outcome.written are.outcome.logs m')
+Leaves (Explaining tuning) read steps are held held' = held' ≡ held
 Leaves Linting read steps are held held' = held' ≡ held

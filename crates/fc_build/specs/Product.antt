@@ -81,6 +81,10 @@ built_step prefix m i l = record {
   line = codes "built " ++ (name_of m ++ 10 ∷ []);
 }
 
+-- an explanation puts the text of a log, and writes nothing
+abbrev pub explained_step : Log → Step
+explained_step l = record { files = []; line = log_text l }
+
 -- Lint writes nothing
 abbrev pub linted_step : Module → Step
 linted_step m = record { files = []; line = codes "ok " ++ (name_of m ++ 10 ∷ []) }

@@ -14,7 +14,7 @@ mod top;
 
 pub use top::run;
 
-/// The files of a list of names, whatever each holds, are at most one accepted set and have at most one first fault, and never both.
+/// The files of a list of names, whatever each holds, are an accepted set or have a first fault: one of these alone, and one set or one fault.
 pub fn files_have_one_answer()
     ensures one { (files : List (List ℕ)) (held : Holding) → HaveOneAnswer files held }
 {}

@@ -1,28 +1,33 @@
 //! Makes the files of the modules of a set, and writes them.
-ghost use Rattle.std.specs.Prelude.{◌≡◌, ◌≤◌, ◌++◌, ◌∷◌, [], IfOk, OnOk, map, slice_get, string_bytes};
-ghost use Rattle.std.specs.List.{filter_map};
+ghost use Rattle.std.specs.Prelude.{◌≡◌, ◌≤◌, ◌++◌, ◌∷◌, [], IfOk, map, slice_get, string_bytes};
+ghost use Rattle.std.specs.List.{All, filter_map};
 ghost use Rattle.fc_syntax.specs.View.{decls_of, module_of};
-ghost use Rattle.fc_model.specs.Headers.{written_of};
-ghost use Rattle.fc_model.specs.NamelessView.{nmodules_of};
+ghost use Rattle.fc_model.specs.Formed.{IsFormed};
+ghost use Rattle.fc_model.specs.NamelessView.{nmodule_of, nmodules_of};
+ghost use Rattle.fc_model.specs.ResolutionRules.{Resolves};
+ghost use Rattle.fc_headers.specs.NamelessHeaders.{form_written_among};
 ghost use Rattle.fc_lattice.specs.View.{sigs_of};
 ghost use Rattle.fc_log.specs.declared.log.Entry.TheVariants as entry_kind;
 ghost use Rattle.fc_words.specs.Asking.{order_of};
 ghost use Rattle.fc_words.specs.Numbers.{IsWithinRanges};
 ghost use Rattle.fc_build.specs.Delivering.{IsSameDevice, WritesAll, step_in, steps_in};
 ghost use Rattle.fc_plan.specs.Modules.{behind};
-ghost use Rattle.fc_build.specs.Judging.{modules_in};
+ghost use Rattle.fc_lint_set.specs.Sets.{hints_kept};
+ghost use Rattle.fc_reaching.specs.Numbering.{word_of};
+ghost use Rattle.fc_build.specs.Judging.{IsReadySet, modules_in};
 ghost use Rattle.fc_build.specs.Product as spec;
 ghost use Rattle.fc_build.specs.Product.{core_output, interface_output, interface_written, log_output, output_of, outputs};
-ghost use Rattle.fc_build.specs.SetSteps as marks;
-ghost use Rattle.fc_build.specs.SetSteps.{AreAllRecursive, AreBuiltOf, AreStepsOf, built_steps, marks_in};
+ghost use Rattle.fc_build.specs.SetSteps.{AreBuiltForms, AreStepsOf, IsBuiltForm, IsWritable, explained_form, forms_written};
 
 use crate::judge::Set;
 use fc_files::{Files, WriteAnswer};
+use fc_headers::form_written;
 use fc_iface::{interface, print_interface};
 use fc_lattice::Sig;
 use fc_log::{Entry, Log, Phase, print};
+use fc_naming::{NotNamed, name_back};
 use fc_plan::in_order;
-use fc_printer::{print_module, written};
+use fc_printer::print_module;
 use fc_reaching::recursive;
 use fc_syntax::{Decl, Memory, Module, NModule, Seq, Text};
 use fc_words::{Command, Tuning};
@@ -55,7 +60,7 @@ pub struct File {
 pub struct Step {
     /// The files that are written, in this order.
     pub files: Vec<File>,
-    /// The line for the output, which is put when they stand.
+    /// What is put on the output when they stand: a line, or the lines of a log.
     pub line: Vec<u8>,
 }
 
@@ -180,8 +185,8 @@ fn line_of(alloc: Global, word: &str, name: &Text) -> Result<Vec<u8>, Memory>
     Ok(line)
 }
 
-/// What a build does for a module under the header that is written.
-fn built_step(
+/// What a build does for a module under the header that is written, of which it is said which declarations reach themselves.
+fn built_module(
     alloc: Global,
     tuning: Tuning,
     prefix: &str,
@@ -196,6 +201,50 @@ fn built_step(
     Ok(Step { files, line })
 }
 
+/// The named module in which a nameless one is written.
+fn named(alloc: Global, form: &NModule) -> Result<Module, Memory>
+    requires { IsWritable (module_of form.now) }
+    ensures resolves { IfOk result (λ m. Resolves (module_of m) (nmodule_of form.now)) }
+    ensures formed { IfOk result (λ m. IsFormed (module_of m)) }
+{
+    match name_back(alloc, form) {
+        Ok(m) => Ok(m),
+        Err(NotNamed::Memory) => Err(Memory),
+        Err(NotNamed::Unscoped) => unreachable!(),
+    }
+}
+
+/// What a build does for a module, given by its nameless form under the header that is written.
+fn built_form(alloc: Global, tuning: Tuning, prefix: &str, form: &NModule) -> Result<Step, Memory>
+    requires grow { tuning.grow ≤ 10000 }
+    requires writable { IsWritable (module_of form.now) }
+    ensures { IfOk result (λ s. IsBuiltForm tuning prefix.now (nmodule_of form.now) (step_in s)) }
+{
+    let recursive = recursive(alloc, form)?;
+    let m = named(alloc, form)?;
+    built_module(alloc, tuning, prefix, recursive.as_slice(), &m)
+}
+
+/// What a build does for modules, one after the other.
+#[tactic(auto, using(crate::proofs::Products::one_form_more, crate::proofs::Products::writable_at))]
+fn built_forms(
+    alloc: Global,
+    tuning: Tuning,
+    prefix: &str,
+    forms: &[NModule],
+) -> Result<Vec<Step>, Memory>
+    requires grow { tuning.grow ≤ 10000 }
+    requires writable { All IsWritable (map module_of forms.now) }
+    ensures { IfOk result (λ steps. AreBuiltForms tuning prefix.now (nmodules_of forms.now) (steps_in steps.items)) }
+{
+    let mut steps = Vec::new(alloc);
+    for form in forms {
+        let step = built_form(alloc, tuning, prefix, form)?;
+        steps.push(step)?;
+    }
+    Ok(steps)
+}
+
 /// What Lint does for a module.
 fn linted_step(alloc: Global, m: &Module) -> Result<Step, Memory>
     ensures { IfOk result (λ s. step_in s ≡ spec.linted_step (module_of m.now)) }
@@ -207,103 +256,69 @@ fn linted_step(alloc: Global, m: &Module) -> Result<Step, Memory>
     })
 }
 
-/// What is said of the first module; nothing where none is left.
-fn first_of(recursive: &[Vec<bool>]) -> &[bool]
-    ensures { result.now ≡ marks.first_of (marks_in recursive.now) }
+/// The names of modules.
+fn names_of(alloc: Global, forms: &[NModule]) -> Result<Seq<Text>, Memory>
+    ensures { IfOk result (λ names. names ≡ map word_of (nmodules_of forms.now)) }
 {
-    match recursive {
-        [] => &[],
-        [first, ..] => first.as_slice(),
+    let mut names = Seq::new(alloc);
+    for form in forms {
+        names.push(form.name.copy(alloc)?)?;
     }
+    Ok(names)
 }
 
-/// What is said of the modules behind the first.
-fn behind_first(recursive: &[Vec<bool>]) -> &[Vec<bool>]
-    ensures { marks_in result.now ≡ marks.behind_first (marks_in recursive.now) }
-{
-    match recursive {
-        [] => recursive,
-        [_, others @ ..] => others,
-    }
-}
-
-/// Puts what a build does for modules, one after the other, behind other steps.
-fn add_built(
-    alloc: Global,
-    tuning: Tuning,
-    prefix: &str,
-    recursive: &[Vec<bool>],
-    modules: &[&Module],
-    steps: &mut Vec<Step>,
-) -> Result<(), Memory>
-    requires { tuning.grow ≤ 10000 }
-    ensures { OnOk result (steps_in steps.new.items ≡ steps_in steps.old.items ++ built_steps tuning prefix.now (marks_in recursive.now) (behind modules.now)) }
-{
-    match modules {
-        [] => Ok(()),
-        [m, others @ ..] => {
-            steps.push(built_step(alloc, tuning, prefix, first_of(recursive), *m)?)?;
-            add_built(
-                alloc,
-                tuning,
-                prefix,
-                behind_first(recursive),
-                others,
-                steps,
-            )
-        }
-    }
-}
-
-/// For each module, given by its nameless form, which of its declarations are definitions that reach themselves.
-#[tactic(auto, using(crate::proofs::Products::recursive_step))]
-fn recursive_in(alloc: Global, forms: &[NModule]) -> Result<Vec<Vec<bool>>, Memory>
-    ensures { IfOk result (λ all. AreAllRecursive (nmodules_of forms.now) (marks_in all.items)) }
+/// Modules, each under the header that is written among modules of these names. They keep the words of their binders.
+fn under_headers(alloc: Global, order: &[Text], forms: Vec<NModule>) -> Result<Vec<NModule>, Memory>
+    ensures forms { IfOk result (λ all. nmodules_of all.items ≡ map (form_written_among order.now) (nmodules_of forms.items)) }
+    ensures words { IfOk result (λ all. map hints_kept all.items ≡ map hints_kept forms.items) }
 {
     let mut all = Vec::new(alloc);
     for form in forms {
-        let marks = recursive(alloc, form)?;
-        all.push(marks)?;
-    }
-    Ok(all)
-}
-
-/// The modules, each under the header that is written.
-fn all_written(alloc: Global, modules: Vec<Module>) -> Result<Vec<Module>, Memory>
-    ensures { IfOk result (λ all. map module_of all.items ≡ map written_of (map module_of modules.items)) }
-{
-    let mut all = Vec::new(alloc);
-    for m in modules {
-        let whole = written(alloc, m)?;
+        let whole = form_written(alloc, order, form)?;
         all.push(whole)?;
     }
     Ok(all)
 }
 
-/// What a build does for each module of an accepted set, in the order in which they are built. The memory of nameless forms is given back before
-/// any text is made.
+/// What a build does for each module of an accepted set, in the order in which they are built. The modules as they were read are gone before
+/// any is written.
 fn built(alloc: Global, tuning: Tuning, prefix: &str, set: Set) -> Result<Vec<Step>, Memory>
-    requires { tuning.grow ≤ 10000 }
-    ensures { IfOk result (λ steps. AreBuiltOf tuning prefix.now set (steps_in steps.items)) }
+    requires grow { tuning.grow ≤ 10000 }
+    requires ready { IsReadySet set }
+    ensures { IfOk result (λ steps. AreBuiltForms tuning prefix.now (forms_written (nmodules_of set.forms.items)) (steps_in steps.items)) }
 {
     let Set {
         modules,
-        order,
+        order: _,
         forms,
     } = set;
-    let recursive = recursive_in(alloc, forms.as_slice())?;
-    drop(forms);
-    let modules = all_written(alloc, modules)?;
-    let ordered = in_order(alloc, modules.as_slice(), order.as_slice())?;
+    drop(modules);
+    let names = names_of(alloc, forms.as_slice())?;
+    let forms = under_headers(alloc, names.as_slice(), forms)?;
+    built_forms(alloc, tuning, prefix, forms.as_slice())
+}
+
+/// What an explanation does for a module, given by its nameless form.
+fn explained_step(alloc: Global, form: &NModule) -> Result<Step, Memory>
+    ensures { IfOk result (λ s. step_in s ≡ explained_form (nmodule_of form.now)) }
+{
+    let log = unchanged_log(alloc, &form.name)?;
+    let line = print(alloc, &log)?;
+    Ok(Step {
+        files: Vec::new(alloc),
+        line,
+    })
+}
+
+/// What an explanation does for modules, one after the other.
+fn explained(alloc: Global, forms: &[NModule]) -> Result<Vec<Step>, Memory>
+    ensures { IfOk result (λ steps. steps_in steps.items ≡ map explained_form (nmodules_of forms.now)) }
+{
     let mut steps = Vec::new(alloc);
-    add_built(
-        alloc,
-        tuning,
-        prefix,
-        recursive.as_slice(),
-        ordered.as_slice(),
-        &mut steps,
-    )?;
+    for form in forms {
+        let step = explained_step(alloc, form)?;
+        steps.push(step)?;
+    }
     Ok(steps)
 }
 
@@ -329,11 +344,13 @@ fn linted(alloc: Global, set: Set) -> Result<Vec<Step>, Memory>
 
 /// What is done for each module of an accepted set, in the order in which they are built.
 pub(crate) fn steps_for(alloc: Global, command: Command<'_>, set: Set) -> Result<Vec<Step>, Memory>
-    requires { IsWithinRanges command }
+    requires within { IsWithinRanges command }
+    requires ready { IsReadySet set }
     ensures { IfOk result (λ steps. AreStepsOf (order_of command.entry) set (steps_in steps.items)) }
 {
     match command {
         Command::Build(tuning, prefix) => built(alloc, tuning, prefix, set),
+        Command::Why(_) => explained(alloc, set.forms.as_slice()),
         Command::Lint => linted(alloc, set),
     }
 }

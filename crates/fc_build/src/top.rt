@@ -4,8 +4,9 @@ ghost use Rattle.fc_files.specs.Outside.{Rose};
 ghost use Rattle.fc_syntax.specs.Tree.{Module as ModuleTree};
 ghost use Rattle.fc_syntax.specs.declared.fault.Fault.{Fault};
 ghost use Rattle.fc_build.specs.Acceptance.{Accepted, FirstFault};
-ghost use Rattle.fc_words.specs.Asking.{Asked, Linting, asked, texts};
+ghost use Rattle.fc_words.specs.Asking.{Asked, asked, texts};
 ghost use Rattle.fc_words.specs.Plain.{IsPlain};
+ghost use Rattle.fc_build.specs.Building.{IsReading};
 ghost use Rattle.fc_build.specs.Delivering.{IsSameDevice};
 ghost use Rattle.fc_build.specs.Lines.{Gets, usage_line};
 ghost use Rattle.fc_build.specs.Preparing.{files_in};
@@ -20,8 +21,8 @@ use std::alloc::Global;
 /// Does what the words of a command line ask, over any files and streams, and answers the status of the program.
 ///
 /// `build` reads all modules of a set, in the order of the words, judges them, and only then writes the canonical text and the interface of
-/// each, in the order in which they are built, and puts `built` with its name on `out` behind its files. `lint` reads and judges alike, writes
-/// nothing, and puts `ok` with the name of each. The statuses are 0 done, 1 refused, 2 usage, 3 a read failed, 4 a write or a put on
+/// each, in the order in which they are built, and puts `built` with its name on `out` behind its files. `why` reads and judges alike, writes nothing, and
+/// puts the log of each on `out`. `lint` reads and judges alike, writes nothing, and puts `ok` with the name of each. The statuses are 0 done, 1 refused, 2 usage, 3 a read failed, 4 a write or a put on
 /// `out` failed, 5 out of memory; each but 0 puts one line on `err`, or a prefix of it where a put there fails, and 0 puts nothing there.
 pub fn run<F: Files, O: Sink, E: Sink>(
     alloc: Global,
@@ -58,8 +59,8 @@ pub fn run<F: Files, O: Sink, E: Sink>(
     // on 1, 2 and 3 no file was written and nothing was put
     ensures untouched { (result ≡ 1) ⊎ ((result ≡ 2) ⊎ (result ≡ 3)) → IsUntouched (F.held files.old) (F.held files.new) (F.write_faults files.old) (F.write_faults files.new) (O.taken out.old) (O.taken out.new) (O.faults out.old) (O.faults out.new) }
 
-    // Lint writes no file, whatever the answer
-    ensures lint_writes_nothing { (a : Asked) → asked (texts words.now) ≡ Some a → a.order ≡ Linting
+    // an explanation and Lint write no file, whatever the answer
+    ensures writes_nothing { (a : Asked) → asked (texts words.now) ≡ Some a → IsReading a.order
         → IsSameDevice (F.held files.old) (F.held files.new) (F.write_faults files.old) (F.write_faults files.new) }
 
     // a set with a fault is refused, where no read failed

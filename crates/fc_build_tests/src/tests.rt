@@ -15,6 +15,10 @@ use std::test::Fail;
 
 const HEADER: &[u8] = b"(module M (imports) (exports))";
 
+/// The log of `M`, to which no step is taken.
+const LOG: &[u8] =
+    b"log 1 M\nmark simplify\nmark special\nmark simplify\nmark float-out\nmark simplify\nmark float-in\nmark strict\nmark split\nmark simplify\n";
+
 /// What a run gave: its status, what the streams took, and the files after it.
 #[derive(Drop)]
 struct Ran {
@@ -39,7 +43,7 @@ const SOUND: Devices<'static> = Devices {
     calls: &[],
     out_puts: &[],
     err_puts: &[],
-    out_room: 100,
+    out_room: 500,
     err_room: 100,
 };
 
@@ -105,8 +109,16 @@ fn are_as_told(rt: &impl Abort, alloc: Global, rows: &[Row<'_>]) -> Result<(), F
 #[test]
 fn each_status_has_its_line(rt: HostRuntime) -> Result<(), Fail> {
     let usage: &[u8] = b"usage\n";
-    let rows: [Row<'_>; 12] = [
+    let rows: [Row<'_>; 15] = [
         (&["build", "M.fc"], HEADER, 0, b"built M\n", b""),
+        (&["why", "M.fc"], HEADER, 0, LOG, b""),
+        (
+            &["why", "--small=5", "--grow", "40", "M.fc"],
+            HEADER,
+            0,
+            LOG,
+            b"",
+        ),
         (&["lint", "M.fc"], HEADER, 0, b"ok M\n", b""),
         (
             &["build", "--out", "b/", "--ticks=0", "M.fc"],
@@ -117,6 +129,13 @@ fn each_status_has_its_line(rt: HostRuntime) -> Result<(), Fail> {
         ),
         (
             &["build", "C.fc"],
+            HEADER,
+            1,
+            b"",
+            b"refused 10 Missing C.fc - -\n",
+        ),
+        (
+            &["why", "C.fc"],
             HEADER,
             1,
             b"",
@@ -146,7 +165,7 @@ fn each_status_has_its_line(rt: HostRuntime) -> Result<(), Fail> {
             usage,
         ),
         (&["lint", "--ticks", "5", "M.fc"], HEADER, 2, b"", usage),
-        (&["why", "M.fc"], HEADER, 2, b"", usage),
+        (&["why", "--out", "b/", "M.fc"], HEADER, 2, b"", usage),
         (&["--help", "build"], HEADER, 2, b"", usage),
     ];
     are_as_told(&rt, rt.alloc(), rows.as_slice())
@@ -537,13 +556,15 @@ fn a_byte_more_than_a_file_may_have_is_too_long(rt: HostRuntime) -> Result<(), F
 }
 
 #[test]
-fn lint_writes_no_file(rt: HostRuntime) -> Result<(), Fail> {
+fn lint_and_why_write_no_file(rt: HostRuntime) -> Result<(), Fail> {
     let alloc = rt.alloc();
-    let mut ran = run_over(&rt, alloc, &["lint", "M.fc"], HEADER, &SOUND)?;
-    assert_eq!(rt; ran.status, 0);
-    assert!(rt; holds(alloc, &mut ran, "./M.opt.fc", None)?);
-    assert!(rt; holds(alloc, &mut ran, "./M.fci", None)?);
-    assert!(rt; holds(alloc, &mut ran, "./M.why", None)?);
+    for command in ["lint", "why"] {
+        let mut ran = run_over(&rt, alloc, &[command, "M.fc"], HEADER, &SOUND)?;
+        assert_eq!(rt; ran.status, 0);
+        assert!(rt; holds(alloc, &mut ran, "./M.opt.fc", None)?);
+        assert!(rt; holds(alloc, &mut ran, "./M.fci", None)?);
+        assert!(rt; holds(alloc, &mut ran, "./M.why", None)?);
+    }
     Ok(())
 }
 

@@ -12,7 +12,10 @@ mod piece;
 mod word;
 
 use crate::piece::piece_at;
-pub use crate::word::{is_lower_name, is_module_name, is_module_part, is_upper_name, last_part};
+pub use crate::word::{
+    is_literal, is_lower_name, is_module_name, is_module_part, is_number, is_upper_name, last_part,
+    literal_value, number, without_minus,
+};
 use fc_syntax::{Memory, Seq, Token};
 use std::alloc::Global;
 use thiserror::Error;

@@ -186,15 +186,15 @@ fn is_digits(word: &[u8]) -> bool
     !word.is_empty() && all_digits(word)
 }
 
-/// One to nine decimal digits.
-fn is_number(word: &[u8]) -> bool
+/// Whether a word is a number: one to nine decimal digits. Takes no memory.
+pub fn is_number(word: &[u8]) -> bool
     ensures { result ≡ spec.is_number word.now }
 {
     word.len() <= 9 && is_digits(word)
 }
 
-/// The number that one to nine decimal digits write, `None` for any other word.
-fn number(word: &[u8]) -> Option<u32>
+/// The number that one to nine decimal digits write, `None` for any other word. Takes no memory.
+pub fn number(word: &[u8]) -> Option<u32>
     ensures { SomeIff result (IsTrue (spec.is_number word.now)) (digits_value 10 word.now) }
 {
     if !is_number(word) {
@@ -206,8 +206,8 @@ fn number(word: &[u8]) -> Option<u32>
     }
 }
 
-/// A numeral without the minus before it, where there is one.
-fn without_minus(numeral: &[u8]) -> &[u8]
+/// A numeral without the minus before it, where there is one. Takes no memory.
+pub fn without_minus(numeral: &[u8]) -> &[u8]
     ensures { result.now ≡ spec.without_minus numeral.now }
 {
     match numeral.split_first() {
@@ -216,8 +216,8 @@ fn without_minus(numeral: &[u8]) -> &[u8]
     }
 }
 
-/// A minus where there is one, decimal digits, `#`.
-fn is_literal(word: &[u8]) -> bool
+/// Whether a word is a literal: a minus where there is one, decimal digits, `#`. Takes no memory.
+pub fn is_literal(word: &[u8]) -> bool
     ensures { result ≡ spec.is_literal word.now }
 {
     match word.split_last() {
@@ -226,8 +226,8 @@ fn is_literal(word: &[u8]) -> bool
     }
 }
 
-/// The value of a literal, `None` beyond 64 bits.
-fn literal_value(word: &[u8]) -> Option<i64>
+/// The value of a literal, `None` beyond 64 bits. Takes no memory.
+pub fn literal_value(word: &[u8]) -> Option<i64>
     requires { IsTrue (spec.is_literal word.now) }
     ensures { SomeIff result (IsTrue (spec.is_in_range word.now)) (spec.literal_value word.now) }
 {

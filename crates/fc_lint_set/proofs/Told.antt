@@ -1,8 +1,9 @@
 -- How what the code answers of a module meets the judgement of a set.
-use Rattle.std.proofs.Common.{◌≡◌, ◌∙◌, ℕ, ◌+◌, ◌<◌, ◌≤◌, Bool, true, false, List, [], ◌∷◌, ◌++◌, append_assoc, append-nil, arith, drop, get_or, length, map, slice_get, Option, Some, Result, Ok, Err, refl, sym, ap, subst}
-use Rattle.std.proofs.lemmas.List.{drop_all, length-map}
+use Rattle.std.proofs.Common.{◌≡◌, ◌∙◌, ℕ, ◌+◌, ◌<◌, ◌≤◌, Bool, true, false, List, [], ◌∷◌, ◌++◌, append_assoc, append-nil, arith, drop, get_or, length, map, slice_get, take, Option, Some, Result, Ok, Err, refl, sym, ap, subst}
+use Rattle.std.proofs.lemmas.List.{drop_all, length-map, map-append, take_more}
 use Rattle.std.proofs.lemmas.Option.{slice_get-map, slice_get_read, slice_get_within}
 use Rattle.std.specs.Option.{option_map}
+use Rattle.fc_syntax.specs.Hints.{module_hints}
 use Rattle.fc_syntax.specs.Tree.{Word, Module}
 use Rattle.fc_syntax.specs.View.{module_of}
 use Rattle.fc_syntax.specs.declared.module.Module as rust
@@ -20,7 +21,7 @@ use Rattle.fc_model.specs.declared.flaw.Flaw.{Flaw}
 use Rattle.fc_model.specs.declared.flaw.Flawed.{Flawed}
 use Rattle.fc_model.specs.declared.flaw.Flawed.TheVariants as flawed
 use Rattle.fc_model.proofs.Lists.{drop_item}
-use Rattle.fc_lint_set.specs.Sets.{AllNamed, AreNames, EndsForms, ResolveBehind, SetRefuses, StandsInModule, names_among, names_judged}
+use Rattle.fc_lint_set.specs.Sets.{AllNamed, AreNames, EndsForms, ResolveBehind, SetRefuses, StandsInModule, hints_kept, names_among, names_judged}
 use Rattle.fc_lint_set.specs.declared.sets.Naming.{Naming}
 use Rattle.fc_lint_set.specs.declared.sets.Naming.TheVariants as naming
 use Rattle.fc_plan.specs.Modules.{behind}
@@ -146,6 +147,17 @@ pub named_step : (modules : List Referred) (found : List NModule) (i : ℕ) (r :
 named_step modules found i r k low is here so_far ks h =
     let left : behind (drop i modules) ≡ module_of r.now ∷ behind (drop (i + 1) modules) = ap behind (drop_item modules i r low is) in
     subst (ResolveBehind [] (behind modules)) (sym (append_assoc found (k ∷ []) ks)) (so_far (k ∷ ks) (subst (λ ms. ResolveBehind found ms (k ∷ ks)) (sym left) (here, h)))
+
+-- one form more that keeps the words of its module
+pub words_step : (modules : List Referred) (forms : List Form) (i : ℕ) (r : Referred) (k : Form) → i < length modules → r ≡ get_or modules i r
+    → map hints_kept forms ≡ map module_hints (behind (take i modules)) → hints_kept k ≡ module_hints (module_of r.now)
+    → map hints_kept (forms ++ k ∷ []) ≡ map module_hints (behind (take (i + 1) modules))
+words_step modules forms i r k low is so_far words =
+    let ms : List Module = behind (take i modules) in
+    let more : behind (take (i + 1) modules) ≡ ms ++ module_of r.now ∷ []
+    = ap behind (take_more modules i r low ∙ ap (λ m. take i modules ++ m ∷ []) (sym is)) ∙ map-append (λ m. module_of m.now) (take i modules) (r ∷ []) in
+    map-append hints_kept forms (k ∷ []) ∙ ap (λ w. map hints_kept forms ++ w ∷ []) words ∙ ap (λ ws. ws ++ module_hints (module_of r.now) ∷ []) so_far
+    ∙ sym (map-append module_hints ms (module_of r.now ∷ [])) ∙ sym (ap (map module_hints) more)
 
 -- where all are found, nothing is still to come
 pub named_all : (modules : List Referred) (found : List NModule) (i : ℕ) → length modules ≤ i

@@ -1,6 +1,10 @@
 -- How an answer of the code meets the judgement of a set.
-use Rattle.std.specs.Prelude.{◌≡◌, ⊤, ℕ, true, List, [], ◌∷◌, ◌++◌, Option, Some, None, drop, length, slice_get, Result, Ok, Err}
+use Rattle.std.specs.Prelude.{◌≡◌, ⊤, ℕ, true, List, [], ◌∷◌, ◌++◌, Option, Some, None, drop, length, map, slice_get, Result, Ok, Err}
+use Rattle.fc_syntax.specs.Hints.{module_hints}
 use Rattle.fc_syntax.specs.Tree.{Word, Module}
+use Rattle.fc_syntax.specs.View.{module_of}
+use Rattle.fc_syntax.specs.declared.module.Module as rust
+use Rattle.fc_syntax.specs.declared.ty.Ref.{Ref}
 use Rattle.fc_model.specs.Faulting.{F, and_then}
 use Rattle.fc_model.specs.Linting.{Done, done, InModule, In, modules_judged, nameless_forms, offers_of}
 use Rattle.fc_model.specs.Nameless.{NModule}
@@ -43,6 +47,10 @@ abbrev pub EndsForms : List Module → ℕ → Option Flaw → Type 0
 EndsForms ms count None = count ≡ length ms
 EndsForms ms count (Some f) = (m : Module) × (slice_get ms count ≡ Some m) × (resolved_or_fault m ≡ Err (fault_of f))
 
+-- the words of binders that a nameless form keeps
+abbrev pub hints_kept : rust.Module ℕ Ref → List Word
+hints_kept n = module_hints (module_of n)
+
 -- THE NAMES OF IMPORTED MODULES
 
 -- the nameless forms of modules, each of which names of those before it what they have for others
@@ -74,3 +82,4 @@ pub record AreForms (ms : List Module) (found : Forms) : Type 0 where
   pub forms : nmodules_of found.modules.items ≡ nameless_forms ms
   pub ends : EndsForms ms (length found.modules.items) found.flaw
   pub named : found.named ≡ true → AllNamed (nmodules_of found.modules.items) ms
+  pub words : found.flaw ≡ None → map hints_kept found.modules.items ≡ map module_hints ms

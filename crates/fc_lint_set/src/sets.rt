@@ -1,6 +1,7 @@
 //! Lint of a set of modules.
-ghost use Rattle.std.specs.Prelude.{◌≡◌, [], true, false, IfOk, IfSome, OnOk, Some, drop, length, map, slice_get};
+ghost use Rattle.std.specs.Prelude.{◌≡◌, [], true, false, IfOk, IfSome, OnOk, None, Some, drop, length, map, slice_get};
 ghost use Rattle.std.specs.List.{filter_map};
+ghost use Rattle.fc_syntax.specs.Hints.{module_hints};
 ghost use Rattle.fc_syntax.specs.View.{module_of};
 ghost use Rattle.fc_model.specs.Faulting.{and_then};
 ghost use Rattle.fc_model.specs.Kinding.{decls_at};
@@ -10,7 +11,7 @@ ghost use Rattle.fc_model.specs.Says.{Says};
 ghost use Rattle.fc_types.specs.ModuleViews.{modules_of};
 ghost use Rattle.fc_type_table.specs.TypeTables.{modules_in, nodes_of};
 ghost use Rattle.fc_lint_context.specs.DeclaredViews.{AreRead, modules_read};
-ghost use Rattle.fc_lint_set.specs.Sets.{AreForms, AreNames, ResolveBehind, SaysBefore, SetSays, StandsInModule, names_among, names_judged};
+ghost use Rattle.fc_lint_set.specs.Sets.{AreForms, AreNames, ResolveBehind, SaysBefore, SetSays, StandsInModule, hints_kept, names_among, names_judged};
 ghost use Rattle.fc_plan.specs.Modules.{behind};
 
 use crate::right_sides::lint_rights;
@@ -75,9 +76,10 @@ fn in_module(alloc: Global, m: &Module, flawed: Flawed) -> SetFlawed
 }
 
 /// The nameless forms of modules each of which names those before it alone, and of these what they have for others; `None` where a name of
-/// some module is a fault, or of a module that is not before it.
+/// some module is a fault, or of a module that is not before it. The forms keep the words of binders.
 fn named_forms(alloc: Global, modules: &[&Module]) -> Result<Option<Vec<NModule>>, Memory>
-    ensures { IfOk result (λ found. IfSome found (λ forms. ResolveBehind [] (behind modules.now) (nmodules_of forms.items))) }
+    ensures forms { IfOk result (λ found. IfSome found (λ forms. ResolveBehind [] (behind modules.now) (nmodules_of forms.items))) }
+    ensures words { IfOk result (λ found. IfSome found (λ forms. map hints_kept forms.items ≡ map module_hints (behind modules.now))) }
 {
     let mut offers = Offers::none(alloc);
     let mut forms = Vec::new(alloc);
@@ -262,6 +264,7 @@ fn ended(alloc: Global, modules: &[&Module], forms: Forms) -> Result<Vec<NModule
     requires { AreForms (behind modules.now) forms }
     ensures says { SetSays result (modules_judged (nmodules_of forms.modules.items) (drop (length forms.modules.items) (behind modules.now))) }
     ensures forms { IfOk result (λ found. found.items ≡ forms.modules.items) }
+    ensures whole { IfOk result (λ _. forms.flaw ≡ None) }
 {
     let Forms {
         modules: found,
@@ -281,6 +284,7 @@ fn ended(alloc: Global, modules: &[&Module], forms: Forms) -> Result<Vec<NModule
 fn lint_picked(alloc: Global, modules: &[&Module]) -> Result<Vec<NModule>, SetFlawed>
     ensures says { SetSays result (set_judged (behind modules.now)) }
     ensures forms { IfOk result (λ forms. nmodules_of forms.items ≡ nameless_forms (behind modules.now)) }
+    ensures words { IfOk result (λ forms. map hints_kept forms.items ≡ map module_hints (behind modules.now)) }
 {
     let forms = forms_of_modules(alloc, modules)?;
     lint_over(alloc, modules, &forms)?;
@@ -291,7 +295,7 @@ fn lint_picked(alloc: Global, modules: &[&Module]) -> Result<Vec<NModule>, SetFl
 /// each against all: of its own names, of its exported and hidden words, of the names of imports, which have to be words that their
 /// modules export or hide, of its type declarations, of the types of its definitions and of their right sides, in this order and module
 /// after module. Else the first premise that fails, with the name of its module, its declaration and the part numbers there; an export
-/// without a declaration stands in none. A form that no rule is for is `BadForm`.
+/// without a declaration stands in none. A form that no rule is for is `BadForm`. The forms keep the words of the binders of their modules.
 pub fn lint_set(
     alloc: Global,
     modules: &[Module],
@@ -299,6 +303,7 @@ pub fn lint_set(
 ) -> Result<Vec<NModule>, SetFlawed>
     ensures says { SetSays result (set_judged (filter_map (slice_get (map module_of modules.now)) order.now)) }
     ensures forms { IfOk result (λ forms. nmodules_of forms.items ≡ nameless_forms (filter_map (slice_get (map module_of modules.now)) order.now)) }
+    ensures words { IfOk result (λ forms. map hints_kept forms.items ≡ map module_hints (filter_map (slice_get (map module_of modules.now)) order.now)) }
 {
     let found = in_order(alloc, modules, order)?;
     lint_picked(alloc, found.as_slice())

@@ -8,11 +8,12 @@ use Rattle.std.proofs.lemmas.Bool.Decides.{nat_tests}
 use Rattle.std.proofs.lemmas.Slice.Eq.{bytes_eq-Decides}
 use Rattle.fc_syntax.specs.Tokens.{ends_with_hash, is_digits, is_dot, is_literal, is_number, is_plain, without_hash, without_minus}
 use Rattle.fc_lex.proofs.Printed.{digits_plain}
+use Rattle.fc_printer.proofs.ModuleNames.{whole_is_plain}
 use Rattle.fc_log.specs.declared.log.Phase.{Phase}
 use Rattle.fc_log.specs.declared.log.Row.{Row}
 use Rattle.fc_log.specs.Grammar.{is_part_number, is_path, is_written_literal, no_leading_zero}
 use Rattle.fc_log.specs.Names.{phase_of, phase_text, phases, row_of, row_text, rows}
-use Rattle.fc_log.proofs.Plain.{phase_plain, row_plain, whole_is_plain}
+use Rattle.fc_log.proofs.Plain.{phase_plain, row_plain}
 
 -- WORDS THAT MAY STAND
 

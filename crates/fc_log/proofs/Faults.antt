@@ -1,5 +1,5 @@
 -- What is told of a text is its first fault.
-use Rattle.std.proofs.Common.{◌≡◌, ℕ, ◌-◌, List, [], ◌∷◌, length, take, drop, refl, sym, ap, subst, ◌∙◌, length-drop, Some, None}
+use Rattle.std.proofs.Common.{◌≡◌, ℕ, ◌-◌, List, length, take, drop, refl, sym, ap, subst, ◌∙◌, length-drop, Some, None}
 use Rattle.std.proofs.Math.Seq.{take-length}
 use Rattle.std.proofs.lemmas.List.{drop-map, length-map}
 use Rattle.fc_syntax.specs.Tokens.{ByteFault}
@@ -8,11 +8,11 @@ use Rattle.fc_syntax.specs.declared.fault.Refusal.{Refusal}
 use Rattle.fc_syntax.specs.declared.fault.Refusal.TheVariants as refusal
 use Rattle.fc_log.specs.declared.cut.Piece.{Piece}
 use Rattle.fc_log.specs.declared.tokens.Stop.TheVariants as stop
-use Rattle.fc_log.specs.Grammar.{LogToken, AWord, ALineEnd, Stand, AtStart, BehindPath, Outcome, Got, Stuck, reads}
+use Rattle.fc_log.specs.Grammar.{LogToken, Stand, AtStart, BehindPath, Outcome, Got, Stuck, reads}
 use Rattle.fc_log.specs.Reading.{Tells, stop_of, tokens_in}
 use Rattle.fc_log.specs.Seen.{seen, seen_all}
-use Rattle.fc_log.specs.Stopping.{IsRefusalAt, answer_kind}
-use Rattle.fc_log.specs.Texts.{FirstLogFault, of_form, IsLogRefusal, bad_byte_from, byte_of, cuts_of, log_tokens_of, stuck_at, stuck_kind}
+use Rattle.fc_log.specs.Stopping.{IsRefusalAt}
+use Rattle.fc_log.specs.Texts.{FirstLogFault, of_form, IsLogRefusal, answer_kind, bad_byte_from, byte_of, cuts_of, log_tokens_of, stuck_at, stuck_kind}
 
 pub told : (file bytes : List ℕ) (e : ByteFault) (r : Refusal) → FirstLogFault bytes e → IsRefusalAt file e.kind e.at r → IsLogRefusal file bytes r
 told file bytes e refusal.Memory f h = tt
@@ -23,9 +23,7 @@ form_at (BehindPath m es d p) n left ts h = absurd (cc)
 form_at s n left ts h = (cc, refl)
 
 answer_at : (s : Stand) (n left : ℕ) (ts : List LogToken) → stop_of (Stuck s n) ≡ Some (stop.Answer left) → (n ≡ left) × (stuck_kind s ts ≡ answer_kind ts)
-answer_at (BehindPath m es d p) n left [] h = (cc, refl)
-answer_at (BehindPath m es d p) n left (AWord w ∷ ts) h = (cc, refl)
-answer_at (BehindPath m es d p) n left (ALineEnd ∷ ts) h = (cc, refl)
+answer_at (BehindPath m es d p) n left ts h = (cc, refl)
 answer_at s n left ts h = absurd (cc)
 
 -- where the tokens stop

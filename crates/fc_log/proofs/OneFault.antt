@@ -18,7 +18,8 @@ use Rattle.fc_log.specs.Texts.{of_byte, of_form, bad_byte_from, is_log_byte}
 use Rattle.fc_log.proofs.Clean.{literal_word_plain, path_word_plain, phase_word_plain, row_word_plain, same_plain}
 use Rattle.fc_log.proofs.Lines.{split_on, tokens_of_text}
 use Rattle.fc_log.proofs.OneMore.{reads_on}
-use Rattle.fc_log.proofs.Plain.{lower_plain, module_plain}
+use Rattle.fc_log.proofs.Plain.{lower_plain}
+use Rattle.fc_printer.proofs.ModuleNames.{module_is_plain}
 
 -- A WORD THAT STANDS IS PLAIN
 
@@ -52,7 +53,7 @@ answer_word w a false false false s f g h e = absurd (cc)
 word_plain : (s u : Stand) (w : List ℕ) → next s (AWord w) ≡ Some u → list_all is_plain w ≡ true
 word_plain AtStart u w e = same_plain w (codes "log") (if_word (bytes_eq w (codes "log")) BehindLog u e) refl
 word_plain BehindLog u w e = same_plain w (codes "1") (if_word (bytes_eq w (codes "1")) BehindOne u e) refl
-word_plain BehindOne u w e = module_plain w (if_word (is_module_name w) (BehindModule w) u e)
+word_plain BehindOne u w e = module_is_plain w (if_word (is_module_name w) (BehindModule w) u e)
 word_plain (AtLine m es) u w e =
     line_word (bytes_eq w (codes "mark")) (bytes_eq w (codes "step")) (BehindMark m es) (BehindStep m es) u (list_all is_plain w ≡ true) e (λ k. same_plain w (codes "mark") k refl) (λ k. same_plain w (codes "step") k refl)
 word_plain (BehindMark m es) u w e = given _ (phase_of w) u (list_all is_plain w ≡ true) e (phase_word_plain w)

@@ -12,6 +12,7 @@ use Rattle.fc_syntax.specs.Tree.{Word}
 use Rattle.fc_syntax.specs.Tokens.{is_literal, is_lower_name, is_plain}
 use Rattle.fc_syntax.specs.declared.fault.Place.TheVariants as place
 use Rattle.fc_lex.proofs.Printed.{literal_plain}
+use Rattle.fc_printer.proofs.ModuleNames.{module_is_plain}
 use Rattle.fc_log.specs.declared.log.Answer.{Answer}
 use Rattle.fc_log.specs.declared.log.Answer.TheVariants as answer
 use Rattle.fc_log.specs.declared.log.Entry.{Entry}
@@ -27,7 +28,7 @@ use Rattle.fc_log.specs.Texts.{IsAnswer, IsFormedEntry, of_fold, of_module, of_p
 use Rattle.fc_log.proofs.Lines.{line_split, line_tokens, split_on, tokens_of_text}
 use Rattle.fc_log.proofs.Numerals.{path_is, path_value, printed_is, written}
 use Rattle.fc_log.proofs.OneMore.{reads_on}
-use Rattle.fc_log.proofs.Plain.{lower_plain, module_plain, path_plain, phase_plain, row_plain}
+use Rattle.fc_log.proofs.Plain.{lower_plain, path_plain, phase_plain, row_plain}
 
 -- WORDS
 
@@ -136,7 +137,7 @@ entries_read m before (e ∷ es) a =
 pub reads_back : ReadsBack
 reads_back l h =
     let m = l.«module» in
-    let plain : list_all (list_all is_plain) (codes "log" ∷ codes "1" ∷ m ∷ []) ≡ true = three (codes "log") (codes "1") m refl refl (module_plain m h.named) in
+    let plain : list_all (list_all is_plain) (codes "log" ∷ codes "1" ∷ m ∷ []) ≡ true = three (codes "log") (codes "1") m refl refl (module_is_plain m h.named) in
     ap (reads AtStart)
     (tokens_of_text (log_text l) ∙ (line_split true (codes "log") (codes "1" ∷ m ∷ []) (entries_text l.entries) plain ∙ ap (line_tokens (codes "log" ∷ codes "1" ∷ m ∷ [])) (entries_split l.entries h.entries)))
     ∙ (reads_on BehindOne (BehindModule m) (AWord m) (ALineEnd ∷ entries_tokens l.entries) (rw h.named refl) ∙ entries_read m [] l.entries h.entries)

@@ -62,8 +62,14 @@ bad_byte_from at [] = None
 bad_byte_from at (b ∷ bs) = if is_log_byte b then bad_byte_from (at + 1) bs else Some at
 
 -- where the answer of a fold stands next, a literal in shape that is out of range is a fault of its own
+abbrev pub answer_kind : List LogToken → FaultKind
+answer_kind [] = fault.BadForm
+answer_kind (AWord w ∷ ts) = if is_written_literal w then fault.LiteralRange else fault.BadForm
+answer_kind (ALineEnd ∷ ts) = fault.BadForm
+
+-- what is wrong with the first token that cannot stand where it stands
 abbrev pub stuck_kind : Stand → List LogToken → FaultKind
-stuck_kind (BehindPath m es d p) (AWord w ∷ ts) = if is_written_literal w then fault.LiteralRange else fault.BadForm
+stuck_kind (BehindPath m es d p) ts = answer_kind ts
 stuck_kind s ts = fault.BadForm
 
 -- the byte of the first of these, or the length of the bytes where there is none

@@ -6,6 +6,7 @@
 #![tactic(auto)]
 
 mod cut;
+mod laws;
 mod log;
 mod names;
 mod numbers;
@@ -16,6 +17,7 @@ mod tokens;
 mod whole;
 mod words;
 
+pub use laws::{a_log_goes_on, a_text_of_a_log_has_one_answer};
 pub use log::{Answer, Entry, Log, Phase, Row, Step};
 pub use printing::print;
 pub use whole::read;

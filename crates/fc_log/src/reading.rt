@@ -1,5 +1,5 @@
 //! Reads a log from its tokens. Each reader takes the tokens of what it reads; it stops at the first that cannot stand there.
-ghost use Rattle.std.specs.Prelude.{◌≡◌, ◌<◌, ◌≤◌, ◌++◌, ◌∷◌, [], List, Option, None, Some, length, map, IfErr, IfOk, IfSome};
+ghost use Rattle.std.specs.Prelude.{◌≡◌, ◌<◌, ◌≤◌, ◌++◌, ◌∷◌, [], List, Option, None, Some, length, IfErr, IfOk};
 ghost use Rattle.std.specs.Option.{option_copied};
 ghost use Rattle.fc_syntax.specs.Tree.{Word};
 ghost use Rattle.fc_syntax.specs.declared.fault.Place.{Place};
@@ -11,8 +11,9 @@ use crate::log::{Answer, Entry, Phase, Row, Step};
 use crate::names::{phase_of, row_of};
 use crate::steps::step_of;
 use crate::tokens::{Stop, Tokens};
-use crate::words::{answer_of, def_of, is_fold, module_text, path_of};
+use crate::words::{answer_of, def_of, is_fold, path_of};
 use fc_lex::is_module_name;
+use fc_read_parts::module_text;
 use fc_syntax::Seq;
 use std::alloc::Global;
 

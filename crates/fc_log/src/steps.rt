@@ -7,7 +7,7 @@ ghost use Rattle.fc_log.specs.declared.log.Entry.{Entry};
 ghost use Rattle.fc_log.specs.Reading.{IsPathRead, place_read};
 
 use crate::log::{Answer, Row, Step};
-use crate::numbers::number;
+use fc_lex::number;
 use fc_syntax::{Memory, Place, Seq, Text};
 use std::alloc::Global;
 

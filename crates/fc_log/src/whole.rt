@@ -4,8 +4,8 @@ ghost use Rattle.fc_syntax.specs.Limits.{standard_limits};
 ghost use Rattle.fc_log.specs.Grammar as spec;
 ghost use Rattle.fc_log.specs.Reading.{StopsAt, tokens_in};
 ghost use Rattle.fc_log.specs.Seen.{seen_all};
-ghost use Rattle.fc_log.specs.Stopping.{IsRefusalAt, answer_kind};
-ghost use Rattle.fc_log.specs.Texts.{IsFormedLog, IsLogRefusal, SpellsLog, bad_byte_from, byte_of, cuts_of, stuck_at};
+ghost use Rattle.fc_log.specs.Stopping.{IsRefusalAt};
+ghost use Rattle.fc_log.specs.Texts.{IsFormedLog, IsLogRefusal, SpellsLog, answer_kind, bad_byte_from, byte_of, cuts_of, stuck_at};
 
 use crate::cut::{Piece, Token, bad_byte, cut};
 use crate::log::Log;

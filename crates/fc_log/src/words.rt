@@ -1,38 +1,13 @@
 //! What words are where they stand.
-ghost use Rattle.std.specs.Prelude.{◌≡◌, true, option_map, IfSome};
+ghost use Rattle.std.specs.Prelude.{◌≡◌, option_map, IfSome};
 ghost use Rattle.std.specs.Option.{option_copied};
-ghost use Rattle.fc_syntax.specs.Tokens as lex;
 ghost use Rattle.fc_log.specs.Grammar as spec;
 ghost use Rattle.fc_log.specs.Reading.{IsPathRead, place_read};
 
 use crate::log::{Answer, Row};
-use crate::numbers::{is_path, is_written_literal, literal_value};
-use fc_lex::is_lower_name;
-use std::str;
-
-/// A lower name as text.
-#[tactic(auto, using(fc_read_parts::proofs::Ascii::name_utf8))]
-pub(crate) fn lower_text(word: &[u8]) -> &str
-    requires { lex.is_lower_name word.now ≡ true }
-    ensures { result.now ≡ word.now }
-{
-    match str::from_utf8(word) {
-        Ok(text) => text,
-        Err(_) => unreachable!(),
-    }
-}
-
-/// A module name as text.
-#[tactic(auto, using(fc_read_parts::proofs::Ascii::module_utf8))]
-pub(crate) fn module_text(word: &[u8]) -> &str
-    requires { lex.is_module_name word.now ≡ true }
-    ensures { result.now ≡ word.now }
-{
-    match str::from_utf8(word) {
-        Ok(text) => text,
-        Err(_) => unreachable!(),
-    }
-}
+use crate::numbers::{is_path, is_written_literal};
+use fc_lex::{is_lower_name, literal_value};
+use fc_read_parts::name_text;
 
 /// Whether a row is of the whole module, and of no definition.
 fn is_def_dead(row: Row) -> bool
@@ -58,7 +33,7 @@ pub(crate) fn def_of(row: Row, word: &[u8]) -> Option<Option<&str>>
             _ => None,
         }
     } else if is_lower_name(word) {
-        Some(Some(lower_text(word)))
+        Some(Some(name_text(word)))
     } else {
         None
     }

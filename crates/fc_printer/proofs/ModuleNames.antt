@@ -148,7 +148,7 @@ plain_by : (d : Bool) (b : ℕ) (bs : List ℕ) → is_dot b ≡ d → list_all 
 plain_by true b bs e h k = and_from (is_plain b) (list_all is_plain bs) (dot_is_plain b e) (k h)
 plain_by false b bs e h k = let p = front_is_plain b (slice_split is_dot bs) h in and_from (is_plain b) (list_all is_plain bs) p.0 (k p.1)
 
-whole_is_plain : (w : List ℕ) → list_all (list_all is_plain) (slice_split is_dot w) ≡ true → list_all is_plain w ≡ true
+pub whole_is_plain : (w : List ℕ) → list_all (list_all is_plain) (slice_split is_dot w) ≡ true → list_all is_plain w ≡ true
 whole_is_plain [] h = refl
 whole_is_plain (b ∷ bs) h = plain_by (is_dot b) b bs refl h (whole_is_plain bs)
 

@@ -10,7 +10,6 @@ mod header;
 mod kinds;
 mod types;
 mod words;
-mod written_header;
 
 ghost use Rattle.std.specs.Prelude.{◌≡◌, IfOk};
 ghost use Rattle.fc_syntax.specs.View.{module_of};
@@ -25,7 +24,6 @@ pub use header::put_header;
 use std::alloc::Global;
 pub use types::put_type;
 pub use words::{put_name, put_word};
-pub use written_header::written;
 
 /// The canonical text of a module, which reads back to the module where each of its words is one of its form.
 pub fn print_module(alloc: Global, m: &Module) -> Result<Vec<u8>, Memory>

@@ -43,9 +43,9 @@ pub enum Terminal<'a> {
     Other,
 }
 
-/// A name as text.
+/// A lower or an upper name as text. Takes no memory.
 #[tactic(auto, using(crate::proofs::Ascii::name_utf8))]
-fn name_text(word: &[u8]) -> &str
+pub fn name_text(word: &[u8]) -> &str
     requires { is_plain_name word.now ≡ true }
     ensures { result.now ≡ word.now }
 {
@@ -55,9 +55,9 @@ fn name_text(word: &[u8]) -> &str
     }
 }
 
-/// A module name as text.
+/// A module name as text. Takes no memory.
 #[tactic(auto, using(crate::proofs::Ascii::module_utf8))]
-fn module_text(word: &[u8]) -> &str
+pub fn module_text(word: &[u8]) -> &str
     requires { spec_is_module_name word.now ≡ true }
     ensures { result.now ≡ word.now }
 {

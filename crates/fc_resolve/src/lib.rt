@@ -75,6 +75,7 @@ pub fn resolve(alloc: Global, m: &Module) -> Result<NModule, Flawed>
 pub fn resolve_among(alloc: Global, m: &Module, offers: Offers) -> Result<(NModule, Offers), Flawed>
     ensures form { Says (λ p. nmodule_of p.0) result (resolved_among (offers_in offers) (module_of m.now)) }
     ensures offers { IfOk result (λ p. p.1 ≡ offers) }
+    ensures words { IfOk result (λ p. kept.module_hints (module_of p.0) ≡ kept.module_hints (module_of m.now)) }
 {
     let top = Declared::among(alloc, m, offers)?;
     let mut earlier = Spaces::new(alloc);

@@ -1,28 +1,26 @@
 -- Whether a set lints, its nameless forms decide alone.
-use Rattle.std.proofs.Common.{◌≡◌, false, bytes_eq, All, List, [], ◌∷◌, refl, sym, subst}
+use Rattle.std.proofs.Common.{All, List, refl, sym, subst}
 use Rattle.std.proofs.lemmas.List.Elements.{All-head, All-tail}
-use Rattle.fc_syntax.specs.Tree.{Word, Module, ModuleOf}
+use Rattle.fc_syntax.specs.Tree.{Module, ModuleOf}
 use Rattle.fc_model.specs.Linting.{nameless_forms, offers_of}
 use Rattle.fc_model.specs.Nameless.{NModule}
-use Rattle.fc_model.specs.Resolution.{Offers, WordSet, no_word, plus, plus_all, top_among, top_of}
+use Rattle.fc_model.specs.Resolution.{Offers, no_word, top_among, top_of}
 use Rattle.fc_model.specs.ResolutionRules.{Resolves, resolves_module}
-use Rattle.fc_set_rules.specs.FormsDecide.{AllResolve, FormsDecideLint, ImportsOthers, none_resolve, one_resolves}
+use Rattle.fc_resolved_names.specs.ResolvedNames.{ImportsOthers}
+use Rattle.fc_resolved_names.proofs.NamesHold.{names_hold}
+use Rattle.fc_resolved_names.proofs.Scoped.{in_none}
+use Rattle.fc_set_rules.specs.FormsDecide.{AllResolve, FormsDecideLint, none_resolve, offered_names, one_resolves}
 use Rattle.fc_set_rules.specs.SetRules.{AllHold, HoldsInSet, ResolvesAmong, no_modules, one_module, resolves_among}
 use Rattle.fc_set_rules.proofs.FoundAmong.{decls_among}
-use Rattle.fc_set_rules.proofs.NamesOffered.{decls}
+use Rattle.fc_set_rules.proofs.NamesOffered.{found_offered}
 use Rattle.fc_set_rules.proofs.SetsAre.{hold_forms, set_is_by_cases}
-
--- a word that none of these is, is not in their set
-in_none : (ws : List Word) (s : WordSet) (w : Word) → All (λ v. bytes_eq v w ≡ false) ws → s w ≡ false → plus_all ws s w ≡ false
-in_none [] s w others e = e
-in_none (v ∷ vs) s w others e =
-    in_none vs (plus v s) w (All-tail (λ v. bytes_eq v w ≡ false) v vs others) (rw (All-head (λ v. bytes_eq v w ≡ false) v vs others) e)
 
 -- names of other modules are among what they have for others, whatever words binders have
 offered_alike : (offers : Offers) {m k : Module} {n : NModule} → ImportsOthers n → ResolvesAmong offers m n → Resolves k n → ResolvesAmong offers k n
 offered_alike offers others (resolves_among {m = m} {imports = imports} {exports = exports} {hidden = hidden} {ds = ds} rules) (resolves_module {ds = es} alone) =
+    let top = top_among offers (ModuleOf m imports exports hidden ds) in
     resolves_among (decls_among (top_of (ModuleOf m imports exports hidden es)) offers (in_none imports no_word m others refl) alone
-    (decls (top_among offers (ModuleOf m imports exports hidden ds)) rules))
+    (names_hold top (offered_names top.own top.offers) (found_offered top) rules))
 
 all_alike : (forms : List NModule) {ms ks : List Module} {ns : List NModule} → AllHold forms ms ns → All ImportsOthers ns → AllResolve ks ns → AllHold forms ks ns
 all_alike forms no_modules others none_resolve = no_modules

@@ -1,5 +1,5 @@
 -- What resolves, and names of other modules only what they have for others, resolves among them alike.
-use Rattle.std.proofs.Common.{◌≡◌, Bool, true, false, bytes_eq, List, Option, Some, None, Ok, refl, sym, subst}
+use Rattle.std.proofs.Common.{◌≡◌, true, false, List, Option, Some, None, Ok, sym, subst}
 use Rattle.fc_syntax.specs.declared.ty.Name.{Name}
 use Rattle.fc_syntax.specs.declared.expr.Head.{Head}
 use Rattle.fc_syntax.specs.declared.fault.FaultKind.TheVariants.{NotExported, Unbound}
@@ -20,8 +20,8 @@ use Rattle.fc_model.specs.ResolutionRules.{ResolvesBinds, resolves_no_binds, res
 use Rattle.fc_model.specs.ResolutionRules.{ResolvesCons, resolves_no_constructors, resolves_constructors}
 use Rattle.fc_model.specs.ResolutionRules.{ResolvesDecl, resolves_data, resolves_newtype, resolves_family, resolves_equation, resolves_def, resolves_wrap, ResolvesDecls, resolves_no_decls, resolves_decls}
 use Rattle.fc_model.proofs.Parts.{need_inv, ok_ok}
-use Rattle.fc_model.proofs.Sameness.{bytes_eq_eq}
 use Rattle.fc_used_words.specs.Scoped.{Counts, in_binder, Saying, HoldsTy, HoldsTys, HoldsCo, HoldsCos, HoldsBinder, HoldsBinders, HoldsHead, HoldsExpr, HoldsArg, HoldsArgs, HoldsExprs, HoldsBinds, HoldsJoins, HoldsAlts, HoldsCons, HoldsDecl, HoldsDecls}
+use Rattle.fc_resolved_names.proofs.Scoped.{is_other}
 use Rattle.fc_set_rules.specs.FormsDecide.{IsOffered, offered_names}
 
 module _ (top : Top) (offers : Offers) (alone : top.imports top.own ≡ false) where
@@ -33,14 +33,6 @@ module _ (top : Top) (offers : Offers) (alone : top.imports top.own ≡ false) w
   abbrev P : Saying
   P = offered_names top.own offers
 
-  -- an imported module is another
-  is_other : (v : Word) → top.imports v ≡ true → bytes_eq v top.own ≡ false
-  is_other v e = by (bytes_eq v top.own) refl
-    where
-      by : (b : Bool) → bytes_eq v top.own ≡ b → b ≡ false
-      by true same = let is = subst (λ w. top.imports w ≡ true) (bytes_eq_eq v top.own same) e in cc
-      by false same = refl
-
   -- a name that is found is found among them
   found : (words : WordSet) (offered offered' : Word → WordSet) (o : Option Word) (w : Word) (m : Name) → declared_name top words offered o w ≡ Ok m → IsOffered top.own offered' m
       → declared_name among words offered' o w ≡ Ok m
@@ -48,7 +40,7 @@ module _ (top : Top) (offers : Offers) (alone : top.imports top.own ≡ false) w
   found words offered offered' (Some v) w m h has =
       let p = need_inv (top.imports v) Unbound _ m h in
       let q = need_inv (offered v w) NotExported _ m p.1 in
-      let here : offered' v w ≡ true = subst (IsOffered top.own offered') (sym (ok_ok q.1)) has (is_other v p.0) in
+      let here : offered' v w ≡ true = subst (IsOffered top.own offered') (sym (ok_ok q.1)) has (is_other top alone v p.0) in
       rw (p.0, here) q.1
 
   ty : (k : Counts) → {s : List Word} {t : Ty} {a : NTy} → ResolvesTy top s t a → HoldsTy P k a → ResolvesTy among s t a

@@ -63,7 +63,7 @@ judged_first : (r : Result Done F) (m : Word) (rest : Result Done InModule) → 
 judged_first (Ok done) m rest h = (refl, h)
 judged_first (Err f) m rest h = absurd cc
 
-all_hold : (ns : List NModule) (ms : List Module) → modules_judged ns ms ≡ Ok done → AllHold ns ms (nameless_forms ms)
+pub all_hold : (ns : List NModule) (ms : List Module) → modules_judged ns ms ≡ Ok done → AllHold ns ms (nameless_forms ms)
 all_hold ns [] h = no_modules
 all_hold ns (m ∷ ms) h =
     let p = judged_first (module_judged ns m) (name_of m) (modules_judged ns ms) h in

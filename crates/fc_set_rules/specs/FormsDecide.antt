@@ -5,9 +5,10 @@ use Rattle.std.specs.Str.{bytes_eq}
 use Rattle.fc_syntax.specs.declared.ty.Name.{Name}
 use Rattle.fc_syntax.specs.Tree.{Word, Module}
 use Rattle.fc_model.specs.Linting.{SetLints, nameless_forms}
-use Rattle.fc_model.specs.Nameless.{NModule, NModuleOf}
+use Rattle.fc_model.specs.Nameless.{NModule}
 use Rattle.fc_model.specs.Resolution.{Offers, WordSet}
 use Rattle.fc_model.specs.ResolutionRules.{Resolves}
+use Rattle.fc_resolved_names.specs.ResolvedNames.{ImportsOthers}
 use Rattle.fc_used_words.specs.Scoped.{Saying}
 
 -- NAMES OF OTHER MODULES
@@ -39,10 +40,6 @@ offered_names own offers = record {
 pub data AllResolve : List Module → List NModule → Type 0 where
   none_resolve : AllResolve [] []
   one_resolves : {m : Module} {n : NModule} {ms : List Module} {ns : List NModule} → Resolves m n → AllResolve ms ns → AllResolve (m ∷ ms) (n ∷ ns)
-
--- the module is not among its own imports
-abbrev pub ImportsOthers : NModule → Type 0
-ImportsOthers (NModuleOf m imports exports hidden ds) = All (λ w. bytes_eq w m ≡ false) imports
 
 -- modules that have the nameless forms of a set that lints lint too, where no module imports itself
 abbrev pub FormsDecideLint : Type 0

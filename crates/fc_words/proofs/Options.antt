@@ -1,18 +1,18 @@
--- Options with their values, as `build` reads them before its files.
-use Rattle.std.proofs.Common.{◌≡◌, ◌∙◌, ℕ, Bool, true, false, List, [], ◌∷◌, ◌++◌, refl, ap, append-nil, codes, Option, Some, None, nat_eq}
+-- Options with their values, as a command reads them before its files.
+use Rattle.std.proofs.Common.{◌≡◌, ◌≢◌, ◌∙◌, ℕ, Bool, true, false, List, [], ◌∷◌, ◌++◌, refl, ap, append-nil, codes, Option, Some, None, nat_eq, nat_lt}
 use Rattle.std.specs.Prelude.{if◌then◌else◌}
+use Rattle.std.specs.Option.{option_map_or}
 use Rattle.clap.specs.Facts.{parser_of_value}
 use Rattle.clap.specs.Faults.{settle_fault, turn_fault, use_fault}
-use Rattle.clap.specs.Kinds.{or_else}
 use Rattle.clap.specs.Simple.{filled}
 use Rattle.clap.specs.ValueTests.{accepts}
-use Rattle.clap.specs.Walk.{Row, Rule, Text, Walk, has_row, idle, more_values, option, reading_by, settled_rows, used, walked, with_values, without}
+use Rattle.clap.specs.Walk.{Held, Row, Rule, Text, Waiting, Walk, arg_by_id, arg_by_long, has_row, idle, more_values, most_values, option, option_word, pending_count, reading_by, settled_rows, used, used_by_id, walked, with_values, without}
 use Rattle.clap.specs.declared.parser.matches.ValueSource.TheVariants.{CommandLine}
 use Rattle.fc_words.specs.Commands.{grow_rule, out_rule, small_rule, ticks_rule}
 use Rattle.fc_words.specs.Plain.{Grow, IsPlainText, Out, Setting, Small, Ticks, setting_name}
 use Rattle.fc_words.proofs.Files.{state}
 use Rattle.fc_words.proofs.Hyphens.{is_other, plain_met, plain_turn, step_to}
-use Rattle.fc_words.proofs.Levels.{Ends, build, ends_from, rules_at, shape_at}
+use Rattle.fc_words.proofs.Levels.{Ends, Level, build, ends_from, numbered, rules_at, shape_at, why}
 use Rattle.fc_words.proofs.RowLists.{at_absent}
 
 abbrev pub rule_at : Setting → Rule
@@ -20,6 +20,20 @@ rule_at (Ticks n) = filled ticks_rule
 rule_at (Small n) = filled small_rule
 rule_at (Grow n) = filled grow_rule
 rule_at (Out prefix) = filled out_rule
+
+-- the command has this option
+abbrev pub Takes : Level → Setting → Type 0
+Takes l s = (arg_by_long (rules_at l) (setting_name s) ≡ Some (rule_at s)) × (arg_by_id (rules_at l) (setting_name s) ≡ Some (rule_at s))
+
+pub build_takes : (s : Setting) → Takes (numbered build) s
+build_takes (Ticks n) = (refl, refl)
+build_takes (Small n) = (refl, refl)
+build_takes (Grow n) = (refl, refl)
+build_takes (Out prefix) = (refl, refl)
+
+pub why_takes : (s : Setting) → codes "out" ≢ setting_name s → Takes (numbered why) s
+why_takes (Out prefix) other = absurd (other refl)
+why_takes s other = (refl, refl)
 
 -- `--name=value` and `--name`
 abbrev joined : Setting → Text → Text
@@ -37,10 +51,8 @@ abbrev pub row_with : Setting → Text → Row
 row_with s v = record { id = setting_name s; values = v ∷ []; count = None; source = Some CommandLine; reading = reading_by (rule_at s) }
 
 use_passes : (s : Setting) (v : Text) (rows : List Row) → has_row (setting_name s) rows ≡ false → Passes s v → use_fault false (rule_at s) (v ∷ []) rows ≡ []
-use_passes (Ticks n) v rows absent passes = rw (absent, passes) refl
-use_passes (Small n) v rows absent passes = rw (absent, passes) refl
-use_passes (Grow n) v rows absent passes = rw (absent, passes) refl
 use_passes (Out prefix) v rows absent passes = rw absent refl
+use_passes s v rows absent passes = rw (absent, passes) refl
 
 -- an argument of this id gets its first values
 set_once : (id : Text) (r : Rule) (v : Text) (rows : List Row) → has_row id rows ≡ false
@@ -58,104 +70,96 @@ used_once (Out prefix) v rows absent = set_once _ (rule_at (Out prefix)) v rows 
 
 -- `--name=value`
 
-joined_step : (s : Setting) (rows : List Row) (p : Option (Text × List Text)) (v : Text)
-    → walked (rules_at build) [] (state idle rows p) (joined s v) ≡ state idle (used (rule_at s) (v ∷ []) (settled_rows (rules_at build) p rows)) None
+joined_step : (l : Level) (s : Setting) → Takes l s → (rows : List Row) (p : Option (Text × List Text)) (v : Text)
+    → walked (rules_at l) [] (state idle rows p) (joined s v) ≡ state idle (used (rule_at s) (v ∷ []) (settled_rows (rules_at l) p rows)) None
 unfolding walked
-joined_step (Ticks n) rows p v = refl
-joined_step (Small n) rows p v = refl
-joined_step (Grow n) rows p v = refl
-joined_step (Out prefix) rows p v = refl
+joined_step l (Ticks n) takes rows p v = rw takes.0 refl
+joined_step l (Small n) takes rows p v = rw takes.0 refl
+joined_step l (Grow n) takes rows p v = rw takes.0 refl
+joined_step l (Out prefix) takes rows p v = rw takes.0 refl
 
-joined_fault : (s : Setting) (rows : List Row) (p : Option (Text × List Text)) (v : Text)
-    → turn_fault (shape_at build) [] (state idle rows p) (joined s v)
-    ≡ or_else (or_else (settle_fault (rules_at build) false (state idle rows p).held) (use_fault false (rule_at s) (v ∷ []) (settled_rows (rules_at build) p rows))) []
-joined_fault (Ticks n) rows p v = refl
-joined_fault (Small n) rows p v = refl
-joined_fault (Grow n) rows p v = refl
-joined_fault (Out prefix) rows p v = refl
-
-joined_turn : (s : Setting) (v : Text) (rows : List Row) (p : Option (Text × List Text)) → settle_fault (rules_at build) false (state idle rows p).held ≡ []
-    → use_fault false (rule_at s) (v ∷ []) (settled_rows (rules_at build) p rows) ≡ [] → turn_fault (shape_at build) [] (state idle rows p) (joined s v) ≡ []
-joined_turn s v rows p settles passes =
-    joined_fault s rows p v ∙ ap (λ k. or_else (or_else k (use_fault false (rule_at s) (v ∷ []) (settled_rows (rules_at build) p rows))) []) settles
-    ∙ ap (λ k. or_else k []) passes
+joined_turn : (l : Level) (s : Setting) → Takes l s → (v : Text) (rows : List Row) (p : Option (Text × List Text)) → settle_fault (rules_at l) false (state idle rows p).held ≡ []
+    → use_fault false (rule_at s) (v ∷ []) (settled_rows (rules_at l) p rows) ≡ [] → turn_fault (shape_at l) [] (state idle rows p) (joined s v) ≡ []
+joined_turn l (Ticks n) takes v rows p settles passes = rw (takes.0, settles, passes) refl
+joined_turn l (Small n) takes v rows p settles passes = rw (takes.0, settles, passes) refl
+joined_turn l (Grow n) takes v rows p settles passes = rw (takes.0, settles, passes) refl
+joined_turn l (Out prefix) takes v rows p settles passes = rw (takes.0, settles, passes) refl
 
 -- `--name value`
 
 abbrev expects : Setting → List Row → Walk
 expects s rows = state (option (setting_name s)) rows (Some (setting_name s, []))
 
-name_step : (s : Setting) (rows : List Row) (p : Option (Text × List Text))
-    → walked (rules_at build) [] (state idle rows p) (named s) ≡ expects s (settled_rows (rules_at build) p rows)
+name_step : (l : Level) (s : Setting) → Takes l s → (rows : List Row) (p : Option (Text × List Text))
+    → walked (rules_at l) [] (state idle rows p) (named s) ≡ expects s (settled_rows (rules_at l) p rows)
 unfolding walked
-name_step (Ticks n) rows p = refl
-name_step (Small n) rows p = refl
-name_step (Grow n) rows p = refl
-name_step (Out prefix) rows p = refl
+name_step l (Ticks n) takes rows p = rw takes.0 refl
+name_step l (Small n) takes rows p = rw takes.0 refl
+name_step l (Grow n) takes rows p = rw takes.0 refl
+name_step l (Out prefix) takes rows p = rw takes.0 refl
 
-name_fault : (s : Setting) (rows : List Row) (p : Option (Text × List Text))
-    → turn_fault (shape_at build) [] (state idle rows p) (named s) ≡ or_else (settle_fault (rules_at build) false (state idle rows p).held) []
-name_fault (Ticks n) rows p = refl
-name_fault (Small n) rows p = refl
-name_fault (Grow n) rows p = refl
-name_fault (Out prefix) rows p = refl
+name_turn : (l : Level) (s : Setting) → Takes l s → (rows : List Row) (p : Option (Text × List Text)) → settle_fault (rules_at l) false (state idle rows p).held ≡ []
+    → turn_fault (shape_at l) [] (state idle rows p) (named s) ≡ []
+name_turn l (Ticks n) takes rows p settles = rw (takes.0, settles) refl
+name_turn l (Small n) takes rows p settles = rw (takes.0, settles) refl
+name_turn l (Grow n) takes rows p settles = rw (takes.0, settles) refl
+name_turn l (Out prefix) takes rows p settles = rw (takes.0, settles) refl
 
-value_step : (s : Setting) (rows : List Row) (x : ℕ) (xs : Text) → nat_eq x 45 ≡ false
-    → walked (rules_at build) [] (expects s rows) (x ∷ xs) ≡ state idle rows (Some (setting_name s, (x ∷ xs) ∷ []))
+-- the option waits for no second value
+one_wanted : (s : Setting) (v : Text) → nat_lt (pending_count (rule_at s) (Some (setting_name s, v ∷ []))) (most_values (rule_at s)) ≡ false
+one_wanted (Ticks n) v = refl
+one_wanted (Small n) v = refl
+one_wanted (Grow n) v = refl
+one_wanted (Out prefix) v = refl
+
+value_step : (l : Level) (s : Setting) → Takes l s → (rows : List Row) (x : ℕ) (xs : Text) → nat_eq x 45 ≡ false
+    → walked (rules_at l) [] (expects s rows) (x ∷ xs) ≡ state idle rows (Some (setting_name s, (x ∷ xs) ∷ []))
 unfolding walked
-value_step (Ticks n) rows x xs e =
-    ap (step_to (rules_at build) (x ∷ xs) (expects (Ticks n) rows)) (plain_met (rules_at build) (option (codes "ticks")) 1 x xs (expects (Ticks n) rows).held e)
-value_step (Small n) rows x xs e =
-    ap (step_to (rules_at build) (x ∷ xs) (expects (Small n) rows)) (plain_met (rules_at build) (option (codes "small")) 1 x xs (expects (Small n) rows).held e)
-value_step (Grow n) rows x xs e =
-    ap (step_to (rules_at build) (x ∷ xs) (expects (Grow n) rows)) (plain_met (rules_at build) (option (codes "grow")) 1 x xs (expects (Grow n) rows).held e)
-value_step (Out prefix) rows x xs e =
-    ap (step_to (rules_at build) (x ∷ xs) (expects (Out prefix) rows)) (plain_met (rules_at build) (option (codes "out")) 1 x xs (expects (Out prefix) rows).held e)
+value_step l s takes rows x xs e =
+    let met : Option Rule → Held × Waiting = λ a. option_word a (setting_name s) (x ∷ xs) (expects s rows).held in
+    ap (step_to (rules_at l) (x ∷ xs) (expects s rows)) (plain_met (rules_at l) (option (setting_name s)) 1 x xs (expects s rows).held e)
+    ∙ ap (λ a. record (expects s rows) { held = (met a).0; waiting = (met a).1 }) takes.1
+    ∙ ap (λ b. state (if b then option (setting_name s) else idle) rows (Some (setting_name s, (x ∷ xs) ∷ []))) (one_wanted s (x ∷ xs))
 
-value_turn : (s : Setting) (rows : List Row) (x : ℕ) (xs : Text) → nat_eq x 45 ≡ false → turn_fault (shape_at build) [] (expects s rows) (x ∷ xs) ≡ []
-value_turn s rows x xs e = plain_turn (shape_at build) (option (setting_name s)) 1 x xs (expects s rows).held e refl
+value_turn : (l : Level) (s : Setting) (rows : List Row) (x : ℕ) (xs : Text) → nat_eq x 45 ≡ false → turn_fault (shape_at l) [] (expects s rows) (x ∷ xs) ≡ []
+value_turn l s rows x xs e = plain_turn (shape_at l) (option (setting_name s)) 1 x xs (expects s rows).held e refl
 
-settled_one : (s : Setting) (v : Text) (rows : List Row) → settled_rows (rules_at build) (Some (setting_name s, v ∷ [])) rows ≡ used (rule_at s) (v ∷ []) rows
-settled_one (Ticks n) v rows = refl
-settled_one (Small n) v rows = refl
-settled_one (Grow n) v rows = refl
-settled_one (Out prefix) v rows = refl
+settled_one : (l : Level) (s : Setting) → Takes l s → (v : Text) (rows : List Row)
+    → settled_rows (rules_at l) (Some (setting_name s, v ∷ [])) rows ≡ used (rule_at s) (v ∷ []) rows
+settled_one l s takes v rows = ap (λ a. used_by_id a (v ∷ []) rows) takes.1
 
-settle_one : (s : Setting) (v : Text) (rows : List Row)
-    → settle_fault (rules_at build) false (state idle rows (Some (setting_name s, v ∷ []))).held ≡ use_fault false (rule_at s) (v ∷ []) rows
-settle_one (Ticks n) v rows = refl
-settle_one (Small n) v rows = refl
-settle_one (Grow n) v rows = refl
-settle_one (Out prefix) v rows = refl
+settle_one : (l : Level) (s : Setting) → Takes l s → (v : Text) (rows : List Row)
+    → settle_fault (rules_at l) false (state idle rows (Some (setting_name s, v ∷ []))).held ≡ use_fault false (rule_at s) (v ∷ []) rows
+settle_one l s takes v rows = ap (λ o. option_map_or (λ a. use_fault false a (v ∷ []) rows) o []) takes.1
 
 -- ALL OF THEM
 
 -- the walk over the words ends at E, wherever the rows before them come to R
-abbrev pub After : List Row → List Text → List Row → Type 0
-After R words E = (rows : List Row) (p : Option (Text × List Text)) → settled_rows (rules_at build) p rows ≡ R
-    → settle_fault (rules_at build) false (state idle rows p).held ≡ [] → Ends build (state idle rows p) words E
+abbrev pub After : Level → List Row → List Text → List Row → Type 0
+After l R words E = (rows : List Row) (p : Option (Text × List Text)) → settled_rows (rules_at l) p rows ≡ R
+    → settle_fault (rules_at l) false (state idle rows p).held ≡ [] → Ends l (state idle rows p) words E
 
 abbrev written : Bool → Setting → Text → List Text
 written b s v = if b then joined s v ∷ [] else named s ∷ v ∷ []
 
-pub one_option : (b : Bool) (s : Setting) (v : Text) (R : List Row) (words : List Text) (E : List Row) → has_row (setting_name s) R ≡ false → Passes s v → IsPlainText v
-    → After (R ++ row_with s v ∷ []) words E → After R (written b s v ++ words) E
-one_option true s v R words E absent passes plain after rows p e settles =
-    let S : List Row = settled_rows (rules_at build) p rows in
+pub one_option : (l : Level) (b : Bool) (s : Setting) → Takes l s → (v : Text) (R : List Row) (words : List Text) (E : List Row) → has_row (setting_name s) R ≡ false → Passes s v → IsPlainText v
+    → After l (R ++ row_with s v ∷ []) words E → After l R (written b s v ++ words) E
+one_option l true s takes v R words E absent passes plain after rows p e settles =
+    let S : List Row = settled_rows (rules_at l) p rows in
     let here : has_row (setting_name s) S ≡ false = ap (has_row (setting_name s)) e ∙ absent in
-    ends_from build (state idle rows p) (state idle (used (rule_at s) (v ∷ []) S) None) (joined s v) words E
-    (joined_turn s v rows p settles (use_passes s v S here passes))
-    (joined_step s rows p v)
+    ends_from l (state idle rows p) (state idle (used (rule_at s) (v ∷ []) S) None) (joined s v) words E
+    (joined_turn l s takes v rows p settles (use_passes s v S here passes))
+    (joined_step l s takes rows p v)
     (after (used (rule_at s) (v ∷ []) S) None (used_once s v S here ∙ ap (λ (x : List Row). x ++ row_with s v ∷ []) e) refl)
-one_option false s [] R words E absent passes plain after rows p e settles = absurd plain
-one_option false s (x ∷ xs) R words E absent passes plain after rows p e settles =
-    let S : List Row = settled_rows (rules_at build) p rows in
+one_option l false s takes [] R words E absent passes plain after rows p e settles = absurd plain
+one_option l false s takes (x ∷ xs) R words E absent passes plain after rows p e settles =
+    let S : List Row = settled_rows (rules_at l) p rows in
     let here : has_row (setting_name s) S ≡ false = ap (has_row (setting_name s)) e ∙ absent in
     let other : nat_eq x 45 ≡ false = is_other x plain in
     let q : Option (Text × List Text) = Some (setting_name s, (x ∷ xs) ∷ []) in
-    ends_from build (state idle rows p) (expects s S) (named s) ((x ∷ xs) ∷ words) E
-    (name_fault s rows p ∙ ap (λ k. or_else k []) settles)
-    (name_step s rows p)
-    (ends_from build (expects s S) (state idle S q) (x ∷ xs) words E (value_turn s S x xs other) (value_step s S x xs other)
-    (after S q (settled_one s (x ∷ xs) S ∙ used_once s (x ∷ xs) S here ∙ ap (λ (y : List Row). y ++ row_with s (x ∷ xs) ∷ []) e)
-    (settle_one s (x ∷ xs) S ∙ use_passes s (x ∷ xs) S here passes)))
+    ends_from l (state idle rows p) (expects s S) (named s) ((x ∷ xs) ∷ words) E
+    (name_turn l s takes rows p settles)
+    (name_step l s takes rows p)
+    (ends_from l (expects s S) (state idle S q) (x ∷ xs) words E (value_turn l s S x xs other) (value_step l s takes S x xs other)
+    (after S q (settled_one l s takes (x ∷ xs) S ∙ used_once s (x ∷ xs) S here ∙ ap (λ (y : List Row). y ++ row_with s (x ∷ xs) ∷ []) e)
+    (settle_one l s takes (x ∷ xs) S ∙ use_passes s (x ∷ xs) S here passes)))

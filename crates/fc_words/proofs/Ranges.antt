@@ -1,4 +1,4 @@
--- Where clap accepts the words, the numbers of a build are numbers within their ranges.
+-- Where clap accepts the words, the numbers of a command are numbers within their ranges.
 use Rattle.std.proofs.Common.{◌≡◌, ◌∙◌, ◌&&◌, ℕ, Bool, true, false, cond, List, [], ◌∷◌, ◌++◌, length, refl, sym, ap, subst, arith, codes, Option, Some, None, nat_lt, ltb-true, leb-true, true≢false}
 use Rattle.std.specs.Prelude.{IfSome, IsSomeAnd, ◌==◌, if◌then◌else◌, option_map, slice_get, unwrap_or}
 use Rattle.std.specs.Char.{digit_value}
@@ -11,7 +11,7 @@ use Rattle.std.proofs.lemmas.List.Folds.{find-append}
 use Rattle.std.proofs.lemmas.Slice.Eq.{bytes_eq-Decides}
 use Rattle.clap.specs.Faults.{entered_fault, fault_of, level_fault, settle_fault, use_fault, walk_fault}
 use Rattle.clap.specs.Kinds.{or_else, range_kinds}
-use Rattle.clap.specs.Simple.{entered, label_of, names_of, rows_at, subcommand_of}
+use Rattle.clap.specs.Simple.{Shape, entered, label_of, names_of, rows_at, subcommand_of}
 use Rattle.clap.specs.ValueTests.{accepts}
 use Rattle.clap.specs.Walk.{answers_to, Row, Text, has_row, more_values, nothing_held, at_row, settled, used, values_or_missing, walk, walk_from, with_values}
 use Rattle.clap.specs.declared.builder.value_parser.Reading.{Reading}
@@ -24,9 +24,8 @@ use Rattle.fc_words.specs.Asking.{text_in}
 use Rattle.fc_words.specs.Commands.{coreopt_app}
 use Rattle.fc_words.specs.Numbers.{HasNumbers, HasNumbersBy, IsNumber}
 use Rattle.fc_words.specs.Plain.{Grow, Out, Setting, Small, Ticks, setting_name}
-use Rattle.fc_words.proofs.Defaults.{build_row, build_rows, or_default}
-use Rattle.fc_words.proofs.Files.{the_rule}
-use Rattle.fc_words.proofs.Levels.{build, lint, rules_at, shape_at, top}
+use Rattle.fc_words.proofs.Defaults.{default_in, ended, row_ended}
+use Rattle.fc_words.proofs.Levels.{Level, Numbered, behind, build, lint, numbered, rules_at, shape_at, the_rule, top, why}
 use Rattle.fc_words.proofs.Options.{Passes, row_with, rule_at, used_once}
 use Rattle.fc_words.proofs.RowLists.{first_text, row_in}
 use Rattle.fc_words.proofs.WalkFacts.{AllKeep, Keeps, neither, settle_keeps, walk_keeps}
@@ -111,10 +110,8 @@ counted (Out prefix) values rows e = one_value values (neither _ _ e).0
 
 -- it is the first use, and its value passes
 first_use : (s : Setting) (v : Text) (rows : List Row) → use_fault false (rule_at s) (v ∷ []) rows ≡ [] → (has_row (setting_name s) rows ≡ false) × Passes s v
-first_use (Ticks n) v rows e = let parts = neither _ _ e in (absent_by _ _ parts.0, passes_by _ _ parts.1)
-first_use (Small n) v rows e = let parts = neither _ _ e in (absent_by _ _ parts.0, passes_by _ _ parts.1)
-first_use (Grow n) v rows e = let parts = neither _ _ e in (absent_by _ _ parts.0, passes_by _ _ parts.1)
 first_use (Out prefix) v rows e = let parts = neither _ _ e in (absent_by _ _ parts.0, refl)
+first_use s v rows e = let parts = neither _ _ e in (absent_by _ _ parts.0, passes_by _ _ parts.1)
 
 keep_values : (s : Setting) (q : Text) (most : ℕ) → ((v : Text) → Passes s v → HasRange q most (row_with s v ∷ [])) → (values : List Text) (rows : List Row)
     → length values ≡ 1 → use_fault false (rule_at s) values rows ≡ [] → HasRange q most rows → HasRange q most (used (rule_at s) values rows)
@@ -131,79 +128,82 @@ keep_files : (q : Text) (most : ℕ) → bytes_eq (codes "files") q ≡ false �
 keep_files q most other values rows e has =
     subst (λ o. IfSome o (Starts most)) (sym (other_row (codes "files") q AsWritten CommandLine (values_or_missing the_rule values) rows other)) has
 
+keep_behind : (n : Numbered) (q : Text) (most : ℕ) → ((v : Text) → Passes (Out []) v → HasRange q most (row_with (Out []) v ∷ [])) → bytes_eq (codes "files") q ≡ false
+    → AllKeep false (HasRange q most) (behind n)
+keep_behind build q most out other = (keep_option (Out []) q most out, (keep_files q most other, tt))
+keep_behind why q most out other = (keep_files q most other, tt)
+
 -- of no option but this one is there anything to say
-keep_ticks : AllKeep false (HasRange (codes "ticks") 1000000) (rules_at build)
-keep_ticks = (
+keep_ticks : (n : Numbered) → AllKeep false (HasRange (codes "ticks") 1000000) (rules_at (numbered n))
+keep_ticks n = (
   keep_option (Ticks 0) _ _ (λ v p. p),
-  (keep_option (Small 0) _ _ (λ v p. tt), (keep_option (Grow 0) _ _ (λ v p. tt), (keep_option (Out []) _ _ (λ v p. tt), (keep_files _ _ refl, tt)))),
+  (keep_option (Small 0) _ _ (λ v p. tt), (keep_option (Grow 0) _ _ (λ v p. tt), keep_behind n _ _ (λ v p. tt) refl)),
 )
 
-keep_small : AllKeep false (HasRange (codes "small") 10000) (rules_at build)
-keep_small = (
+keep_small : (n : Numbered) → AllKeep false (HasRange (codes "small") 10000) (rules_at (numbered n))
+keep_small n = (
   keep_option (Ticks 0) _ _ (λ v p. tt),
-  (keep_option (Small 0) _ _ (λ v p. p), (keep_option (Grow 0) _ _ (λ v p. tt), (keep_option (Out []) _ _ (λ v p. tt), (keep_files _ _ refl, tt)))),
+  (keep_option (Small 0) _ _ (λ v p. p), (keep_option (Grow 0) _ _ (λ v p. tt), keep_behind n _ _ (λ v p. tt) refl)),
 )
 
-keep_grow : AllKeep false (HasRange (codes "grow") 10000) (rules_at build)
-keep_grow = (
+keep_grow : (n : Numbered) → AllKeep false (HasRange (codes "grow") 10000) (rules_at (numbered n))
+keep_grow n = (
   keep_option (Ticks 0) _ _ (λ v p. tt),
-  (keep_option (Small 0) _ _ (λ v p. tt), (keep_option (Grow 0) _ _ (λ v p. p), (keep_option (Out []) _ _ (λ v p. tt), (keep_files _ _ refl, tt)))),
+  (keep_option (Small 0) _ _ (λ v p. tt), (keep_option (Grow 0) _ _ (λ v p. p), keep_behind n _ _ (λ v p. tt) refl)),
 )
 
 -- THE COMMANDS
 
-abbrev end_rows : List Text → List Row
-end_rows words = (settled (rules_at build) (walk (rules_at build) [] nothing_held words).held).rows
+abbrev end_rows : Level → List Text → List Row
+end_rows l words = (settled (rules_at l) (walk (rules_at l) [] nothing_held words).held).rows
 
-build_range : (q : Text) (most : ℕ) → AllKeep false (HasRange q most) (rules_at build) → (words : List Text)
-    → level_fault (shape_at build) [] nothing_held words false [] ≡ [] → HasRange q most (end_rows words)
-build_range q most keep words e =
-    let walks = neither (walk_fault (shape_at build) [] (walk_from nothing_held) words) _ e in
-    let settles = neither (settle_fault (rules_at build) false (walk (rules_at build) [] nothing_held words).held) _ walks.1 in
-    settle_keeps (shape_at build) [] (HasRange q most) keep (walk (rules_at build) [] nothing_held words).held settles.0
-    (walk_keeps (shape_at build) [] (HasRange q most) keep words (walk_from nothing_held) walks.0 tt)
+range_kept : (l : Level) (q : Text) (most : ℕ) → AllKeep false (HasRange q most) (rules_at l) → (words : List Text)
+    → level_fault (shape_at l) [] nothing_held words false [] ≡ [] → HasRange q most (end_rows l words)
+range_kept l q most keep words e =
+    let walks = neither (walk_fault (shape_at l) [] (walk_from nothing_held) words) _ e in
+    let settles = neither (settle_fault (rules_at l) false (walk (rules_at l) [] nothing_held words).held) _ walks.1 in
+    settle_keeps (shape_at l) [] (HasRange q most) keep (walk (rules_at l) [] nothing_held words).held settles.0
+    (walk_keeps (shape_at l) [] (HasRange q most) keep words (walk_from nothing_held) walks.0 tt)
 
 first_passes : (most : ℕ) (o : Option Text) → IsSomeAnd o (λ v. accepts false (vp.Unsigned 0 most) v ≡ true) → accepts false (vp.Unsigned 0 most) (unwrap_or o []) ≡ true
 first_passes most None p = absurd p
 first_passes most (Some v) p = p
 
-ticks_pass : (o : Option Row) → IfSome o (Starts 1000000) → accepts false (vp.Unsigned 0 1000000) (first_text (or_default (codes "ticks") o)) ≡ true
-ticks_pass None p = refl
-ticks_pass (Some r) p = first_passes 1000000 (slice_get r.values 0) p
+row_passes : (most : ℕ) (o given : Option Row) → IfSome o (Starts most) → accepts false (vp.Unsigned 0 most) (first_text given) ≡ true
+    → accepts false (vp.Unsigned 0 most) (first_text (option_or o given)) ≡ true
+row_passes most None given p passes = passes
+row_passes most (Some r) given p passes = first_passes most (slice_get r.values 0) p
 
-small_pass : (o : Option Row) → IfSome o (Starts 10000) → accepts false (vp.Unsigned 0 10000) (first_text (or_default (codes "small") o)) ≡ true
-small_pass None p = refl
-small_pass (Some r) p = first_passes 10000 (slice_get r.values 0) p
+one_number : (l : Level) (q : Text) (most : ℕ) → AllKeep false (HasRange q most) (rules_at l) → accepts false (vp.Unsigned 0 most) (first_text (default_in q (rules_at l))) ≡ true
+    → (words : List Text) → level_fault (shape_at l) [] nothing_held words false [] ≡ [] → IsNumber most (text_in q (ended l (end_rows l words)))
+one_number l q most keep passes words e =
+    let rows : List Row = end_rows l words in
+    is_number most (text_in q (ended l rows))
+    (ap (λ o. accepts false (vp.Unsigned 0 most) (first_text o)) (row_ended q (rules_at l) rows)
+    ∙ row_passes most (row_in q rows) (default_in q (rules_at l)) (range_kept l q most keep words e) passes)
 
-grow_pass : (o : Option Row) → IfSome o (Starts 10000) → accepts false (vp.Unsigned 0 10000) (first_text (or_default (codes "grow") o)) ≡ true
-grow_pass None p = refl
-grow_pass (Some r) p = first_passes 10000 (slice_get r.values 0) p
-
-build_number : (q : Text) (most : ℕ) → AllKeep false (HasRange q most) (rules_at build)
-    → ((o : Option Row) → IfSome o (Starts most) → accepts false (vp.Unsigned 0 most) (first_text (or_default q o)) ≡ true) → (words : List Text)
-    → level_fault (shape_at build) [] nothing_held words false [] ≡ [] → IsNumber most (text_in q (build_rows (end_rows words)))
-build_number q most keep passes words e =
-    let rows : List Row = end_rows words in
-    is_number most (text_in q (build_rows rows))
-    (ap (λ o. accepts false (vp.Unsigned 0 most) (first_text o)) (build_row q rows) ∙ passes (row_in q rows) (build_range q most keep words e))
-
-build_numbers : (words : List Text) → level_fault (shape_at build) [] nothing_held words false [] ≡ [] → HasNumbers (build_rows (end_rows words))
-build_numbers words e = (
-  build_number (codes "ticks") 1000000 keep_ticks ticks_pass words e,
-  build_number (codes "small") 10000 keep_small small_pass words e,
-  build_number (codes "grow") 10000 keep_grow grow_pass words e,
+all_numbers : (n : Numbered) (words : List Text) → level_fault (shape_at (numbered n)) [] nothing_held words false [] ≡ []
+    → HasNumbers (ended (numbered n) (end_rows (numbered n) words))
+all_numbers n words e = (
+  one_number (numbered n) (codes "ticks") 1000000 (keep_ticks n) refl words e,
+  one_number (numbered n) (codes "small") 10000 (keep_small n) refl words e,
+  one_number (numbered n) (codes "grow") 10000 (keep_grow n) refl words e,
 )
 
-level_by : (a b : Bool) (words : List Text)
-    → option_map_or (λ s. level_fault s [] nothing_held words false []) (cond a (Some (shape_at build)) (cond b (Some (shape_at lint)) None)) [] ≡ []
-    → IfSome (option_map (λ s. rows_at s words) (cond a (Some (shape_at build)) (cond b (Some (shape_at lint)) None))) HasNumbersBy
-level_by true b words e = λ other. build_numbers words e
-level_by false true words e = λ other. absurd (true≢false other)
-level_by false false words e = tt
+-- the shape of the command that was met
+abbrev shape_by : Bool → Bool → Bool → Option Shape
+shape_by a b c = cond a (Some (shape_at (numbered build))) (cond b (Some (shape_at (numbered why))) (cond c (Some (shape_at lint)) None))
+
+level_by : (a b c : Bool) (words : List Text) → option_map_or (λ s. level_fault s [] nothing_held words false []) (shape_by a b c) [] ≡ []
+    → IfSome (option_map (λ s. rows_at s words) (shape_by a b c)) HasNumbersBy
+level_by true b c words e = λ other. all_numbers build words e
+level_by false true c words e = λ other. all_numbers why words e
+level_by false false true words e = λ other. absurd (true≢false other)
+level_by false false false words e = tt
 
 entered_by : (stop : Option (Text × List Text)) → entered_fault top stop ≡ [] → IfSome (entered top stop) HasNumbersBy
 entered_by None e = tt
-entered_by (Some p) e = level_by (answers_to p.0 (label_of (shape_at build))) (answers_to p.0 (label_of (shape_at lint))) p.1 e
+entered_by (Some p) e = level_by (answers_to p.0 (label_of (shape_at (numbered build)))) (answers_to p.0 (label_of (shape_at (numbered why)))) (answers_to p.0 (label_of (shape_at lint))) p.1 e
 
 -- what clap finds in words that it accepts
 pub numbers_found : (words : List Text) → fault_of coreopt_app words ≡ [] → IfSome (subcommand_of coreopt_app words) HasNumbersBy

@@ -12,10 +12,10 @@ use Rattle.clap.specs.Walk.{Row, Text, has_row}
 use Rattle.fc_words.specs.Asking.{text_in, values_in}
 use Rattle.fc_words.specs.Plain.{ArePlainOptions, Grow, IsAbsent, IsPlainText, IsWithinRange, Out, Setting, Small, Ticks, Written, grow_of, out_of, setting_name, setting_value, settings_of, small_of, spelled, spelled_one, ticks_of}
 use Rattle.fc_words.proofs.Decimals.{decimal_passes, grow_given, plain_decimal, small_given, ticks_given}
-use Rattle.fc_words.proofs.Defaults.{build_row, build_rows, or_default}
+use Rattle.fc_words.proofs.Defaults.{default_in, ended, row_ended}
 use Rattle.fc_words.proofs.Files.{file_row}
-use Rattle.fc_words.proofs.Levels.{build, shape_at}
-use Rattle.fc_words.proofs.Options.{After, Passes, one_option, row_with}
+use Rattle.fc_words.proofs.Levels.{Level, Numbered, build, lint, numbered, rules_at, shape_at, why}
+use Rattle.fc_words.proofs.Options.{After, Passes, Takes, build_takes, one_option, row_with, why_takes}
 use Rattle.fc_words.proofs.RowLists.{absent_push, first_text, row_in}
 
 value_passes : (s : Setting) → IsWithinRange s → Passes s (setting_value s)
@@ -55,16 +55,29 @@ pub none_yet : (ws : List Written) → AreFresh [] ws
 none_yet [] = tt
 none_yet (w ∷ ws) = (refl, none_yet ws)
 
-pub options_end : (ws : List Written) (R : List Row) (words : List Text) (E : List Row) → ArePlainOptions ws → AreFresh R ws
-    → After (R ++ setting_rows (settings_of ws)) words E → After R (spelled ws ++ words) E
-options_end [] R words E plain fresh after = subst (λ x. After x words E) (append-nil R) after
-options_end (w ∷ ws) R words E plain fresh after =
+-- the command has each of the options
+abbrev pub AreTaken : Level → List Written → Type 0
+AreTaken l [] = ⊤
+AreTaken l (w ∷ ws) = Takes l w.setting × AreTaken l ws
+
+pub all_taken : (ws : List Written) → AreTaken (numbered build) ws
+all_taken [] = tt
+all_taken (w ∷ ws) = (build_takes w.setting, all_taken ws)
+
+pub others_taken : (ws : List Written) → IsAbsent (codes "out") ws → AreTaken (numbered why) ws
+others_taken [] absent = tt
+others_taken (w ∷ ws) absent = (why_takes w.setting absent.0, others_taken ws absent.1)
+
+pub options_end : (l : Level) (ws : List Written) (R : List Row) (words : List Text) (E : List Row) → AreTaken l ws → ArePlainOptions ws → AreFresh R ws
+    → After l (R ++ setting_rows (settings_of ws)) words E → After l R (spelled ws ++ words) E
+options_end l [] R words E taken plain fresh after = subst (λ x. After l x words E) (append-nil R) after
+options_end l (w ∷ ws) R words E taken plain fresh after =
     let s : Setting = w.setting in
     let row : Row = row_with s (setting_value s) in
-    subst (λ x. After R x E) (sym (append_assoc (spelled_one w) (spelled ws) words))
-    (one_option w.is_joined s (setting_value s) R (spelled ws ++ words) E fresh.0 (value_passes s plain.0) (value_plain s plain.0)
-    (options_end ws (R ++ row ∷ []) words E plain.2 (fresh_push R s (setting_value s) ws plain.1 fresh.1)
-    (subst (λ x. After x words E) (sym (append_assoc R (row ∷ []) (setting_rows (settings_of ws)))) after)))
+    subst (λ x. After l R x E) (sym (append_assoc (spelled_one w) (spelled ws) words))
+    (one_option l w.is_joined s taken.0 (setting_value s) R (spelled ws ++ words) E fresh.0 (value_passes s plain.0) (value_plain s plain.0)
+    (options_end l ws (R ++ row ∷ []) words E taken.1 plain.2 (fresh_push R s (setting_value s) ws plain.1 fresh.1)
+    (subst (λ x. After l x words E) (sym (append_assoc R (row ∷ []) (setting_rows (settings_of ws)))) after)))
 
 -- WHAT IS FOUND IN THE END
 
@@ -83,65 +96,66 @@ abbrev pub rows_of : List Setting → List Text → List Row
 rows_of ss files = setting_rows ss ++ file_row files ∷ []
 
 -- the row of an id, among the options, the files and the defaults
-abbrev any_of : Text → Option Row → Option Row → Option Row
-any_of q o f = or_default q (option_or o f)
+abbrev any_of : Level → Text → Option Row → Option Row → Option Row
+any_of l q o f = option_or (option_or o f) (default_in q (rules_at l))
 
-found : (q : Text) (ss : List Setting) (files : List Text) → row_in q (build_rows (rows_of ss files)) ≡ any_of q (row_in q (setting_rows ss)) (row_in q (file_row files ∷ []))
-found q ss files = build_row q (rows_of ss files) ∙ ap (or_default q) (find-append (λ r. bytes_eq r.id q) (setting_rows ss) (file_row files ∷ []))
+found : (l : Level) (q : Text) (ss : List Setting) (files : List Text)
+    → row_in q (ended l (rows_of ss files)) ≡ any_of l q (row_in q (setting_rows ss)) (row_in q (file_row files ∷ []))
+found l q ss files =
+    row_ended q (rules_at l) (rows_of ss files)
+    ∙ ap (λ o. option_or o (default_in q (rules_at l))) (find-append (λ r. bytes_eq r.id q) (setting_rows ss) (file_row files ∷ []))
 
-ticks_found : (ss : List Setting) → first_text (any_of (codes "ticks") (row_in (codes "ticks") (setting_rows ss)) None) ≡ decimal (ticks_of ss)
-ticks_found [] = ticks_given
-ticks_found (Ticks n ∷ ss) = refl
-ticks_found (Small n ∷ ss) = ticks_found ss
-ticks_found (Grow n ∷ ss) = ticks_found ss
-ticks_found (Out prefix ∷ ss) = ticks_found ss
+ticks_found : (n : Numbered) (ss : List Setting) → first_text (any_of (numbered n) (codes "ticks") (row_in (codes "ticks") (setting_rows ss)) None) ≡ decimal (ticks_of ss)
+ticks_found n [] = ticks_given
+ticks_found n (Ticks m ∷ ss) = refl
+ticks_found n (s ∷ ss) = ticks_found n ss
 
-small_found : (ss : List Setting) → first_text (any_of (codes "small") (row_in (codes "small") (setting_rows ss)) None) ≡ decimal (small_of ss)
-small_found [] = small_given
-small_found (Ticks n ∷ ss) = small_found ss
-small_found (Small n ∷ ss) = refl
-small_found (Grow n ∷ ss) = small_found ss
-small_found (Out prefix ∷ ss) = small_found ss
+small_found : (n : Numbered) (ss : List Setting) → first_text (any_of (numbered n) (codes "small") (row_in (codes "small") (setting_rows ss)) None) ≡ decimal (small_of ss)
+small_found n [] = small_given
+small_found n (Small m ∷ ss) = refl
+small_found n (s ∷ ss) = small_found n ss
 
-grow_found : (ss : List Setting) → first_text (any_of (codes "grow") (row_in (codes "grow") (setting_rows ss)) None) ≡ decimal (grow_of ss)
-grow_found [] = grow_given
-grow_found (Ticks n ∷ ss) = grow_found ss
-grow_found (Small n ∷ ss) = grow_found ss
-grow_found (Grow n ∷ ss) = refl
-grow_found (Out prefix ∷ ss) = grow_found ss
+grow_found : (n : Numbered) (ss : List Setting) → first_text (any_of (numbered n) (codes "grow") (row_in (codes "grow") (setting_rows ss)) None) ≡ decimal (grow_of ss)
+grow_found n [] = grow_given
+grow_found n (Grow m ∷ ss) = refl
+grow_found n (s ∷ ss) = grow_found n ss
 
-out_found : (ss : List Setting) → first_text (any_of (codes "out") (row_in (codes "out") (setting_rows ss)) None) ≡ out_of ss
+out_found : (ss : List Setting) → first_text (any_of (numbered build) (codes "out") (row_in (codes "out") (setting_rows ss)) None) ≡ out_of ss
 out_found [] = refl
-out_found (Ticks n ∷ ss) = out_found ss
-out_found (Small n ∷ ss) = out_found ss
-out_found (Grow n ∷ ss) = out_found ss
 out_found (Out prefix ∷ ss) = refl
+out_found (s ∷ ss) = out_found ss
 
-pub ticks_text : (ss : List Setting) (files : List Text) → text_in (codes "ticks") (build_rows (rows_of ss files)) ≡ decimal (ticks_of ss)
-ticks_text ss files = ap first_text (found (codes "ticks") ss files) ∙ ticks_found ss
+pub ticks_text : (n : Numbered) (ss : List Setting) (files : List Text) → text_in (codes "ticks") (ended (numbered n) (rows_of ss files)) ≡ decimal (ticks_of ss)
+ticks_text n ss files = ap first_text (found (numbered n) (codes "ticks") ss files) ∙ ticks_found n ss
 
-pub small_text : (ss : List Setting) (files : List Text) → text_in (codes "small") (build_rows (rows_of ss files)) ≡ decimal (small_of ss)
-small_text ss files = ap first_text (found (codes "small") ss files) ∙ small_found ss
+pub small_text : (n : Numbered) (ss : List Setting) (files : List Text) → text_in (codes "small") (ended (numbered n) (rows_of ss files)) ≡ decimal (small_of ss)
+small_text n ss files = ap first_text (found (numbered n) (codes "small") ss files) ∙ small_found n ss
 
-pub grow_text : (ss : List Setting) (files : List Text) → text_in (codes "grow") (build_rows (rows_of ss files)) ≡ decimal (grow_of ss)
-grow_text ss files = ap first_text (found (codes "grow") ss files) ∙ grow_found ss
+pub grow_text : (n : Numbered) (ss : List Setting) (files : List Text) → text_in (codes "grow") (ended (numbered n) (rows_of ss files)) ≡ decimal (grow_of ss)
+grow_text n ss files = ap first_text (found (numbered n) (codes "grow") ss files) ∙ grow_found n ss
 
-pub out_text : (ss : List Setting) (files : List Text) → text_in (codes "out") (build_rows (rows_of ss files)) ≡ out_of ss
-out_text ss files = ap first_text (found (codes "out") ss files) ∙ out_found ss
+pub out_text : (ss : List Setting) (files : List Text) → text_in (codes "out") (ended (numbered build) (rows_of ss files)) ≡ out_of ss
+out_text ss files = ap first_text (found (numbered build) (codes "out") ss files) ∙ out_found ss
 
-files_found : (ss : List Setting) (files : List Text) → any_of (codes "files") (row_in (codes "files") (setting_rows ss)) (Some (file_row files)) ≡ Some (file_row files)
-files_found [] files = refl
-files_found (Ticks n ∷ ss) files = files_found ss files
-files_found (Small n ∷ ss) files = files_found ss files
-files_found (Grow n ∷ ss) files = files_found ss files
-files_found (Out prefix ∷ ss) files = files_found ss files
+files_found : (l : Level) (ss : List Setting) (files : List Text) → any_of l (codes "files") (row_in (codes "files") (setting_rows ss)) (Some (file_row files)) ≡ Some (file_row files)
+files_found l [] files = refl
+files_found l (Ticks n ∷ ss) files = files_found l ss files
+files_found l (Small n ∷ ss) files = files_found l ss files
+files_found l (Grow n ∷ ss) files = files_found l ss files
+files_found l (Out prefix ∷ ss) files = files_found l ss files
 
-the_files : (ss : List Setting) (files : List Text) → row_in (codes "files") (build_rows (rows_of ss files)) ≡ Some (file_row files)
-the_files ss files = found (codes "files") ss files ∙ files_found ss files
+the_files : (l : Level) (ss : List Setting) (files : List Text) → row_in (codes "files") (ended l (rows_of ss files)) ≡ Some (file_row files)
+the_files l ss files = found l (codes "files") ss files ∙ files_found l ss files
 
-pub files_in : (ss : List Setting) (files : List Text) → values_in (codes "files") (build_rows (rows_of ss files)) ≡ files
-files_in ss files = ap (λ (o : Option Row). option_map_or (λ r. r.values) o []) (the_files ss files)
+pub files_in : (l : Level) (ss : List Setting) (files : List Text) → values_in (codes "files") (ended l (rows_of ss files)) ≡ files
+files_in l ss files = ap (λ (o : Option Row). option_map_or (λ r. r.values) o []) (the_files l ss files)
 
 -- the files are there, as they must be
-pub build_checks : (ss : List Setting) (files : List Text) → check_fault (shape_at build) (build_rows (rows_of ss files)) false ≡ []
-build_checks ss files = ap (λ (o : Option Row). check_kinds false false (not (option_map_or (λ r. explicit_source r.source) o false) || false)) (the_files ss files)
+given_files : (files : List Text) (o : Option Row) → o ≡ Some (file_row files)
+    → check_kinds false false (not (option_map_or (λ r. explicit_source r.source) o false) || false) ≡ []
+given_files files o e = ap (λ (o : Option Row). check_kinds false false (not (option_map_or (λ r. explicit_source r.source) o false) || false)) e
+
+pub checks_pass : (l : Level) (ss : List Setting) (files : List Text) → check_fault (shape_at l) (ended l (rows_of ss files)) false ≡ []
+checks_pass (numbered build) ss files = given_files files _ (the_files (numbered build) ss files)
+checks_pass (numbered why) ss files = given_files files _ (the_files (numbered why) ss files)
+checks_pass lint ss files = given_files files _ (the_files lint ss files)

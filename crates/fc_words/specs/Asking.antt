@@ -21,6 +21,7 @@ texts = map string_bytes
 -- what is to be done with the files
 pub data Order : Type 0 where
   Building : (tuning : Tuning) (prefix : List ℕ) → Order
+  Explaining : (tuning : Tuning) → Order
   Linting : Order
 
 -- an order, and the files: a first one and those behind it
@@ -32,6 +33,7 @@ pub record Asked : Type 0 where
 -- what a request of the code asks for
 abbrev pub order_of : Command → Order
 order_of (command.Build tuning prefix) = Building tuning prefix.now
+order_of (command.Why tuning) = Explaining tuning
 order_of command.Lint = Linting
 
 abbrev pub asked_of : Request → Asked
@@ -59,15 +61,17 @@ abbrev pub with_files : Order → List (List ℕ) → Option Asked
 with_files order [] = None
 with_files order (file ∷ others) = Some (record { order = order; file = file; others = others })
 
--- a build that may grow by less than what counts as small is none
-abbrev pub building : Tuning → List ℕ → List (List ℕ) → Option Asked
-building tuning prefix files = if nat_le tuning.small tuning.grow then with_files (Building tuning prefix) files else None
+-- an order that may grow by less than what counts as small is none
+abbrev pub tuned : Tuning → Order → List (List ℕ) → Option Asked
+tuned tuning order files = if nat_le tuning.small tuning.grow then with_files order files else None
 
 -- what a command of this name asks for, with what was found
 abbrev pub asked_by : List ℕ × List Row → Option Asked
 asked_by p =
-    if bytes_eq p.0 (codes "lint") then with_files Linting (values_in (codes "files") p.1)
-    else building (tuning_in p.1) (text_in (codes "out") p.1) (values_in (codes "files") p.1)
+    let files = values_in (codes "files") p.1 in
+    if bytes_eq p.0 (codes "lint") then with_files Linting files
+    else if bytes_eq p.0 (codes "why") then tuned (tuning_in p.1) (Explaining (tuning_in p.1)) files
+    else tuned (tuning_in p.1) (Building (tuning_in p.1) (text_in (codes "out") p.1)) files
 
 -- nothing is asked for where clap refuses the words
 abbrev pub unless_refused : Kinds → Option Asked → Option Asked

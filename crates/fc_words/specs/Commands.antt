@@ -43,6 +43,10 @@ tuned_app name = with_rule (with_rule (with_rule (new_app name) ticks_rule) smal
 abbrev pub build_app : App
 build_app = with_rule (with_rule (tuned_app (codes "build")) out_rule) files_rule
 
+-- the same, but for the place of what is written: nothing is
+abbrev pub why_app : App
+why_app = with_rule (tuned_app (codes "why")) files_rule
+
 abbrev pub lint_app : App
 lint_app = with_rule (new_app (codes "lint")) files_rule
 
@@ -51,6 +55,6 @@ abbrev pub top_app : App
 top_app = on_top (λ s. record s { no_binary_name = true; disable_help_flag = true; disable_help_subcommand = true; subcommand_required = true })
     (new_app (codes "coreopt"))
 
--- the whole command line: one of two commands
+-- the whole command line: one of three commands
 abbrev pub coreopt_app : App
-coreopt_app = with_subcommand (with_subcommand top_app build_app.top) lint_app.top
+coreopt_app = with_subcommand (with_subcommand (with_subcommand top_app build_app.top) why_app.top) lint_app.top

@@ -1,6 +1,7 @@
 -- Plain words, which are always accepted.
 use Rattle.std.specs.Prelude.{◌≡◌, ◌≢◌, ◌≤◌, ⊤, ℕ, Bool, List, [], ◌∷◌, ◌++◌, codes, decimal, map, Some, if◌then◌else◌}
-use Rattle.fc_words.specs.Asking.{Asked, Building, Linting, asked}
+use Rattle.fc_words.specs.declared.Tuning.{Tuning}
+use Rattle.fc_words.specs.Asking.{Asked, Building, Explaining, Linting, asked}
 
 -- an option with its value
 pub data Setting : Type 0 where
@@ -96,12 +97,14 @@ out_of (Out prefix ∷ ss) = prefix
 abbrev pub settings_of : List Written → List Setting
 settings_of = map (λ w. w.setting)
 
+abbrev pub tuning_of : List Setting → Tuning
+tuning_of ss = record { ticks = ticks_of ss; small = small_of ss; grow = grow_of ss }
+
 abbrev pub build_of : List Setting → List ℕ → List (List ℕ) → Asked
-build_of ss file others = record {
-  order = Building (record { ticks = ticks_of ss; small = small_of ss; grow = grow_of ss }) (out_of ss);
-  file = file;
-  others = others;
-}
+build_of ss file others = record { order = Building (tuning_of ss) (out_of ss); file = file; others = others }
+
+abbrev pub why_of : List Setting → List ℕ → List (List ℕ) → Asked
+why_of ss file others = record { order = Explaining (tuning_of ss); file = file; others = others }
 
 -- `build`, then options, then one or more files
 abbrev pub PlainBuild : Type 0
@@ -109,13 +112,21 @@ PlainBuild = (options : List Written) (file : List ℕ) (others : List (List ℕ
     → small_of (settings_of options) ≤ grow_of (settings_of options)
     → asked (codes "build" ∷ (spelled options ++ file ∷ others)) ≡ Some (build_of (settings_of options) file others)
 
+-- `why`, then options but `--out`, then one or more files
+abbrev pub PlainWhy : Type 0
+PlainWhy = (options : List Written) (file : List ℕ) (others : List (List ℕ)) → ArePlainOptions options → IsAbsent (codes "out") options → ArePlainTexts (file ∷ others)
+    → small_of (settings_of options) ≤ grow_of (settings_of options)
+    → asked (codes "why" ∷ (spelled options ++ file ∷ others)) ≡ Some (why_of (settings_of options) file others)
+
 -- `lint`, then one or more files
 abbrev pub PlainLint : Type 0
 PlainLint = (file : List ℕ) (others : List (List ℕ)) → ArePlainTexts (file ∷ others)
     → asked (codes "lint" ∷ file ∷ others) ≡ Some (record { order = Linting; file = file; others = others })
 
--- plain words, for either command
+-- plain words, for each command
 pub data IsPlain : List (List ℕ) → Type 0 where
   plain_for_build : (options : List Written) (file : List ℕ) (others : List (List ℕ)) → ArePlainOptions options → ArePlainTexts (file ∷ others)
       → small_of (settings_of options) ≤ grow_of (settings_of options) → IsPlain (codes "build" ∷ (spelled options ++ file ∷ others))
+  plain_for_why : (options : List Written) (file : List ℕ) (others : List (List ℕ)) → ArePlainOptions options → IsAbsent (codes "out") options → ArePlainTexts (file ∷ others)
+      → small_of (settings_of options) ≤ grow_of (settings_of options) → IsPlain (codes "why" ∷ (spelled options ++ file ∷ others))
   plain_for_lint : (file : List ℕ) (others : List (List ℕ)) → ArePlainTexts (file ∷ others) → IsPlain (codes "lint" ∷ file ∷ others)

@@ -3,7 +3,7 @@ ghost use Rattle.std.specs.Prelude.{◌≡◌, IfOk, false};
 ghost use Rattle.clap.specs.Walk.{rule_of};
 ghost use Rattle.clap.specs.Simple.{app_of, shape_of, with_rule, with_subcommand};
 ghost use Rattle.clap.specs.declared.builder.command.Command.TheViews.{out-Command as fields_of};
-ghost use Rattle.fc_words.specs.Commands.{build_app, coreopt_app, files_rule, lint_app, number_rule, out_rule, top_app, tuned_app};
+ghost use Rattle.fc_words.specs.Commands.{build_app, coreopt_app, files_rule, lint_app, number_rule, out_rule, top_app, tuned_app, why_app};
 
 use clap::builder::ValueParser;
 use clap::{Arg, ArgAction, Command};
@@ -77,6 +77,13 @@ fn build_command<'a>(alloc: Global) -> Result<Command<'a>, AllocError>
     with_arg(command, files_arg(alloc))
 }
 
+fn why_command<'a>(alloc: Global) -> Result<Command<'a>, AllocError>
+    ensures app { IfOk result (λ c. app_of c ≡ why_app) }
+    ensures local { IfOk result (λ c. (fields_of c).has_globals ≡ false) }
+{
+    with_arg(tuned_command(alloc, "why")?, files_arg(alloc))
+}
+
 fn lint_command<'a>(alloc: Global) -> Result<Command<'a>, AllocError>
     ensures app { IfOk result (λ c. app_of c ≡ lint_app) }
     ensures local { IfOk result (λ c. (fields_of c).has_globals ≡ false) }
@@ -96,10 +103,11 @@ fn top_command<'a>(alloc: Global) -> Command<'a>
         .subcommand_required(true)
 }
 
-/// The whole command line: one of two commands.
+/// The whole command line: one of three commands.
 pub(crate) fn coreopt_command<'a>(alloc: Global) -> Result<Command<'a>, AllocError>
     ensures { IfOk result (λ c. app_of c ≡ coreopt_app) }
 {
     let command = with_command(top_command(alloc), build_command(alloc)?)?;
+    let command = with_command(command, why_command(alloc)?)?;
     with_command(command, lint_command(alloc)?)
 }

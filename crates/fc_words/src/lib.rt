@@ -1,9 +1,9 @@
-//! The words of a command line: one of the commands `build` and `lint`, with its options and files, read with clap.
+//! The words of a command line: one of the commands `build`, `why` and `lint`, with its options and files, read with clap.
 #![tactic(auto)]
 
 ghost use Rattle.std.specs.Prelude.{◌≡◌, Some, None, IfOk, IsErrOf};
 ghost use Rattle.fc_words.specs.Asking.{asked, asked_of, texts};
-ghost use Rattle.fc_words.specs.Plain.{PlainBuild, PlainLint};
+ghost use Rattle.fc_words.specs.Plain.{PlainBuild, PlainLint, PlainWhy};
 
 mod commands;
 mod reading;
@@ -26,6 +26,8 @@ pub struct Tuning {
 pub enum Command<'a> {
     /// Judge them and write what they are built to, each file's name behind this prefix.
     Build(Tuning, &'a str),
+    /// Judge them and put the logs of what they would be built to, and write nothing.
+    Why(Tuning),
     /// Judge them, and write nothing.
     Lint,
 }
@@ -52,10 +54,11 @@ pub enum Unasked {
 
 /// Plain words are always accepted, and each option then has the value that is written, else its default.
 ///
-/// Plain words are the word of a command; then, for `build`, any of its options, each at most once and in any order, as `--x v`
+/// Plain words are the word of a command; then, for `build` and `why`, any of its options, each at most once and in any order, as `--x v`
 /// or `--x=v`; then one or more files. Numbers stand in decimal digits without leading zeros, within their range; prefixes and
 /// names of files are not empty and do not begin with `-`.
 pub fn plain_words_are_accepted()
     ensures build { PlainBuild }
+    ensures why { PlainWhy }
     ensures lint { PlainLint }
 {}

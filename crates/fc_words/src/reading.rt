@@ -27,7 +27,7 @@ fn number_of(matches: &ArgMatches<'_>, id: &str) -> u64
     text_of(matches, id).parse::<u64>().unwrap()
 }
 
-/// The three numbers of a build.
+/// The three numbers.
 fn tuning_of(matches: &ArgMatches<'_>) -> Tuning
     requires { HasNumbers (rows_of (found_of matches.now)) }
     ensures { result ≡ tuning_in (rows_of (found_of matches.now)) }
@@ -76,7 +76,11 @@ fn request_in<'a>(alloc: Global, matches: &ArgMatches<'a>) -> Result<Request<'a>
         if tuning.small > tuning.grow {
             return Err(Unasked::Usage);
         }
-        Command::Build(tuning, text_of(found, "out"))
+        if name == "why" {
+            Command::Why(tuning)
+        } else {
+            Command::Build(tuning, text_of(found, "out"))
+        }
     };
     let Ok(others) = others.to_vec(alloc) else {
         return Err(Unasked::Memory);

@@ -25,6 +25,7 @@ fn has_files(request: &Request<'_>, files: &[&str]) -> bool {
 #[derive(Clone, Copy, Debug)]
 enum Want<'a> {
     Build((u64, u64, u64), &'a str, &'a [&'a str]),
+    Why((u64, u64, u64), &'a [&'a str]),
     Lint(&'a [&'a str]),
     Usage,
 }
@@ -36,6 +37,9 @@ fn is_wanted(request: &Request<'_>, want: Want<'_>) -> bool {
             (tuning.ticks, tuning.small, tuning.grow) == numbers
                 && folder == prefix
                 && has_files(request, files)
+        }
+        (Command::Why(tuning), Want::Why(numbers, files)) => {
+            (tuning.ticks, tuning.small, tuning.grow) == numbers && has_files(request, files)
         }
         (Command::Lint, Want::Lint(files)) => has_files(request, files),
         _ => false,
@@ -241,6 +245,30 @@ fn options_stand_anywhere(rt: HostRuntime) -> Result<(), Fail> {
 }
 
 #[test]
+fn whys_are_read(rt: HostRuntime) -> Result<(), Fail> {
+    let rows: [(&[&str], (u64, u64, u64), &[&str]); 6] = [
+        (&["why", "a"], (2000, 30, 300), &["a"]),
+        (
+            &["why", "--ticks", "7", "--grow=40", "--small", "2", "a", "b"],
+            (7, 2, 40),
+            &["a", "b"],
+        ),
+        (&["why", "a", "--ticks=7", "b"], (7, 30, 300), &["a", "b"]),
+        (&["why", "--small", "300", "a"], (2000, 300, 300), &["a"]),
+        (&["why", "why", "build"], (2000, 30, 300), &["why", "build"]),
+        (
+            &["why", "--", "--out", "x"],
+            (2000, 30, 300),
+            &["--out", "x"],
+        ),
+    ];
+    for (words, numbers, files) in rows {
+        expect(&rt, rt.alloc(), words, Want::Why(numbers, files))?;
+    }
+    Ok(())
+}
+
+#[test]
 fn lints_are_read(rt: HostRuntime) -> Result<(), Fail> {
     let rows: [(&[&str], &[&str]); 6] = [
         (&["lint", "a"], &["a"]),
@@ -262,12 +290,13 @@ fn lints_are_read(rt: HostRuntime) -> Result<(), Fail> {
 
 #[test]
 fn small_may_not_be_above_grow(rt: HostRuntime) -> Result<(), Fail> {
-    let rows: [&[&str]; 5] = [
+    let rows: [&[&str]; 6] = [
         &["build", "--small", "301", "a"],
         &["build", "--grow", "29", "a"],
         &["build", "--grow=0", "a"],
         &["build", "--small=5", "--grow=4", "a"],
         &["build", "--grow", "9999", "--small", "10000", "a"],
+        &["why", "--small", "5", "--grow", "4", "a"],
     ];
     expect_usage(&rt, rt.alloc(), &rows)?;
     Ok(())
@@ -367,10 +396,12 @@ fn other_options_are_refused(rt: HostRuntime) -> Result<(), Fail> {
         "---ticks=5",
         "--build",
         "--lint",
+        "--why",
     ];
     for option in options {
         expect(&rt, rt.alloc(), &["build", option, "a"], Want::Usage)?;
         expect(&rt, rt.alloc(), &["build", "a", option], Want::Usage)?;
+        expect(&rt, rt.alloc(), &["why", option, "a"], Want::Usage)?;
         expect(&rt, rt.alloc(), &["lint", option, "a"], Want::Usage)?;
         expect(&rt, rt.alloc(), &[option, "build", "a"], Want::Usage)?;
         expect(&rt, rt.alloc(), &[option], Want::Usage)?;
@@ -393,10 +424,21 @@ fn a_lint_has_no_option_of_a_build(rt: HostRuntime) -> Result<(), Fail> {
 }
 
 #[test]
+fn a_why_has_no_place_of_what_is_written(rt: HostRuntime) -> Result<(), Fail> {
+    let rows: [&[&str]; 3] = [
+        &["why", "--out", "x", "a"],
+        &["why", "--out=x", "a"],
+        &["why", "a", "--out", "x"],
+    ];
+    expect_usage(&rt, rt.alloc(), &rows)?;
+    Ok(())
+}
+
+#[test]
 fn other_commands_are_refused(rt: HostRuntime) -> Result<(), Fail> {
     let names = [
-        "why", "gen", "migrate", "check", "help", "coreopt", "buil", "b", "l", "builds", "Build",
-        "LINT", "", "-", "--", "a", "5", " build", "build ",
+        "wh", "whys", "WHY", "gen", "migrate", "check", "help", "coreopt", "buil", "b", "l",
+        "builds", "Build", "LINT", "", "-", "--", "a", "5", " build", "build ",
     ];
     for name in names {
         expect(&rt, rt.alloc(), &[name], Want::Usage)?;
@@ -408,12 +450,15 @@ fn other_commands_are_refused(rt: HostRuntime) -> Result<(), Fail> {
 
 #[test]
 fn a_command_has_a_file(rt: HostRuntime) -> Result<(), Fail> {
-    let rows: [&[&str]; 8] = [
+    let rows: [&[&str]; 11] = [
         &["build"],
+        &["why"],
         &["lint"],
         &["build", "--"],
+        &["why", "--"],
         &["lint", "--"],
         &["build", "--ticks", "5"],
+        &["why", "--ticks", "5"],
         &["build", "--ticks=5", "--small=4", "--grow=6", "--out=p"],
         &["build", "--out", "a"],
         &["build", "--out", "a", "--"],

@@ -1,5 +1,5 @@
 //! Each call on files and each put on a stream that fails, one at a time and together, and streams that take too little.
-use super::{Devices, HEADER, SOUND, holds, run_over};
+use super::{Devices, HEADER, LOG, SOUND, holds, run_over};
 use std::alloc::Global;
 use std::process::Abort;
 use std::test::Fail;
@@ -7,9 +7,6 @@ use std::test::Fail;
 const CORE: &[u8] = b"(module M (imports) (exports))\n";
 
 const INTERFACE: &[u8] = b"(interface 1 M (imports) (exports))\n";
-
-const LOG: &[u8] =
-    b"log 1 M\nmark simplify\nmark special\nmark simplify\nmark float-out\nmark simplify\nmark float-in\nmark strict\nmark split\nmark simplify\n";
 
 /// The line for a file that is one bracket.
 const REFUSED: &[u8] = b"refused 3 BadForm M.fc - @1\n";

@@ -1,6 +1,6 @@
 //! Sets of modules: the order in which they are built, their faults, their files, and each call on files and each put that fails.
 use super::{Devices, Entry, Ran, SOUND, holds, run_set};
-use std::alloc::Global;
+use std::alloc::{AllocError, Global};
 use std::process::Abort;
 use std::test::Fail;
 
@@ -19,16 +19,33 @@ const CORE_B: &[u8] = b"(module B (imports A) (exports x)\n (def x A.T (con A.K)
 
 const CORE_C: &[u8] = b"(module C (imports B A) (exports) (hidden y)\n (def y A.T B.x))\n";
 
-const LOG_C: &[u8] =
-    b"log 1 C\nmark simplify\nmark special\nmark simplify\nmark float-out\nmark simplify\nmark float-in\nmark strict\nmark split\nmark simplify\n";
+/// What stands behind the name of a module in its log, where no step is taken.
+const MARKS: &[u8] =
+    b"\nmark simplify\nmark special\nmark simplify\nmark float-out\nmark simplify\nmark float-in\nmark strict\nmark split\nmark simplify\n";
 
 const INTERFACE_C: &[u8] =
     b"(interface 1 C (imports B A) (exports) (hidden y)\n (value y A.T (sig) (def B.x)))\n";
+
+/// The logs of modules of these names, to which no step is taken.
+fn logs_of(alloc: Global, names: &[&str]) -> Result<Vec<u8>, AllocError> {
+    let mut text = Vec::new(alloc);
+    for name in names {
+        text.extend_from_slice(b"log 1 ")?;
+        text.extend_from_slice(name.as_bytes())?;
+        text.extend_from_slice(MARKS)?;
+    }
+    Ok(text)
+}
 
 /// The set, with the module that is built last in front.
 const SET: [Entry<'static>; 3] = [("C.fc", C), ("A.fc", A), ("B.fc", B)];
 
 const WORDS: [&str; 4] = ["build", "C.fc", "A.fc", "B.fc"];
+
+const EXPLAINING: [&str; 4] = ["why", "C.fc", "A.fc", "B.fc"];
+
+/// The modules in the order in which they are built.
+const BUILT: [&str; 3] = ["A", "B", "C"];
 
 #[test]
 fn modules_are_written_in_the_order_in_which_they_are_built(rt: HostRuntime) -> Result<(), Fail> {
@@ -41,7 +58,8 @@ fn modules_are_written_in_the_order_in_which_they_are_built(rt: HostRuntime) -> 
     assert!(rt; holds(alloc, &mut ran, "./B.opt.fc", Some(CORE_B))?);
     assert!(rt; holds(alloc, &mut ran, "./C.opt.fc", Some(CORE_C))?);
     assert!(rt; holds(alloc, &mut ran, "./C.fci", Some(INTERFACE_C))?);
-    assert!(rt; holds(alloc, &mut ran, "./C.why", Some(LOG_C))?);
+    let log = logs_of(alloc, &["C"])?;
+    assert!(rt; holds(alloc, &mut ran, "./C.why", Some(log.as_slice()))?);
     Ok(())
 }
 
@@ -151,6 +169,34 @@ fn each_put_that_fails_is_told(rt: HostRuntime) -> Result<(), Fail> {
         (puts(&[], 24), 0, b"built A\nbuilt B\nbuilt C\n", b"", 9),
     ];
     are_as_told(&rt, rt.alloc(), rows.as_slice())
+}
+
+/// A run of `why` over the set: its devices, the status, the error stream, and how many logs are put.
+type Explained<'a> = (Devices<'a>, u8, &'a [u8], usize);
+
+/// Runs each row, compares the streams, and that no file was written.
+fn are_explained(rt: &impl Abort, alloc: Global, rows: &[Explained<'_>]) -> Result<(), Fail> {
+    for (devices, status, err, count) in rows {
+        let mut ran = run_set(rt, alloc, &EXPLAINING, &SET, devices)?;
+        let logs = logs_of(alloc, &BUILT[..BUILT.len().min(*count)])?;
+        assert_eq!(rt; ran.err.bytes(), *err);
+        assert_eq!(rt; ran.status, *status);
+        assert_eq!(rt; ran.out.bytes(), logs.as_slice());
+        stand_up_to(rt, alloc, &mut ran, 0)?;
+    }
+    Ok(())
+}
+
+#[test]
+fn logs_are_put_in_the_order_in_which_modules_are_built(rt: HostRuntime) -> Result<(), Fail> {
+    let rows: [Explained<'_>; 5] = [
+        (SOUND, 0, b"", 3),
+        (calls(&[2]), 3, b"read fault A.fc\n", 0),
+        (puts(&[1], 500), 4, b"write fault -\n", 0),
+        (puts(&[2], 500), 4, b"write fault -\n", 1),
+        (puts(&[3], 500), 4, b"write fault -\n", 2),
+    ];
+    are_explained(&rt, rt.alloc(), rows.as_slice())
 }
 
 /// A set that is not accepted: its files in the order of the words, and the line.

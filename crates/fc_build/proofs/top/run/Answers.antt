@@ -3,7 +3,7 @@ use Rattle.fc_words.specs.Asking.{asked, texts}
 use Rattle.fc_words.proofs.PlainWords.{plain_is_asked}
 use Rattle.fc_build.specs.Delivering.{steps_in}
 use Rattle.fc_build.specs.Preparing.{IsProduct}
-use Rattle.fc_build.proofs.RunLemmas.{delivered_done, delivered_lint, delivered_memory, delivered_write_fault, product_has_no_fault, stop_complete}
+use Rattle.fc_build.proofs.RunLemmas.{delivered_done, delivered_memory, delivered_reading, delivered_write_fault, product_has_no_fault, stop_complete}
 use Rattle.fc_build.proofs.top.run.Goals as goal
 
 pub returns-in-Err-clause-plain : goal.returns-in-Err-clause-plain
@@ -29,11 +29,11 @@ returns-clause-memory g c is =
     delivered_memory (texts c.args.words.now) _ _ _ (steps_in c.as_slice.result.now) (subst (λ ss. IsProduct (texts c.args.words.now) (g.F.Files.held c.args.files.now) (steps_in ss)) (sym c.as_slice.ensures.value) c.in-Ok.ensures.answer) c.in-Ok.ensures.held _ _ _ c.in-Ok.ensures.writes _ _ _ _ _ _ _ _
     c.deliver-delivery.result c.deliver-delivery.ensures.delivers c.tell_delivery.ensures.line (sym c.tell_delivery.ensures.status ∙ is)
 
-pub returns-clause-lint_writes_nothing : goal.returns-clause-lint_writes_nothing
-returns-clause-lint_writes_nothing g c a asks lint =
-    delivered_lint (texts c.args.words.now) _ _ _ (steps_in c.as_slice.result.now) (subst (λ ss. IsProduct (texts c.args.words.now) (g.F.Files.held c.args.files.now) (steps_in ss)) (sym c.as_slice.ensures.value) c.in-Ok.ensures.answer) c.in-Ok.ensures.held _ _ _ c.in-Ok.ensures.writes
+pub returns-clause-writes_nothing : goal.returns-clause-writes_nothing
+returns-clause-writes_nothing g c a asks reading =
+    delivered_reading (texts c.args.words.now) _ _ _ (steps_in c.as_slice.result.now) (subst (λ ss. IsProduct (texts c.args.words.now) (g.F.Files.held c.args.files.now) (steps_in ss)) (sym c.as_slice.ensures.value) c.in-Ok.ensures.answer) c.in-Ok.ensures.held _ _ _ c.in-Ok.ensures.writes
     (g.O.Sink.taken c.args.out.now) (g.O.Sink.taken c.deliver-delivery.new.out) (g.O.Sink.faults c.args.out.now) (g.O.Sink.faults c.deliver-delivery.new.out)
-    c.deliver-delivery.ensures.nothing a asks lint
+    c.deliver-delivery.ensures.nothing a asks reading
 
 pub returns-clause-complete_refused : goal.returns-clause-complete_refused
 returns-clause-complete_refused g c a asks reads = product_has_no_fault (texts c.args.words.now) (g.F.Files.held c.args.files.now) (steps_in c.in-Ok.steps.items) _ c.in-Ok.ensures.answer a asks

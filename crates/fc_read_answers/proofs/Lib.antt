@@ -1,0 +1,4 @@
+pub mod EachText
+pub mod Parting
+pub mod Walking
+pub mod Wholes
