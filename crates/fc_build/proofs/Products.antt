@@ -1,7 +1,7 @@
 -- What is done for the modules of an accepted set is a build of them, in the order in which they are built.
 use Rattle.std.proofs.Common.{◌≡◌, ◌<◌, ◌+◌, ◌∙◌, ℕ, zero, suc, arith, Bool, All, List, [], ◌∷◌, ◌++◌, get_or, length, map, take, refl, sym, ap, subst}
 use Rattle.std.proofs.lemmas.List.{map-append, take_more}
-use Rattle.std.proofs.lemmas.List.Elements.{All-head, All-tail}
+use Rattle.std.proofs.lemmas.List.Elements.{All-cons, All-head, All-nil, All-tail}
 use Rattle.fc_syntax.specs.Tree.{Module}
 use Rattle.fc_syntax.specs.View.{module_of}
 use Rattle.fc_syntax.specs.declared.module.Module as RustModule
@@ -22,7 +22,7 @@ use Rattle.fc_reaching.specs.Recursion.{AreRecursive}
 use Rattle.fc_set_rules.specs.FormsDecide.{AllResolve, none_resolve, one_resolves}
 use Rattle.fc_words.specs.declared.Tuning.{Tuning}
 use Rattle.fc_words.specs.Asking.{Order, Building, Explaining, Linting}
-use Rattle.fc_build.specs.Building.{AreBuilt, AreReplays, AreSteps, IsBuild, IsExplanation, Outcome, none_built, one_built}
+use Rattle.fc_build.specs.Building.{AreBuilt, AreReplays, AreSteps, IsBuild, IsExplanation, Outcome, Telling, TellsAnything, TellsInterface, none_built, one_built, told_in}
 use Rattle.fc_build.specs.Delivering.{step_in, steps_in}
 use Rattle.fc_build.specs.Judging.{IsReadySet, modules_in}
 use Rattle.fc_build.specs.Product.{Step, built_step, explained_step, interface_written, linted_step, unchanged_log}
@@ -32,7 +32,7 @@ use Rattle.fc_build.specs.declared.product.Step as rust
 use Rattle.fc_build.proofs.Faithful.{set_faithful, written_names}
 use Rattle.fc_build.proofs.InterfacesWritten.{written_is_formed}
 use Rattle.fc_build.proofs.Ordered.{NamesOthers, order_keeps, order_names_others, picked}
-use Rattle.fc_build.proofs.Replayed.{all_spell, replayed, unchanged_logs, unchanged_spells}
+use Rattle.fc_build.proofs.Replayed.{IsTold, all_spell, all_told, replayed, unchanged_logs, unchanged_spells}
 use Rattle.fc_build.proofs.Written.{form_names, resolved_forms, set_resolves, set_writable, written_are_formed, written_resolves}
 
 abbrev Form : Type 0
@@ -87,17 +87,18 @@ set_is_writable set ready fs forms words =
 -- WHAT COMES OF A SET
 
 -- modules that have the forms of a set that lints, under their headers, come of it with logs of no step
-outcome : (ms ks : List Module) → SetLints ms → All IsFormed ms → All NamesOthers ms → AllResolve ks (forms_written (nameless_forms ms)) → Outcome ms
-outcome ms ks lint formed others resolves =
+outcome : (Tells : Telling) (ms ks : List Module) → SetLints ms → All IsFormed ms → All NamesOthers ms → AllResolve ks (forms_written (nameless_forms ms))
+    → All (IsTold Tells) (forms_written (nameless_forms ms)) → Outcome Tells ms
+outcome Tells ms ks lint formed others resolves told =
     let read = set_resolves ms lint in
     let names : map name_of ks ≡ map name_of ms = written_names ms ks lint resolves in
     record {
       written = ks;
       logs = unchanged_logs (map name_of ks);
       replayed =
-          subst (AreReplays (map name_of ms) (unchanged_logs (map name_of ks)) (nameless_forms ms)) (ap (λ ws. map (form_written_among ws) (nameless_forms ms)) (form_names read) ∙ sym (resolved_forms resolves))
-          (subst (λ ws. AreReplays (map name_of ms) (unchanged_logs ws) (nameless_forms ms) (map (form_written_among (map name_of ms)) (nameless_forms ms))) (sym names)
-          (replayed (map name_of ms) read formed));
+          subst (AreReplays (map name_of ms) Tells [] (unchanged_logs (map name_of ks)) (nameless_forms ms)) (ap (λ ws. map (form_written_among ws) (nameless_forms ms)) (form_names read) ∙ sym (resolved_forms resolves))
+          (subst (λ ws. AreReplays (map name_of ms) Tells [] (unchanged_logs ws) (nameless_forms ms) (map (form_written_among (map name_of ms)) (nameless_forms ms))) (sym names)
+          (replayed (map name_of ms) Tells [] read formed (subst (λ ws. All (IsTold Tells) (map (form_written_among ws) (nameless_forms ms))) (sym (form_names read)) told)));
       faithful = set_faithful ms ks lint others resolves;
     }
 
@@ -112,12 +113,23 @@ all_written no_forms = record { modules = []; resolve = none_resolve; are = none
 all_written (one_form first rest) =
     let others = all_written rest in record { modules = first.written ∷ others.modules; resolve = one_resolves first.resolves others.resolve; are = one_built first.built others.are }
 
+-- what is told of the modules that a build writes
+forms_told : {tuning : Tuning} {prefix : List ℕ} {forms : List NModule} {steps : List Step} → AreBuiltForms tuning prefix forms steps → All (IsTold (TellsInterface tuning.grow)) forms
+forms_told {tuning = tuning} no_forms = All-nil (IsTold (TellsInterface tuning.grow))
+forms_told {tuning = tuning} (one_form {form = form} {forms = forms} first rest) =
+    All-cons (IsTold (TellsInterface tuning.grow)) form forms
+    (record {
+      told = told_in first.built.interface;
+      tells = record { of_module = first.written; resolves = first.resolves; interface = first.built.interface; tells = first.built.tells; is = refl };
+    })
+    (forms_told rest)
+
 is_build : (tuning : Tuning) (prefix : List ℕ) (ms : List Module) (steps : List Step) → SetLints ms → All IsFormed ms → All NamesOthers ms
     → AreBuiltForms tuning prefix (forms_written (nameless_forms ms)) steps → IsBuild tuning prefix ms steps
 unfolding outcome all_written
 is_build tuning prefix ms steps lint formed others are =
     let w = all_written are in record {
-      outcome = outcome ms w.modules lint formed others w.resolve;
+      outcome = outcome (TellsInterface tuning.grow) ms w.modules lint formed others w.resolve (forms_told are);
       are = subst (λ ns. AreBuilt tuning prefix ns (unchanged_logs (map name_of w.modules)) w.modules steps) (sym (resolved_forms w.resolve)) w.are;
     }
 
@@ -129,7 +141,7 @@ is_explanation ms steps lint formed others are =
     let ks = set_written ms in
     let resolves = written_resolves ms lint in
     record {
-      outcome = outcome ms ks lint formed others resolves;
+      outcome = outcome TellsAnything ms ks lint formed others resolves (all_told (forms_written (nameless_forms ms)));
       spell = all_spell ks (written_are_formed ms lint formed);
       are = are ∙ ap (λ ws. map explained_step (unchanged_logs ws)) (sym (form_names (set_resolves ms lint)) ∙ sym (written_names ms ks lint resolves));
     }

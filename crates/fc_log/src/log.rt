@@ -110,7 +110,7 @@ pub struct Step {
     pub row: Row,
     /// The definition; none where the row is of the whole module.
     pub def: Option<Text>,
-    /// The numbers of the parts from the right side of the definition on; nowhere where there is no definition.
+    /// The numbers of the parts from the definition inward, whose right side is its part 1; nowhere where there is no definition.
     pub path: Place,
     /// What a fold becomes; none for other rows.
     pub answer: Option<Answer>,

@@ -1,2 +1,11 @@
+pub mod Changing
+pub mod ChangingCoercions
+pub mod Commuting
+pub mod Dropping
 pub mod Occurrences
 pub mod Replaying
+pub mod ResultLimits
+pub mod Rewriting
+pub mod Shrinking
+pub mod Surroundings
+pub mod Telling

@@ -1,0 +1,9 @@
+pub mod ChangedPrograms
+pub mod ChosenAlike
+pub mod Closing
+pub mod Congruence
+pub mod Counting
+pub mod Formers
+pub mod Runs
+pub mod Shown
+pub mod TermSubstitutions

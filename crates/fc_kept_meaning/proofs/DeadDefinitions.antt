@@ -1,0 +1,102 @@
+-- Definitions that nothing reaches may be taken away.
+use Rattle.std.proofs.Common.{◌≡◌, Bool, true, false, List, [], ◌∷◌, if◌then◌else◌, bytes_eq, Option, Some, refl, sym, ap, ◌∙◌}
+use Rattle.fc_syntax.specs.Tree.{Word}
+use Rattle.fc_syntax.specs.declared.ty.Name.{Name}
+use Rattle.fc_model.specs.Erasure.{erased, no_scope}
+use Rattle.fc_model.specs.Headers.{ndecls_in}
+use Rattle.fc_model.specs.Kinding.{same_word}
+use Rattle.fc_model.specs.Nameless.{NDecl, NData, NNew, NFamily, NAxiom, NDef, NWrap, NModule, NModuleOf}
+use Rattle.fc_model.specs.Programs.{Mentions, AllMention, AltsMention, right_side}
+use Rattle.fc_model.specs.Stepping.{Program}
+use Rattle.fc_model.specs.Terms.{Term, Lit, Var, Global, Fail, App, Lam, Let, Rec, Case, Con, Prim, Terms, Nil, Cons, Alts, NoAlt, Alt}
+use Rattle.fc_model.proofs.Sameness.{bytes_eq_eq}
+use Rattle.fc_meaning.proofs.Named.{sees_other}
+use Rattle.fc_meaning.proofs.Optional.{false_true}
+use Rattle.fc_counted.specs.CountingLaws.{SeesSame}
+use Rattle.fc_rows.specs.Rewriting.{without_definitions}
+use Rattle.fc_kept_meaning.specs.MeaningKept.{own_name, with_module, HoldsModule, MayBeAsked, OthersKeepOut, KeepsMeaning, is_kept, IsDead, DeadTaken, takes_dead}
+
+module _ (M N : Name → Type 0) (more : (x : Name) → M x → N x) where
+  mutual
+    pub mentions_more : (t : Term) → Mentions M t → Mentions N t
+    mentions_more (Lit z) w = tt
+    mentions_more (Var n) w = tt
+    mentions_more (Global x) w = more x w
+    mentions_more Fail w = tt
+    mentions_more (App s f a) w = (mentions_more f w.0, mentions_more a w.1)
+    mentions_more (Lam s b) w = mentions_more b w
+    mentions_more (Let s e b) w = (mentions_more e w.0, mentions_more b w.1)
+    mentions_more (Rec ts b) w = (all_mentions_more ts w.0, mentions_more b w.1)
+    mentions_more (Case s e alts) w = (mentions_more e w.0, alts_mentions_more alts w.1)
+    mentions_more (Con c ss ts) w = all_mentions_more ts w
+    mentions_more (Prim o a b) w = (mentions_more a w.0, mentions_more b w.1)
+
+    all_mentions_more : (ts : Terms) → AllMention M ts → AllMention N ts
+    all_mentions_more Nil w = tt
+    all_mentions_more (Cons t ts) w = (mentions_more t w.0, all_mentions_more ts w.1)
+
+    alts_mentions_more : (alts : Alts) → AltsMention M alts → AltsMention N alts
+    alts_mentions_more NoAlt w = tt
+    alts_mentions_more (Alt h b alts) w = (mentions_more b w.0, alts_mentions_more alts w.1)
+
+-- a kept definition is found as before
+kept_step : (keep : Word → Bool) (v w : Word) (x : Term) (d : NDecl) (rest more : Option Term) (b : Bool) → keep v ≡ b → keep w ≡ true → rest ≡ more → (t : Bool) → bytes_eq v w ≡ t
+    → (if t then Some x else rest) ≡ (if b then (if t then Some x else more) else more)
+kept_step keep v w x d rest more true kv kw e true q = refl
+kept_step keep v w x d rest more true kv kw e false q = e
+kept_step keep v w x d rest more false kv kw e true q = absurd (false_true (sym kv ∙ ap keep (bytes_eq_eq v w q) ∙ kw))
+kept_step keep v w x d rest more false kv kw e false q = e
+
+right_if : (b : Bool) (d : NDecl) (ds : List NDecl) (w : Word) → right_side (if b then d ∷ ds else ds) w ≡ (if b then right_side (d ∷ ds) w else right_side ds w)
+right_if true d ds w = refl
+right_if false d ds w = refl
+
+kept_found : (keep : Word → Bool) (ds : List NDecl) (w : Word) → keep w ≡ true → right_side ds w ≡ right_side (without_definitions keep ds) w
+kept_found keep [] w k = refl
+kept_found keep (NData v ps cs ∷ ds) w k = kept_found keep ds w k
+kept_found keep (NNew v ps t con ∷ ds) w k = kept_found keep ds w k
+kept_found keep (NFamily v ps j ∷ ds) w k = kept_found keep ds w k
+kept_found keep (NAxiom v ps t u ∷ ds) w k = kept_found keep ds w k
+kept_found keep (NDef v t e ∷ ds) w k =
+    kept_step keep v w (erased no_scope e) (NDef v t e) (right_side ds w) (right_side (without_definitions keep ds) w) (keep v) refl k (kept_found keep ds w k) (bytes_eq v w) refl
+    ∙ sym (right_if (keep v) (NDef v t e) (without_definitions keep ds) w)
+kept_found keep (NWrap v t e ∷ ds) w k =
+    kept_step keep v w (erased no_scope e) (NWrap v t e) (right_side ds w) (right_side (without_definitions keep ds) w) (keep v) refl k (kept_found keep ds w k) (bytes_eq v w) refl
+    ∙ sym (right_if (keep v) (NWrap v t e) (without_definitions keep ds) w)
+
+module _ (m n : NModule) (keep : Word → Bool) (dead : IsDead m keep) (same : own_name m ≡ own_name n) (goes : ndecls_in n ≡ without_definitions keep (ndecls_in m)) (P : Program)
+    (holds : HoldsModule P m) (out : OthersKeepOut P m) where
+  -- what may be asked for stays
+  asked_is_kept : (x : Name) → MayBeAsked m x → is_kept m keep x ≡ true
+  asked_is_kept x w = go (same_word x.module (Some (own_name m))) refl
+    where
+      go : (b : Bool) → same_word x.module (Some (own_name m)) ≡ b → (if b then keep x.text else true) ≡ true
+      go true e = dead.offered x.text (w e)
+      go false e = refl
+
+  kept_is_same : (x : Name) → is_kept m keep x ≡ true → P x ≡ with_module n P x
+  kept_is_same x w = go (same_word x.module (Some (own_name m))) refl w
+    where
+      go : (b : Bool) → same_word x.module (Some (own_name m)) ≡ b → (if b then keep x.text else true) ≡ true → P x ≡ with_module n P x
+      go true e k =
+          let own : same_word x.module (Some (own_name n)) ≡ true = ap (λ v. same_word x.module (Some v)) (sym same) ∙ e in
+          holds x e ∙ kept_found keep (ndecls_in m) x.text k ∙ ap (λ ds. right_side ds x.text) (sym goes) ∙ sym (ap (λ b. if b then right_side (ndecls_in n) x.text else P x) own)
+      go false e k =
+          let other : same_word x.module (Some (own_name n)) ≡ false = ap (λ v. same_word x.module (Some v)) (sym same) ∙ e in
+          sym (ap (λ b. if b then right_side (ndecls_in n) x.text else P x) other)
+
+  kept_is_closed : (x : Name) → is_kept m keep x ≡ true → (t : Term) → P x ≡ Some t → Mentions (λ y. is_kept m keep y ≡ true) t
+  kept_is_closed x w t d = go (same_word x.module (Some (own_name m))) refl w
+    where
+      go : (b : Bool) → same_word x.module (Some (own_name m)) ≡ b → (if b then keep x.text else true) ≡ true → Mentions (λ y. is_kept m keep y ≡ true) t
+      go true e k = dead.closed x.text t k (sym (holds x e) ∙ d)
+      go false e k = mentions_more (MayBeAsked m) (λ y. is_kept m keep y ≡ true) asked_is_kept t (out x t (λ own. false_true (sym e ∙ own)) d)
+
+  pub dead_shows : (t : Term) → Mentions (MayBeAsked m) t → SeesSame P (with_module n P) t
+  dead_shows t w =
+      sees_other (λ x. is_kept m keep x ≡ true) P (with_module n P) (record { same = kept_is_same; closed = kept_is_closed }) t
+      (mentions_more (MayBeAsked m) (λ y. is_kept m keep y ≡ true) asked_is_kept t w)
+
+pub dead_keeps_meaning : KeepsMeaning DeadTaken
+dead_keeps_meaning xs _ _ (takes_dead {m = m} {imports = imports} {exports = exports} {hidden = hidden} {ds = ds} keep dead) lm ln wm wn P sp fair holds out t st w =
+    dead_shows (NModuleOf m imports exports hidden ds) (NModuleOf m imports exports hidden (without_definitions keep ds)) keep dead refl refl P holds out t w

@@ -1,0 +1,4 @@
+pub mod CaseExamples
+pub mod ExampleTerms
+pub mod Examples
+pub mod ExamplesHold

@@ -1,0 +1,9 @@
+pub mod BinderParts
+pub mod ErasedChanges
+pub mod JoinsStand
+pub mod KnowingRowsErased
+pub mod MovedFacts
+pub mod MovedParts
+pub mod NamelessKnowing
+pub mod OpenedErased
+pub mod RowsErased

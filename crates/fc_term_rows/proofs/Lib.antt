@@ -1,0 +1,15 @@
+pub mod Atoms
+pub mod CasesEntered
+pub mod ChangedBodies
+pub mod Closed
+pub mod DeadAlternatives
+pub mod FiredCases
+pub mod Instances
+pub mod InstancesStep
+pub mod Knowing
+pub mod KnownScrutinees
+pub mod LetsEntered
+pub mod Pushing
+pub mod Reducing
+pub mod SameHeads
+pub mod TermRowsHold
