@@ -16,11 +16,13 @@ use Rattle.fc_model.specs.Terms as term
 use Rattle.fc_model.specs.Terms.{Lifted}
 use Rattle.fc_model.specs.Typing.{is_atom}
 use Rattle.fc_meaning.proofs.WrittenExpressions.{IsWritten}
+use Rattle.fc_rows.specs.Shrinking.{moved_arg}
+use Rattle.fc_rows.specs.Surroundings.{past_joins, past_values}
 use Rattle.fc_term_rows.specs.TermRows.{IsAmong, IsNoDefault, HasKey}
 use Rattle.fc_row_places.specs.KnowingRows.{PartsFit, NChosen, NWithout, opened, IsFoldAnswer, IsValueOf}
 use Rattle.fc_row_places.specs.NamelessFacts.{BehindTypes, NFact, NFactNoneOf, NKnowsJoin, NKnows}
 use Rattle.fc_row_places.specs.NamelessPlaces.{NPlace, scope_at}
-use Rattle.fc_row_places.specs.NamelessRows.{past_values, past_joins, moved_arg, moved_alts, below_one_value, single_bind, single_join, outer_binder, NamesField}
+use Rattle.fc_row_places.specs.NamelessRows.{moved_alts, below_one_value, single_bind, single_join, outer_binder, NamesField}
 
 -- rewrites that need nothing of their place
 pub data PlainRow : NExpr → NExpr → Type 0 where

@@ -4,12 +4,13 @@ use Rattle.fc_syntax.specs.declared.expr.Head.{Head}
 use Rattle.fc_model.specs.Erasure.{Scope, below_all, below_unnamed, below_value, binder_sorts, erased, erased_alts, erased_head, sort_of_type}
 use Rattle.fc_model.specs.Nameless.{NBinder, NBValue, NBType, NBCo, NLocal, NAlts, NoNAlts, MoreNAlts, NBranch}
 use Rattle.fc_model.specs.Terms.{Sort, Lifted, Unlifted, Var, Con, enters, head_sorts, ren, sort_at, upr, IsAtom, IsSorted, AreSorted, HasSorts}
+use Rattle.fc_rows.specs.Surroundings.{value_count, as_arguments}
 use Rattle.fc_meaning.proofs.SortsKept.{Renames, length-head_sorts, sorted_ren}
 use Rattle.fc_meaning.proofs.WrittenExpressions.{AreArgsWritten, HasOwnBinders}
 use Rattle.fc_counted.specs.Places.{heads_of}
 use Rattle.fc_erased.proofs.ErasedBinders.{own_binders}
 use Rattle.fc_term_rows.specs.Facts.{Fact, FactCon, FactNumber, FactNoneOf, moved_fact, field_variables}
-use Rattle.fc_row_places.specs.NamelessFacts.{value_count, binder_parts, heads_among}
+use Rattle.fc_row_places.specs.NamelessFacts.{heads_among}
 use Rattle.fc_row_places.proofs.MovedFacts.{PartsBecome, no_parts_erase, term_part, type_part, coercion_part}
 use Rattle.fc_row_places.proofs.MovedParts.{step_past}
 
@@ -39,7 +40,7 @@ pub outside_is : (bs : List NBinder) (o : Sort) (c : Scope) → erased (below_al
 unfolding upr
 outside_is bs o c = ap Var (ap (below_all bs (below_value o c)).values (no_more (value_count bs)) ∙ all_values bs (below_value o c) 0 ∙ sym (no_more (length (binder_sorts bs))))
 
-pub parts_of_binders : (bs : List NBinder) (c : Scope) → PartsBecome (below_all bs c) (binder_parts bs) (binder_sorts bs) (field_variables (binder_sorts bs))
+pub parts_of_binders : (bs : List NBinder) (c : Scope) → PartsBecome (below_all bs c) (as_arguments bs) (binder_sorts bs) (field_variables (binder_sorts bs))
 parts_of_binders [] c = no_parts_erase
 parts_of_binders (NBValue t ∷ bs) c =
     let d = below_value (sort_of_type t) c in
@@ -47,7 +48,7 @@ parts_of_binders (NBValue t ∷ bs) c =
 parts_of_binders (NBType k ∷ bs) c = type_part (parts_of_binders bs c)
 parts_of_binders (NBCo r t u ∷ bs) c = coercion_part (parts_of_binders bs (below_unnamed c))
 
-pub parts_written : (bs : List NBinder) → AreArgsWritten (binder_parts bs)
+pub parts_written : (bs : List NBinder) → AreArgsWritten (as_arguments bs)
 parts_written [] = tt
 parts_written (NBValue t ∷ bs) = (tt, parts_written bs)
 parts_written (NBType k ∷ bs) = (tt, parts_written bs)

@@ -7,6 +7,7 @@ use Rattle.fc_model.specs.Nameless.{NBinder, NBValue, NBType, NBCo, NExpr, NArgs
 use Rattle.fc_model.specs.Replacing.{Renaming, variables, coercion_variables, unchanged, past_a_type, past_a_coercion, past_a_value, past_a_join, bind_count, join_count, below_binders}
 use Rattle.fc_model.specs.Stepping.{Program}
 use Rattle.fc_model.specs.Terms.{Sort, Unlifted, Term, Var, App, count, ren, sub, sub_terms, pushes, ups, upr}
+use Rattle.fc_rows.specs.Surroundings.{past_values, past_joins}
 use Rattle.fc_meaning.proofs.WrittenExpressions.{AreArgsWritten, IsWritten}
 use Rattle.fc_counted.specs.Closings.{Closing}
 use Rattle.fc_counted.specs.Places.{Place, Side, BelowGroup, InAlternative, InBody, side_on_left, side_on_right, heads_of}
@@ -26,7 +27,6 @@ use Rattle.fc_row_places.specs.KnowingRows.{PartsFit, opened}
 use Rattle.fc_row_places.specs.NamelessFacts.{moved_params, moved_below, past_one, params_past_binders, below_past_binders, NKnowsJoin, join_here, join_past_let, join_past_group, join_past_join}
 use Rattle.fc_row_places.specs.NamelessFacts.{join_past_joins, join_past_parameters, join_past_alternative}
 use Rattle.fc_row_places.specs.NamelessPlaces.{NPlace, scope_at, place_at, in_bodies}
-use Rattle.fc_row_places.specs.NamelessRows.{past_values, past_joins}
 use Rattle.fc_row_places.proofs.MovedFacts.{args_are, all_steps, behind, ren_itself, steps_of}
 use Rattle.fc_row_places.proofs.MovedParts.{past_group_erases, past_joins_erases, unchanged_erases}
 use Rattle.fc_row_places.proofs.OpenedErased.{closed_under, count_args, opened_same, with_parts}

@@ -7,6 +7,7 @@ use Rattle.fc_model.specs.Nameless.{NTy, NCo, NBinder, NBValue, NBType, NBCo, NE
 use Rattle.fc_model.specs.Replacing.{Renaming, variables, coercion_variables, renamed, past_a_type, past_a_coercion, past_a_value}
 use Rattle.fc_model.specs.Terms as term
 use Rattle.fc_model.specs.Terms.{Sort, Unlifted, Term, Var, Terms, Nil, Cons, binders, ren, ren_terms}
+use Rattle.fc_rows.specs.Shrinking.{moved_args}
 use Rattle.fc_meaning.proofs.Unnamed.{sub-var}
 use Rattle.fc_meaning.proofs.WrittenExpressions.{AreArgsWritten, IsWritten}
 use Rattle.fc_counted.proofs.TermSubstitutions.{ren_is_sub, ren-ren, ren-ren_terms}
@@ -17,7 +18,6 @@ use Rattle.fc_erased.proofs.WrittenPut.{written_args}
 use Rattle.fc_term_rows.specs.Facts.{Fact, FactCon, FactNumber, FactNoneOf, moved_fact}
 use Rattle.fc_row_places.specs.NamelessFacts.{NFact, NFactCon, NFactLit, NFactNoneOf, past_binder, past_binders, fact_past_binder, fact_past_binders, moved_nfact, BehindTypes, behind_none}
 use Rattle.fc_row_places.specs.NamelessFacts.{behind_one}
-use Rattle.fc_row_places.specs.NamelessRows.{moved_args}
 use Rattle.fc_row_places.proofs.MovedParts.{moved_expr, moved_sort}
 
 -- PARTS AND FACTS WHEN TYPES ARE GONE

@@ -4,30 +4,38 @@ use Rattle.fc_model.specs.Erasure.{Scope, arg_sorts, below_binds, below_join, be
 use Rattle.fc_model.specs.Nameless.{NTy, NCo, NExpr, NAType, NArgs, NBinds, NoNBinds, MoreNBinds, NBound, NJoins, NoNJoins, MoreNJoins, NAlts}
 use Rattle.fc_model.specs.Replacing.{Renaming, variables, coercion_variables, expressions, renamed, with_argument, unchanged, value_alone, coercion_alone, bind_count, join_count}
 use Rattle.fc_model.specs.Terms.{Sort, Lifted, Var, ren, ren_terms, ren_alts, push, upr}
+use Rattle.fc_rows.specs.Shrinking.{moved_args}
+use Rattle.fc_rows.specs.Surroundings.{past_values, past_joins}
 use Rattle.fc_meaning.proofs.WrittenExpressions.{AreAltsWritten, AreArgsWritten, IsWritten}
 use Rattle.fc_counted.proofs.TermSubstitutions.{ren_is_sub, terms_ren_is_sub, alts_ren_is_sub, variables_up}
 use Rattle.fc_erased.specs.Erasing.{Erases}
 use Rattle.fc_erased.specs.ErasureLaws.{AnyVariable}
 use Rattle.fc_erased.proofs.ErasedPut.{erases_value, args_put, alts_put, arg_sorts_put}
 use Rattle.fc_erased.proofs.ErasedReplacements.{kept_variables, erased_renamed, sort_renamed}
-use Rattle.fc_row_places.specs.NamelessRows.{past_values, past_joins, moved_args, moved_alts, below_one_value, outer_binder}
+use Rattle.fc_row_places.specs.NamelessRows.{moved_alts, below_one_value, outer_binder}
 
 -- PAST GROUPS
 
 pub step_past : (m i : ℕ) → suc m + i ≡ m + suc i
 step_past m i = omega arith
 
-binds_values : (bs : NBinds) (c : Scope) (i : ℕ) → (below_binds bs c).values (bind_count bs + i) ≡ bind_count bs + c.values i
+step_behind : (i m : ℕ) → i + suc m ≡ suc i + m
+step_behind i m = omega arith
+
+none_behind : (i : ℕ) → i + 0 ≡ i
+none_behind i = omega arith
+
+binds_values : (bs : NBinds) (c : Scope) (i : ℕ) → (below_binds bs c).values (i + bind_count bs) ≡ bind_count bs + c.values i
 unfolding upr
-binds_values NoNBinds c i = let e : 0 + i ≡ i = omega arith in let f : c.values i ≡ 0 + c.values i = omega arith in ap c.values e ∙ f
+binds_values NoNBinds c i = let f : c.values i ≡ 0 + c.values i = omega arith in ap c.values (none_behind i) ∙ f
 binds_values (MoreNBinds (NBound t e) rest) c i =
     let s = below_value (sort_of_type t) c in
-    ap (below_binds rest s).values (step_past (bind_count rest) i) ∙ binds_values rest s (suc i) ∙ sym (step_past (bind_count rest) (c.values i))
+    ap (below_binds rest s).values (step_behind i (bind_count rest)) ∙ binds_values rest s (suc i) ∙ sym (step_past (bind_count rest) (c.values i))
 
-binds_sorts : (bs : NBinds) (c : Scope) (i : ℕ) → (below_binds bs c).sorts (bind_count bs + i) ≡ c.sorts i
-binds_sorts NoNBinds c i = let e : 0 + i ≡ i = omega arith in ap c.sorts e
+binds_sorts : (bs : NBinds) (c : Scope) (i : ℕ) → (below_binds bs c).sorts (i + bind_count bs) ≡ c.sorts i
+binds_sorts NoNBinds c i = ap c.sorts (none_behind i)
 binds_sorts (MoreNBinds (NBound t e) rest) c i =
-    let s = below_value (sort_of_type t) c in ap (below_binds rest s).sorts (step_past (bind_count rest) i) ∙ binds_sorts rest s (suc i)
+    let s = below_value (sort_of_type t) c in ap (below_binds rest s).sorts (step_behind i (bind_count rest)) ∙ binds_sorts rest s (suc i)
 
 binds_joins : (bs : NBinds) (c : Scope) (i : ℕ) → (below_binds bs c).joins i ≡ bind_count bs + c.joins i
 binds_joins NoNBinds c i = omega arith
@@ -42,11 +50,11 @@ past_group_erases bs c = record {
   types = λ i. refl;
 }
 
-joined_joins : (js : NJoins) (c : Scope) (i : ℕ) → (below_joins js c).joins (join_count js + i) ≡ join_count js + c.joins i
+joined_joins : (js : NJoins) (c : Scope) (i : ℕ) → (below_joins js c).joins (i + join_count js) ≡ join_count js + c.joins i
 unfolding upr
-joined_joins NoNJoins c i = let e : 0 + i ≡ i = omega arith in let f : c.joins i ≡ 0 + c.joins i = omega arith in ap c.joins e ∙ f
+joined_joins NoNJoins c i = let f : c.joins i ≡ 0 + c.joins i = omega arith in ap c.joins (none_behind i) ∙ f
 joined_joins (MoreNJoins j rest) c i =
-    let s = below_join c in ap (below_joins rest s).joins (step_past (join_count rest) i) ∙ joined_joins rest s (suc i) ∙ sym (step_past (join_count rest) (c.joins i))
+    let s = below_join c in ap (below_joins rest s).joins (step_behind i (join_count rest)) ∙ joined_joins rest s (suc i) ∙ sym (step_past (join_count rest) (c.joins i))
 
 joined_values : (js : NJoins) (c : Scope) (i : ℕ) → (below_joins js c).values i ≡ join_count js + c.values i
 joined_values NoNJoins c i = omega arith

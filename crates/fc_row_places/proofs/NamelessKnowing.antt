@@ -6,6 +6,7 @@ use Rattle.fc_model.specs.Nameless.{NBinder, NBValue, NBType, NBCo, NExpr}
 use Rattle.fc_model.specs.Replacing.{variables, coercion_variables, renamed, past_a_value, past_a_join, bind_count, join_count}
 use Rattle.fc_model.specs.Terms as term
 use Rattle.fc_model.specs.Terms.{Sort, Unlifted, Term, binders, enters, head_sorts, lifteds, ren, ren_terms, upr}
+use Rattle.fc_rows.specs.Surroundings.{past_values, past_joins}
 use Rattle.fc_meaning.proofs.SortsKept.{Renames, length-lifteds}
 use Rattle.fc_meaning.proofs.WrittenExpressions.{IsWritten}
 use Rattle.fc_counted.specs.Places.{Place, Side, BelowGroup, InAlternative, InBody, side_on_left, side_on_right, sorts_in, heads_of}
@@ -20,7 +21,6 @@ use Rattle.fc_row_places.specs.NamelessFacts.{NFact, NFactNoneOf, past_binder, p
 use Rattle.fc_row_places.specs.NamelessFacts.{nknows_constructor_scrutinee, nknows_literal_binder, nknows_literal_scrutinee, nknows_default_binder, nknows_default_scrutinee, nknows_let_constructor}
 use Rattle.fc_row_places.specs.NamelessFacts.{nknows_let_head, nknows_below, nknows_below_all, nknows_past_let, nknows_past_group, nknows_past_join, nknows_past_joins, nknows_past_alternative}
 use Rattle.fc_row_places.specs.NamelessPlaces.{NPlace, NBelow, IsPlaceSorted, scope_at, place_at, in_bodies}
-use Rattle.fc_row_places.specs.NamelessRows.{past_values, past_joins}
 use Rattle.fc_row_places.proofs.BinderParts.{outside_is, parts_of_binders, parts_written, heads_are, IsFactSorted, fact_sorted, one_more_sort, more_sorts, variables_sorted, into_sorts}
 use Rattle.fc_row_places.proofs.MovedFacts.{FactErases, constructor_erases, literal_erases, none_erases, IsFactWritten, args_are, behind_are, behind_written, ren_itself, fact_itself, Moved, moved_by}
 use Rattle.fc_row_places.proofs.MovedFacts.{moved_twice, moved_past_binder, moved_past_all, fact_past_more, fact_past_none, parts_moved}

@@ -8,6 +8,7 @@ use Rattle.fc_model.specs.Replacing.{Substitution, variables, coercion_variables
 use Rattle.fc_model.specs.Stepping.{Program, ConKey, Fielded, choose, fire, next, through}
 use Rattle.fc_model.specs.Substituting.{substituted_type}
 use Rattle.fc_model.specs.Terms.{Sort, Lifted, Unlifted, Term, Var, Let, Case, Terms, count, push, pushes, ren, shift, sub, sub_terms, upr}
+use Rattle.fc_rows.specs.Shrinking.{moved_args}
 use Rattle.fc_meaning.proofs.SortsOfTypes.{sort_of_substituted}
 use Rattle.fc_meaning.proofs.Unnamed.{sub-ren, sub-ren_terms}
 use Rattle.fc_meaning.proofs.WrittenExpressions.{AreArgsWritten, IsWritten}
@@ -23,7 +24,6 @@ use Rattle.fc_term_rows.proofs.InstancesStep.{next_let}
 use Rattle.fc_term_rows.proofs.SameHeads as same
 use Rattle.fc_row_places.specs.KnowingRows.{PartsFit, opened, put_past_a_value}
 use Rattle.fc_row_places.specs.NamelessFacts.{BehindTypes, behind_none, behind_one}
-use Rattle.fc_row_places.specs.NamelessRows.{moved_args}
 use Rattle.fc_row_places.proofs.MovedFacts.{PartsBecome, no_parts_erase, term_part, type_part, coercion_part, args_are, behind_are, behind_written}
 use Rattle.fc_row_places.proofs.MovedParts.{moved_terms, value_alone_erases}
 

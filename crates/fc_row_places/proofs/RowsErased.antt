@@ -7,6 +7,7 @@ use Rattle.fc_model.specs.Nameless.{NExpr, NLet, NATerm, NAType, NACo, NArgs}
 use Rattle.fc_model.specs.Replacing.{variables, coercion_variables, past_a_value, with_argument, unchanged, value_alone, coercion_alone, bind_count, join_count}
 use Rattle.fc_model.specs.Terms.{Sort, Lifted, Unlifted, Term, Var, App, Lam, Let, Rec, Case, Con, Cons, Alts, NoAlt, Alt, Default, binders, count, ren, ren_alts, shift, sub, sub_terms, push, ups}
 use Rattle.fc_model.specs.Terms.{upr}
+use Rattle.fc_rows.specs.Surroundings.{past_values, past_joins}
 use Rattle.fc_meaning.proofs.Unnamed.{put-shift, sub-ren_terms, sub-var, sub-var_terms}
 use Rattle.fc_meaning.proofs.WrittenExpressions.{AreArgsWritten}
 use Rattle.fc_counted.specs.Changes.{PartRelation, Change, change_here}
@@ -21,7 +22,7 @@ use Rattle.fc_term_rows.specs.TermRows.{reduces_beta, reduces_beta_put, reduces_
 use Rattle.fc_term_rows.specs.TermRows.{reduces_case_of_let, reduces_case_of_group, reduces_applied_fail, reduces_case_of_fail, reduces_merged_case, merged, reduces_named_part, TermRow, row_reduces}
 use Rattle.fc_term_rows.specs.TermRows.{row_let_of_let, row_let_of_group}
 use Rattle.fc_row_places.specs.NamelessPlaces.{scope_at, place_at}
-use Rattle.fc_row_places.specs.NamelessRows.{past_values, past_joins, below_one_value, single_bind, outer_binder, NamesField, names_field_here, names_field_later, NRow, nrow_erased_alike, nrow_beta}
+use Rattle.fc_row_places.specs.NamelessRows.{below_one_value, single_bind, outer_binder, NamesField, names_field_here, names_field_later, NRow, nrow_erased_alike, nrow_beta}
 use Rattle.fc_row_places.specs.NamelessRows.{nrow_beta_type, nrow_beta_coercion, nrow_dead_let, nrow_dead_group, nrow_let_put, nrow_application_of_let, nrow_application_of_group, nrow_case_of_let}
 use Rattle.fc_row_places.specs.NamelessRows.{nrow_case_of_group, nrow_let_of_let, nrow_let_of_group, nrow_dead_join, nrow_dead_joins, nrow_applied_fail, nrow_case_of_fail, nrow_merged_case}
 use Rattle.fc_row_places.specs.NamelessRows.{nrow_named_field}

@@ -12,12 +12,13 @@ use Rattle.fc_model.specs.Stepping.{Key, LitKey, ConKey, Bare, Fielded, choose, 
 use Rattle.fc_model.specs.Substituting.{substituted_type}
 use Rattle.fc_model.specs.Terms as term
 use Rattle.fc_model.specs.Terms.{Sort, Lifted, Unlifted, InRange, IsAtom}
+use Rattle.fc_rows.specs.Shrinking.{moved_args}
 use Rattle.fc_meaning.proofs.WrittenExpressions.{IsWritten}
 use Rattle.fc_counted.specs.Places.{sorts_in}
 use Rattle.fc_term_rows.specs.TermRows.{IsAmong, IsNoDefault, HasKey, number_at}
 use Rattle.fc_row_places.specs.NamelessFacts.{BehindTypes, NFact, NFactCon, NFactLit, NFactNoneOf, NKnowsJoin, NKnows}
 use Rattle.fc_row_places.specs.NamelessPlaces.{NPlace, scope_at, place_at}
-use Rattle.fc_row_places.specs.NamelessRows.{moved_args, single_bind, NRow}
+use Rattle.fc_row_places.specs.NamelessRows.{single_bind, NRow}
 
 -- parts have the sorts of binders, and types that stand for types are lifted
 abbrev pub PartsFit : Scope → NArgs → List NBinder → Type 0

@@ -1,18 +1,19 @@
 -- What a place of the nameless tree tells of an expression, on both sides of a change.
-use Rattle.std.specs.Prelude.{◌≡◌, ℕ, zero, suc, ◌+◌, ℤ, List, [], ◌∷◌}
+use Rattle.std.specs.Prelude.{◌≡◌, ℕ, suc, ◌+◌, ℤ, List, [], ◌∷◌}
 use Rattle.fc_syntax.specs.declared.expr.Head.{Head}
 use Rattle.fc_syntax.specs.declared.expr.Head.TheVariants as head
 use Rattle.fc_syntax.specs.declared.ty.Name.{Name}
 use Rattle.fc_model.specs.Erasure.{erased, erased_head}
-use Rattle.fc_model.specs.Nameless.{NTy, NTVar, NGVar, NBinder, NBValue, NBType, NBCo, NExpr, NLocal, NCon, NATerm, NAType, NACo, NArgs, NoNArgs, MoreNArgs, NBinds, NJoins, NAlts, NoNAlts, MoreNAlts}
+use Rattle.fc_model.specs.Nameless.{NTy, NBinder, NBValue, NBType, NBCo, NExpr, NLocal, NCon, NAType, NArgs, MoreNArgs, NBinds, NJoins, NAlts, NoNAlts, MoreNAlts}
 use Rattle.fc_model.specs.Nameless.{NBranch}
 use Rattle.fc_model.specs.Replacing.{Renaming, variables, coercion_variables, below_binders, put_in, replaced_binders, bind_count, join_count, renamed, past_a_type, past_a_coercion, past_a_value}
 use Rattle.fc_model.specs.Replacing.{past_a_join}
 use Rattle.fc_model.specs.Stepping.{IsHead}
 use Rattle.fc_model.specs.Terms as term
+use Rattle.fc_rows.specs.Shrinking.{moved_args}
+use Rattle.fc_rows.specs.Surroundings.{past_values, past_joins, value_count, as_arguments}
 use Rattle.fc_meaning.proofs.WrittenExpressions.{AreArgsWritten, HasOwnBinders, IsWritten}
 use Rattle.fc_row_places.specs.NamelessPlaces.{NPlace, NBelow, NBelowAll, NPastLet, NPastGroup, NPastJoin, NPastJoins, NInAlt, scope_at}
-use Rattle.fc_row_places.specs.NamelessRows.{moved_args, past_values, past_joins}
 
 -- a constructor with what stands for the binders of its alternative, a number, or a head that none of these alternatives is for
 pub data NFact : Type 0 where
@@ -56,31 +57,6 @@ fact_past_binders bs (NFactCon n args) = NFactCon n (args_past_binders bs args)
 fact_past_binders bs (NFactLit z) = NFactLit z
 fact_past_binders bs (NFactNoneOf hs) = NFactNoneOf hs
 
--- how many values, types and coercions are bound by binders that stand together, and their variables, seen from behind all of them
-abbrev pub value_count : List NBinder → ℕ
-value_count [] = zero
-value_count (NBValue t ∷ bs) = suc (value_count bs)
-value_count (NBType k ∷ bs) = value_count bs
-value_count (NBCo r t u ∷ bs) = value_count bs
-
-abbrev pub own_types : List NBinder → ℕ
-own_types [] = zero
-own_types (NBValue t ∷ bs) = own_types bs
-own_types (NBType k ∷ bs) = suc (own_types bs)
-own_types (NBCo r t u ∷ bs) = own_types bs
-
-abbrev pub own_coercions : List NBinder → ℕ
-own_coercions [] = zero
-own_coercions (NBValue t ∷ bs) = own_coercions bs
-own_coercions (NBType k ∷ bs) = own_coercions bs
-own_coercions (NBCo r t u ∷ bs) = suc (own_coercions bs)
-
-abbrev pub binder_parts : List NBinder → NArgs
-binder_parts [] = NoNArgs
-binder_parts (NBValue t ∷ bs) = MoreNArgs (NATerm (NLocal (value_count bs))) (binder_parts bs)
-binder_parts (NBType k ∷ bs) = MoreNArgs (NAType (NTVar (own_types bs))) (binder_parts bs)
-binder_parts (NBCo r t u ∷ bs) = MoreNArgs (NACo (NGVar (own_coercions bs))) (binder_parts bs)
-
 -- the arguments of a constructor behind the first types
 pub data BehindTypes : NArgs → NArgs → Type 0 where
   behind_none : {args : NArgs} → BehindTypes args args
@@ -95,9 +71,9 @@ heads_among (MoreNAlts (NBranch h bs e) rest) = erased_head h bs ∷ heads_among
 pub data NKnows : NPlace → NExpr → NFact → Type 0 where
   -- in an alternative: the binder of the case, and the scrutinee
   nknows_constructor_binder : {xt : NTy} {s t : NExpr} {all : NAlts} {n : Name} {bs : List NBinder} {c : NPlace}
-      → NKnows (NInAlt xt s t all (head.Con n) bs c) (NLocal (value_count bs)) (NFactCon n (binder_parts bs))
+      → NKnows (NInAlt xt s t all (head.Con n) bs c) (NLocal (value_count bs)) (NFactCon n (as_arguments bs))
   nknows_constructor_scrutinee : {xt : NTy} {s : NExpr} {all : NAlts} {n : Name} {bs : List NBinder} {c : NPlace} → IsWritten s
-      → NKnows (NInAlt xt s s all (head.Con n) bs c) (past_binders bs (renamed past_a_value s)) (NFactCon n (binder_parts bs))
+      → NKnows (NInAlt xt s s all (head.Con n) bs c) (past_binders bs (renamed past_a_value s)) (NFactCon n (as_arguments bs))
   nknows_literal_binder : {xt : NTy} {s t : NExpr} {all : NAlts} {z : ℤ} {c : NPlace} → NKnows (NInAlt xt s t all (head.Lit z) [] c) (NLocal 0) (NFactLit z)
   nknows_literal_scrutinee : {xt : NTy} {s : NExpr} {all : NAlts} {z : ℤ} {c : NPlace} → IsWritten s → NKnows (NInAlt xt s s all (head.Lit z) [] c) (renamed past_a_value s) (NFactLit z)
   nknows_default_binder : {xt : NTy} {s t : NExpr} {all : NAlts} {c : NPlace} → NKnows (NInAlt xt s t all head.Default [] c) (NLocal 0) (NFactNoneOf (heads_among all))
@@ -146,7 +122,7 @@ pub data NKnowsJoin : NPlace → ℕ → List NBinder → NExpr → Type 0 where
   join_past_join : {qs : List NBinder} {d e : NExpr} {c : NPlace} {i : ℕ} (ps : List NBinder) (a : NExpr) → NKnowsJoin c i ps a
       → NKnowsJoin (NPastJoin qs d e c) (suc i) (moved_params past_a_join ps) (moved_below past_a_join ps a)
   join_past_joins : {js ks : NJoins} {c : NPlace} {i : ℕ} (ps : List NBinder) (a : NExpr) → join_count js ≡ join_count ks → NKnowsJoin c i ps a
-      → NKnowsJoin (NPastJoins js ks c) (join_count js + i) (moved_params (past_joins (join_count js)) ps) (moved_below (past_joins (join_count js)) ps a)
+      → NKnowsJoin (NPastJoins js ks c) (i + join_count js) (moved_params (past_joins (join_count js)) ps) (moved_below (past_joins (join_count js)) ps a)
   join_past_parameters : {bs : List NBinder} {c : NPlace} {i : ℕ} (ps : List NBinder) (a : NExpr) → NKnowsJoin c i ps a
       → NKnowsJoin (NBelowAll bs c) i (params_past_binders bs ps) (below_past_binders bs ps a)
   join_past_alternative : {xt : NTy} {s t : NExpr} {all : NAlts} {h : Head} {bs : List NBinder} {c : NPlace} {i : ℕ} (ps : List NBinder) (a : NExpr) → HasOwnBinders h bs → NKnowsJoin c i ps a

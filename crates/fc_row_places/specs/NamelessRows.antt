@@ -1,5 +1,5 @@
 -- Rewrites of the nameless tree, with what typing tells of the parts that they need.
-use Rattle.std.specs.Prelude.{◌≡◌, ℕ, zero, suc, ◌+◌, true, false, List, []}
+use Rattle.std.specs.Prelude.{◌≡◌, ℕ, zero, suc, true, false, List, []}
 use Rattle.fc_syntax.specs.Tree.{Kind}
 use Rattle.fc_syntax.specs.declared.expr.Head.TheVariants as head
 use Rattle.fc_syntax.specs.declared.ty.Name.{Name}
@@ -7,24 +7,12 @@ use Rattle.fc_syntax.specs.declared.ty.Role.{Role}
 use Rattle.fc_model.specs.Erasure.{erased, sort_of, sort_of_type}
 use Rattle.fc_model.specs.Nameless.{NTy, NTVar, NCo, NBinder, NBValue, NBType, NBCo, NExpr, NLocal, NApp, NLam, NLet, NCase, NCon, NFail, NJoin, NArg, NATerm, NAType, NACo, NBound, NJoined, NBranch}
 use Rattle.fc_model.specs.Nameless.{NArgs, MoreNArgs, NBinds, NoNBinds, MoreNBinds, NJoins, NoNJoins, MoreNJoins, NAlts, NoNAlts, MoreNAlts}
-use Rattle.fc_model.specs.Replacing.{Renaming, variables, coercion_variables, renamed, below_values, put_in_arg, put_in_args, put_in_alts, past_a_value, past_a_join, replaced, with_argument}
+use Rattle.fc_model.specs.Replacing.{Renaming, variables, coercion_variables, renamed, below_values, put_in_alts, past_a_value, past_a_join, replaced, with_argument}
 use Rattle.fc_model.specs.Replacing.{unchanged, value_alone, coercion_alone, bind_count, join_count}
 use Rattle.fc_model.specs.Terms.{Lifted}
+use Rattle.fc_rows.specs.Shrinking.{moved_arg, moved_args}
+use Rattle.fc_rows.specs.Surroundings.{past_values, past_joins}
 use Rattle.fc_row_places.specs.NamelessPlaces.{NPlace, scope_at}
-
--- past this many binders more of values, and of join points
-abbrev pub past_values : ℕ → Renaming
-past_values m = record { types = λ i. NTVar i; coercions = λ i. i; values = λ i. m + i; joins = λ i. i }
-
-abbrev pub past_joins : ℕ → Renaming
-past_joins m = record { types = λ i. NTVar i; coercions = λ i. i; values = λ i. i; joins = λ i. m + i }
-
--- arguments, seen from further in
-abbrev pub moved_arg : Renaming → NArg → NArg
-moved_arg r a = put_in_arg variables coercion_variables r a
-
-abbrev pub moved_args : Renaming → NArgs → NArgs
-moved_args r args = put_in_args variables coercion_variables r args
 
 -- the alternatives of a case, below its binder
 abbrev pub moved_alts : Renaming → NAlts → NAlts

@@ -1,0 +1,12 @@
+pub mod BetaCases
+pub mod CaseCases
+pub mod CaseEvaluatedCases
+pub mod CaseKnownCases
+pub mod CaseModules
+pub mod CaseNames
+pub mod CaseTerms
+pub mod CastCases
+pub mod CommutingCases
+pub mod JoinCases
+pub mod LetCases
+pub mod LetOnceCases
