@@ -30,7 +30,8 @@ use Rattle.fc_row_places.specs.NamelessChanges.{NPartRelation}
 use Rattle.fc_row_places.specs.RowPlaceLaws.{PartsErase}
 use Rattle.fc_row_places.proofs.ErasedChanges.{erased_change}
 use Rattle.fc_kept_meaning.specs.FairImports.{NInterface}
-use Rattle.fc_kept_meaning.specs.MeaningKept.{own_name, IsOwn, with_module, HoldsModule, LintsAmong, DeclarationsChange, no_changed_declarations, same_declaration, changed_def, changed_wrap}
+use Rattle.fc_reaching.specs.Numbering.{word_of}
+use Rattle.fc_kept_meaning.specs.MeaningKept.{IsOwn, with_module, HoldsModule, LintsAmong, DeclarationsChange, no_changed_declarations, same_declaration, changed_def, changed_wrap}
 
 -- RIGHT SIDES
 
@@ -75,7 +76,7 @@ right_sorted (NDef n u d ∷ ds) w t s e = found_has (IsSorted []) Some (λ x y 
 right_sorted (NWrap n u d ∷ ds) w t s e = found_has (IsSorted []) Some (λ x y same. some_is same) (bytes_eq n w) (erased no_scope d) t (right_side ds w) s.0 (λ q. right_sorted ds w t s.1 q) e
 
 pub with_module_sorted : (n : NModule) (P : Program) → SortedProgram P → AreRightsSorted (ndecls_in n) → SortedProgram (with_module n P)
-with_module_sorted n P sp s x t e = go (same_word x.module (Some (own_name n))) e
+with_module_sorted n P sp s x t e = go (same_word x.module (Some (word_of n))) e
   where
     go : (b : Bool) → (if b then right_side (ndecls_in n) x.text else P x) ≡ Some t → IsSorted [] t
     go true q = right_sorted (ndecls_in n) x.text t s q
@@ -115,19 +116,19 @@ module _ (R : NPartRelation) (TermsRewritten : PartRelation) (rows : PartsErase 
       found_change (bytes_eq n w) (erased no_scope e) (erased no_scope f) (right_side ds w) (right_side es w) (erased_change R TermsRewritten rows c tt wd.0 we.0 s.0 r.0)
       (right_change h wd.1 we.1 s.1 r.1 w)
 
-  pub module_change : (m n : NModule) → own_name m ≡ own_name n → DeclarationsChange R (ndecls_in m) (ndecls_in n) → AreDeclsWritten (ndecls_in m) → AreDeclsWritten (ndecls_in n)
+  pub module_change : (m n : NModule) → word_of m ≡ word_of n → DeclarationsChange R (ndecls_in m) (ndecls_in n) → AreDeclsWritten (ndecls_in m) → AreDeclsWritten (ndecls_in n)
       → AreRightsSorted (ndecls_in m) → AreRightsSorted (ndecls_in n)
       → (P : Program) → SortedProgram P → HoldsModule P m → ProgramChange TermsRewritten P (with_module n P)
-  module_change m n same ch wd we s r P sp holds x = go (same_word x.module (Some (own_name n))) refl
+  module_change m n same ch wd we s r P sp holds x = go (same_word x.module (Some (word_of n))) refl
     where
-      go : (b : Bool) → same_word x.module (Some (own_name n)) ≡ b → DefinitionChange TermsRewritten (P x) (if b then right_side (ndecls_in n) x.text else P x)
+      go : (b : Bool) → same_word x.module (Some (word_of n)) ≡ b → DefinitionChange TermsRewritten (P x) (if b then right_side (ndecls_in n) x.text else P x)
       go true e =
           let own : IsOwn m x = ap (λ w. same_word x.module (Some w)) same ∙ e in
           subst (λ o. DefinitionChange TermsRewritten o (right_side (ndecls_in n) x.text)) (sym (holds x own)) (right_change ch wd we s r x.text)
       go false e = same_definition (P x) (λ t q. sp x t q)
 
 -- changes of parts keep what is shown
-pub changes_keep_meaning : (R : NPartRelation) (G : Known) (D : Name → Term → Type 0) → PartsErase R (TermRow G D) → (xs : List NInterface) (m n : NModule) → own_name m ≡ own_name n
+pub changes_keep_meaning : (R : NPartRelation) (G : Known) (D : Name → Term → Type 0) → PartsErase R (TermRow G D) → (xs : List NInterface) (m n : NModule) → word_of m ≡ word_of n
     → DeclarationsChange R (ndecls_in m) (ndecls_in n)
     → LintsAmong xs m → LintsAmong xs n → AreDeclsWritten (ndecls_in m) → AreDeclsWritten (ndecls_in n) → (P : Program) → SortedProgram P → HoldsModule P m
     → GlobalsMeet P G → GlobalsMeet (with_module n P) G → DefinesAll P D → DefinesAll (with_module n P) D → (t : Term) → IsSorted [] t → SeesSame P (with_module n P) t

@@ -14,7 +14,8 @@ use Rattle.fc_meaning.proofs.Named.{sees_other}
 use Rattle.fc_meaning.proofs.Optional.{false_true}
 use Rattle.fc_counted.specs.CountingLaws.{SeesSame}
 use Rattle.fc_rows.specs.Rewriting.{without_definitions}
-use Rattle.fc_kept_meaning.specs.MeaningKept.{own_name, with_module, HoldsModule, MayBeAsked, OthersKeepOut, KeepsMeaning, is_kept, IsDead, DeadTaken, takes_dead}
+use Rattle.fc_reaching.specs.Numbering.{word_of}
+use Rattle.fc_kept_meaning.specs.MeaningKept.{with_module, HoldsModule, MayBeAsked, OthersKeepOut, KeepsMeaning, is_kept, IsDead, DeadTaken, takes_dead}
 
 module _ (M N : Name → Type 0) (more : (x : Name) → M x → N x) where
   mutual
@@ -64,31 +65,31 @@ kept_found keep (NWrap v t e ∷ ds) w k =
     kept_step keep v w (erased no_scope e) (NWrap v t e) (right_side ds w) (right_side (without_definitions keep ds) w) (keep v) refl k (kept_found keep ds w k) (bytes_eq v w) refl
     ∙ sym (right_if (keep v) (NWrap v t e) (without_definitions keep ds) w)
 
-module _ (m n : NModule) (keep : Word → Bool) (dead : IsDead m keep) (same : own_name m ≡ own_name n) (goes : ndecls_in n ≡ without_definitions keep (ndecls_in m)) (P : Program)
+module _ (m n : NModule) (keep : Word → Bool) (dead : IsDead m keep) (same : word_of m ≡ word_of n) (goes : ndecls_in n ≡ without_definitions keep (ndecls_in m)) (P : Program)
     (holds : HoldsModule P m) (out : OthersKeepOut P m) where
   -- what may be asked for stays
   asked_is_kept : (x : Name) → MayBeAsked m x → is_kept m keep x ≡ true
-  asked_is_kept x w = go (same_word x.module (Some (own_name m))) refl
+  asked_is_kept x w = go (same_word x.module (Some (word_of m))) refl
     where
-      go : (b : Bool) → same_word x.module (Some (own_name m)) ≡ b → (if b then keep x.text else true) ≡ true
+      go : (b : Bool) → same_word x.module (Some (word_of m)) ≡ b → (if b then keep x.text else true) ≡ true
       go true e = dead.offered x.text (w e)
       go false e = refl
 
   kept_is_same : (x : Name) → is_kept m keep x ≡ true → P x ≡ with_module n P x
-  kept_is_same x w = go (same_word x.module (Some (own_name m))) refl w
+  kept_is_same x w = go (same_word x.module (Some (word_of m))) refl w
     where
-      go : (b : Bool) → same_word x.module (Some (own_name m)) ≡ b → (if b then keep x.text else true) ≡ true → P x ≡ with_module n P x
+      go : (b : Bool) → same_word x.module (Some (word_of m)) ≡ b → (if b then keep x.text else true) ≡ true → P x ≡ with_module n P x
       go true e k =
-          let own : same_word x.module (Some (own_name n)) ≡ true = ap (λ v. same_word x.module (Some v)) (sym same) ∙ e in
+          let own : same_word x.module (Some (word_of n)) ≡ true = ap (λ v. same_word x.module (Some v)) (sym same) ∙ e in
           holds x e ∙ kept_found keep (ndecls_in m) x.text k ∙ ap (λ ds. right_side ds x.text) (sym goes) ∙ sym (ap (λ b. if b then right_side (ndecls_in n) x.text else P x) own)
       go false e k =
-          let other : same_word x.module (Some (own_name n)) ≡ false = ap (λ v. same_word x.module (Some v)) (sym same) ∙ e in
+          let other : same_word x.module (Some (word_of n)) ≡ false = ap (λ v. same_word x.module (Some v)) (sym same) ∙ e in
           sym (ap (λ b. if b then right_side (ndecls_in n) x.text else P x) other)
 
   kept_is_closed : (x : Name) → is_kept m keep x ≡ true → (t : Term) → P x ≡ Some t → Mentions (λ y. is_kept m keep y ≡ true) t
-  kept_is_closed x w t d = go (same_word x.module (Some (own_name m))) refl w
+  kept_is_closed x w t d = go (same_word x.module (Some (word_of m))) refl w
     where
-      go : (b : Bool) → same_word x.module (Some (own_name m)) ≡ b → (if b then keep x.text else true) ≡ true → Mentions (λ y. is_kept m keep y ≡ true) t
+      go : (b : Bool) → same_word x.module (Some (word_of m)) ≡ b → (if b then keep x.text else true) ≡ true → Mentions (λ y. is_kept m keep y ≡ true) t
       go true e k = dead.closed x.text t k (sym (holds x e) ∙ d)
       go false e k = mentions_more (MayBeAsked m) (λ y. is_kept m keep y ≡ true) asked_is_kept t (out x t (λ own. false_true (sym e ∙ own)) d)
 

@@ -1,11 +1,10 @@
 -- A rewrite of a module keeps what every program shows that holds the module.
-use Rattle.std.specs.Prelude.{◌≡◌, Bool, true, ◌||◌, if◌then◌else◌, List, [], ◌∷◌, map, Some}
+use Rattle.std.specs.Prelude.{◌≡◌, Bool, true, if◌then◌else◌, List, [], ◌∷◌, map, Some}
 use Rattle.fc_syntax.specs.Tree.{Word}
 use Rattle.fc_syntax.specs.declared.ty.Name.{Name}
 use Rattle.fc_model.specs.Headers.{ndecls_in}
 use Rattle.fc_model.specs.Kinding.{decls_at, same_word}
 use Rattle.fc_model.specs.Nameless.{NExpr, NDecl, NDef, NWrap, NModule, NModuleOf, NTy}
-use Rattle.fc_model.specs.Planning.{is_among}
 use Rattle.fc_model.specs.Programs.{Mentions, right_side}
 use Rattle.fc_model.specs.Stepping.{Program}
 use Rattle.fc_model.specs.Terms.{Term, IsSorted}
@@ -13,27 +12,25 @@ use Rattle.fc_meaning.specs.Laws.{SortedProgram}
 use Rattle.fc_meaning.proofs.HeldDeclarations.{AreHeld}
 use Rattle.fc_meaning.proofs.WrittenExpressions.{AreDeclsWritten}
 use Rattle.fc_counted.specs.CountingLaws.{SeesSame}
+use Rattle.fc_reaching.specs.Numbering.{word_of}
+use Rattle.fc_rows.specs.Dropping.{is_offered}
 use Rattle.fc_rows.specs.Rewriting.{without_definitions}
 use Rattle.fc_row_places.specs.NamelessChanges.{NPartRelation, NChange}
 use Rattle.fc_row_places.specs.NamelessPlaces.{NOutside}
 use Rattle.fc_kept_meaning.specs.FairImports.{AreFair, NInterface}
 use Rattle.fc_kept_meaning.specs.OnePlace.{AtOnePlace}
 
--- the word of a module
-abbrev pub own_name : NModule → Word
-own_name (NModuleOf m imports exports hidden ds) = m
-
 -- the words that others may use: exports and hidden names
 abbrev pub IsOffered : NModule → Word → Type 0
-IsOffered (NModuleOf m imports exports hidden ds) w = (is_among exports w || is_among hidden w) ≡ true
+IsOffered m w = is_offered m w ≡ true
 
 -- a name is one of the module
 abbrev pub IsOwn : NModule → Name → Type 0
-IsOwn m n = same_word n.module (Some (own_name m)) ≡ true
+IsOwn m n = same_word n.module (Some (word_of m)) ≡ true
 
 -- the program with the module's definitions in place of all of its names
 abbrev pub with_module : NModule → Program → Program
-with_module m P n = if same_word n.module (Some (own_name m)) then right_side (ndecls_in m) n.text else P n
+with_module m P n = if same_word n.module (Some (word_of m)) then right_side (ndecls_in m) n.text else P n
 
 -- the program has exactly the module's definitions among the module's names
 abbrev pub HoldsModule : Program → NModule → Type 0
@@ -85,7 +82,7 @@ pub data ModuleRewritten (R : NPartRelation) : List NInterface → NModule → N
 
 -- the names that stay: those of other modules, and the kept ones of the module
 abbrev pub is_kept : NModule → (Word → Bool) → Name → Bool
-is_kept m keep n = if same_word n.module (Some (own_name m)) then keep n.text else true
+is_kept m keep n = if same_word n.module (Some (word_of m)) then keep n.text else true
 
 -- definitions go that nothing reaches from what the module offers
 pub record IsDead (m : NModule) (keep : Word → Bool) : Type 0 where
