@@ -70,9 +70,6 @@ unfolding count sub
 count-sub s Nil = refl
 count-sub s (Cons t ts) = ap suc (count-sub s ts)
 
-pub count-ren : (r : ℕ → ℕ) (ts : Terms) → count (ren_terms r ts) ≡ count ts
-count-ren r ts = ap count (terms_ren_is_sub r ts) ∙ count-sub (λ n. Var (r n)) ts
-
 mutual
   unfolding ren sub
 

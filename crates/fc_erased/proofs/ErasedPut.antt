@@ -144,12 +144,12 @@ module _ {V W : Type 0} (how : Standing V) (proofs : StandingCoercion W) (Good :
     erased_put c d r p w (NLet true bs e) o =
         let x = below_values how proofs (bind_count bs) r in
         let v = erases_binds bs x w.types c d r p w in
-        ap₂ Rec (rights_put (below_binds (put_in_binds how proofs x bs) c) (below_binds bs d) x (ups (bind_count bs) p) v bs o.0)
-        (erased_put (below_binds (put_in_binds how proofs x bs) c) (below_binds bs d) x (ups (bind_count bs) p) v e o.1)
+        ap₂ Rec (rights_put (below_binds (put_in_binds how proofs x bs) c) (below_binds bs d) x (ups (bind_count bs) p) v bs o.1)
+        (erased_put (below_binds (put_in_binds how proofs x bs) c) (below_binds bs d) x (ups (bind_count bs) p) v e o.2)
         ∙ sym (sub_group (bind_count bs) p (erased_rights (below_binds bs d) bs) (erased (below_binds bs d) e) (rights_count (below_binds bs d) bs))
     erased_put c d r p w (NLet false bs e) o =
         let x = below_values how proofs (bind_count bs) r in
-        lets_put c d r p w bs o.0 _ _ (erased_put (below_binds (put_in_binds how proofs r bs) c) (below_binds bs d) x (ups (bind_count bs) p) (erases_binds bs r w.types c d r p w) e o.1)
+        lets_put c d r p w bs o.1 _ _ (erased_put (below_binds (put_in_binds how proofs r bs) c) (below_binds bs d) x (ups (bind_count bs) p) (erases_binds bs r w.types c d r p w) e o.2)
     erased_put c d r p w (NCase e xt rt alts) o =
         let s = sort_of_substituted r.types w.types xt in
         λ i. Case (s i) (erased_put c d r p w e o.0 i)
@@ -164,12 +164,12 @@ module _ {V W : Type 0} (how : Standing V) (proofs : StandingCoercion W) (Good :
     erased_put c d r p w (NJoin true t js e) o =
         let x = past_joins how proofs (join_count js) r in
         let v = erases_joins js x c d r p w in
-        ap₂ Rec (joins_put (below_joins (put_in_joins how proofs x js) c) (below_joins js d) x (ups (join_count js) p) v js o.0)
-        (erased_put (below_joins (put_in_joins how proofs x js) c) (below_joins js d) x (ups (join_count js) p) v e o.1)
+        ap₂ Rec (joins_put (below_joins (put_in_joins how proofs x js) c) (below_joins js d) x (ups (join_count js) p) v js o.1)
+        (erased_put (below_joins (put_in_joins how proofs x js) c) (below_joins js d) x (ups (join_count js) p) v e o.2)
         ∙ sym (sub_group (join_count js) p (erased_joins (below_joins js d) js) (erased (below_joins js d) e) (joins_count (below_joins js d) js))
     erased_put c d r p w (NJoin false t js e) o =
         let x = past_joins how proofs (join_count js) r in
-        join_lets_put c d r p w js o.0 _ _ (erased_put (below_joins (put_in_joins how proofs r js) c) (below_joins js d) x (ups (join_count js) p) (erases_joins js r c d r p w) e o.1)
+        join_lets_put c d r p w js o.1 _ _ (erased_put (below_joins (put_in_joins how proofs r js) c) (below_joins js d) x (ups (join_count js) p) (erases_joins js r c d r p w) e o.2)
     erased_put c d r p w (NJump i args) o = applied_put c d r p w args o _ _ (sym (w.joins i))
 
     pub args_put : (c d : Scope) (r : Replacements) (p : ℕ → Term) → Commutes c d r p → (args : NArgs) → AreArgsWritten args

@@ -1,5 +1,5 @@
 -- Where parts of right sides change that are under one another in both directions, the program shows the same.
-use Rattle.std.proofs.Common.{◌≡◌, Bool, true, false, List, [], ◌∷◌, map, if◌then◌else◌, bytes_eq, Option, Some, None, refl, sym, ap, ◌∙◌, subst}
+use Rattle.std.proofs.Common.{◌≡◌, Bool, true, false, List, [], ◌∷◌, if◌then◌else◌, bytes_eq, Option, Some, None, refl, sym, ap, ◌∙◌, subst}
 use Rattle.fc_syntax.specs.Tree.{Word}
 use Rattle.fc_syntax.specs.declared.ty.Name.{Name}
 use Rattle.fc_model.specs.Erasure.{erased, no_scope}
@@ -29,7 +29,6 @@ use Rattle.fc_term_rows.proofs.TermRowsHold.{rows_see_same}
 use Rattle.fc_row_places.specs.NamelessChanges.{NPartRelation}
 use Rattle.fc_row_places.specs.RowPlaceLaws.{PartsErase}
 use Rattle.fc_row_places.proofs.ErasedChanges.{erased_change}
-use Rattle.fc_kept_meaning.specs.FairImports.{NInterface}
 use Rattle.fc_reaching.specs.Numbering.{word_of}
 use Rattle.fc_kept_meaning.specs.MeaningKept.{IsOwn, with_module, HoldsModule, LintsAmong, DeclarationsChange, no_changed_declarations, same_declaration, changed_def, changed_wrap}
 
@@ -57,13 +56,12 @@ rights_sorted (one_definition family_defines_nothing rest) held w = (tt, rights_
 rights_sorted (one_definition axiom_defines_nothing rest) held w = (tt, rights_sorted rest held w.1)
 
 -- the definitions of a module that lints among its imports hold
-pub own_definitions : (xs : List NInterface) (m : NModule) → LintsAmong xs m → DefinitionsHold (decls_at (m ∷ map (λ x. x.told_module) xs)) (ndecls_in m)
+pub own_definitions : (xs : List NModule) (m : NModule) → LintsAmong xs m → DefinitionsHold (decls_at (m ∷ xs)) (ndecls_in m)
 own_definitions xs (NModuleOf own imports exports hidden ds) held =
     let m = NModuleOf own imports exports hidden ds in
-    let rest = map (λ x. x.told_module) xs in
-    subst (λ b. DefinitionsHold (decls_at (m ∷ rest)) (if b then ds else decls_of_module rest own)) (bytes_eq_refl own) (held.definitions (Some own))
+    subst (λ b. DefinitionsHold (decls_at (m ∷ xs)) (if b then ds else decls_of_module xs own)) (bytes_eq_refl own) (held.definitions (Some own))
 
-pub linted_rights : (xs : List NInterface) (m : NModule) → LintsAmong xs m → AreDeclsWritten (ndecls_in m) → AreRightsSorted (ndecls_in m)
+pub linted_rights : (xs : List NModule) (m : NModule) → LintsAmong xs m → AreDeclsWritten (ndecls_in m) → AreRightsSorted (ndecls_in m)
 linted_rights xs m held w = rights_sorted (own_definitions xs m held) held w
 
 right_sorted : (ds : List NDecl) (w : Word) (t : Term) → AreRightsSorted ds → right_side ds w ≡ Some t → IsSorted [] t
@@ -128,7 +126,7 @@ module _ (R : NPartRelation) (TermsRewritten : PartRelation) (rows : PartsErase 
       go false e = same_definition (P x) (λ t q. sp x t q)
 
 -- changes of parts keep what is shown
-pub changes_keep_meaning : (R : NPartRelation) (G : Known) (D : Name → Term → Type 0) → PartsErase R (TermRow G D) → (xs : List NInterface) (m n : NModule) → word_of m ≡ word_of n
+pub changes_keep_meaning : (R : NPartRelation) (G : Known) (D : Name → Term → Type 0) → PartsErase R (TermRow G D) → (xs : List NModule) (m n : NModule) → word_of m ≡ word_of n
     → DeclarationsChange R (ndecls_in m) (ndecls_in n)
     → LintsAmong xs m → LintsAmong xs n → AreDeclsWritten (ndecls_in m) → AreDeclsWritten (ndecls_in n) → (P : Program) → SortedProgram P → HoldsModule P m
     → GlobalsMeet P G → GlobalsMeet (with_module n P) G → DefinesAll P D → DefinesAll (with_module n P) D → (t : Term) → IsSorted [] t → SeesSame P (with_module n P) t

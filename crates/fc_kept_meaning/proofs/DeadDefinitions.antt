@@ -6,39 +6,17 @@ use Rattle.fc_model.specs.Erasure.{erased, no_scope}
 use Rattle.fc_model.specs.Headers.{ndecls_in}
 use Rattle.fc_model.specs.Kinding.{same_word}
 use Rattle.fc_model.specs.Nameless.{NDecl, NData, NNew, NFamily, NAxiom, NDef, NWrap, NModule, NModuleOf}
-use Rattle.fc_model.specs.Programs.{Mentions, AllMention, AltsMention, right_side}
+use Rattle.fc_model.specs.Programs.{Mentions, right_side}
 use Rattle.fc_model.specs.Stepping.{Program}
-use Rattle.fc_model.specs.Terms.{Term, Lit, Var, Global, Fail, App, Lam, Let, Rec, Case, Con, Prim, Terms, Nil, Cons, Alts, NoAlt, Alt}
+use Rattle.fc_model.specs.Terms.{Term}
 use Rattle.fc_model.proofs.Sameness.{bytes_eq_eq}
 use Rattle.fc_meaning.proofs.Named.{sees_other}
 use Rattle.fc_meaning.proofs.Optional.{false_true}
+use Rattle.fc_meaning.proofs.WrittenMeans.{mentions_more}
 use Rattle.fc_counted.specs.CountingLaws.{SeesSame}
 use Rattle.fc_rows.specs.Rewriting.{without_definitions}
 use Rattle.fc_reaching.specs.Numbering.{word_of}
 use Rattle.fc_kept_meaning.specs.MeaningKept.{with_module, HoldsModule, MayBeAsked, OthersKeepOut, KeepsMeaning, is_kept, IsDead, DeadTaken, takes_dead}
-
-module _ (M N : Name → Type 0) (more : (x : Name) → M x → N x) where
-  mutual
-    pub mentions_more : (t : Term) → Mentions M t → Mentions N t
-    mentions_more (Lit z) w = tt
-    mentions_more (Var n) w = tt
-    mentions_more (Global x) w = more x w
-    mentions_more Fail w = tt
-    mentions_more (App s f a) w = (mentions_more f w.0, mentions_more a w.1)
-    mentions_more (Lam s b) w = mentions_more b w
-    mentions_more (Let s e b) w = (mentions_more e w.0, mentions_more b w.1)
-    mentions_more (Rec ts b) w = (all_mentions_more ts w.0, mentions_more b w.1)
-    mentions_more (Case s e alts) w = (mentions_more e w.0, alts_mentions_more alts w.1)
-    mentions_more (Con c ss ts) w = all_mentions_more ts w
-    mentions_more (Prim o a b) w = (mentions_more a w.0, mentions_more b w.1)
-
-    all_mentions_more : (ts : Terms) → AllMention M ts → AllMention N ts
-    all_mentions_more Nil w = tt
-    all_mentions_more (Cons t ts) w = (mentions_more t w.0, all_mentions_more ts w.1)
-
-    alts_mentions_more : (alts : Alts) → AltsMention M alts → AltsMention N alts
-    alts_mentions_more NoAlt w = tt
-    alts_mentions_more (Alt h b alts) w = (mentions_more b w.0, alts_mentions_more alts w.1)
 
 -- a kept definition is found as before
 kept_step : (keep : Word → Bool) (v w : Word) (x : Term) (d : NDecl) (rest more : Option Term) (b : Bool) → keep v ≡ b → keep w ≡ true → rest ≡ more → (t : Bool) → bytes_eq v w ≡ t
@@ -99,5 +77,5 @@ module _ (m n : NModule) (keep : Word → Bool) (dead : IsDead m keep) (same : w
       (mentions_more (MayBeAsked m) (λ y. is_kept m keep y ≡ true) asked_is_kept t w)
 
 pub dead_keeps_meaning : KeepsMeaning DeadTaken
-dead_keeps_meaning xs _ _ (takes_dead {m = m} {imports = imports} {exports = exports} {hidden = hidden} {ds = ds} keep dead) lm ln wm wn P sp fair holds out t st w =
+dead_keeps_meaning xs _ _ (takes_dead {m = m} {imports = imports} {exports = exports} {hidden = hidden} {ds = ds} keep dead) lm ln wm wn P sp tells holds out t st w =
     dead_shows (NModuleOf m imports exports hidden ds) (NModuleOf m imports exports hidden (without_definitions keep ds)) keep dead refl refl P holds out t w

@@ -1,5 +1,6 @@
 pub mod ChangesKeepMeaning
 pub mod DeadDefinitions
+pub mod FairTold
 pub mod ModulesKeepMeaning
 pub mod OnePlaceTyped
-pub mod RewrittenHeaders
+pub mod ShownFurther

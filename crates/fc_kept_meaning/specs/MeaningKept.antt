@@ -1,5 +1,5 @@
 -- A rewrite of a module keeps what every program shows that holds the module.
-use Rattle.std.specs.Prelude.{◌≡◌, Bool, true, if◌then◌else◌, List, [], ◌∷◌, map, Some}
+use Rattle.std.specs.Prelude.{◌≡◌, Bool, true, if◌then◌else◌, List, [], ◌∷◌, Some}
 use Rattle.fc_syntax.specs.Tree.{Word}
 use Rattle.fc_syntax.specs.declared.ty.Name.{Name}
 use Rattle.fc_model.specs.Headers.{ndecls_in}
@@ -7,17 +7,21 @@ use Rattle.fc_model.specs.Kinding.{decls_at, same_word}
 use Rattle.fc_model.specs.Nameless.{NExpr, NDecl, NDef, NWrap, NModule, NModuleOf, NTy}
 use Rattle.fc_model.specs.Programs.{Mentions, right_side}
 use Rattle.fc_model.specs.Stepping.{Program}
-use Rattle.fc_model.specs.Terms.{Term, IsSorted}
+use Rattle.fc_model.specs.Terms.{Global, Term, IsSorted}
 use Rattle.fc_meaning.specs.Laws.{SortedProgram}
 use Rattle.fc_meaning.proofs.HeldDeclarations.{AreHeld}
 use Rattle.fc_meaning.proofs.WrittenExpressions.{AreDeclsWritten}
+use Rattle.fc_counted.specs.Closings.{Closing}
 use Rattle.fc_counted.specs.CountingLaws.{SeesSame}
+use Rattle.fc_term_rows.specs.FactsMet.{Meets}
 use Rattle.fc_reaching.specs.Numbering.{word_of}
+use Rattle.fc_outlines.specs.RightSides.{Righted}
 use Rattle.fc_rows.specs.Dropping.{is_offered}
 use Rattle.fc_rows.specs.Rewriting.{without_definitions}
 use Rattle.fc_row_places.specs.NamelessChanges.{NPartRelation, NChange}
+use Rattle.fc_row_places.specs.NamelessFacts.{NKnown, erased_fact}
 use Rattle.fc_row_places.specs.NamelessPlaces.{NOutside}
-use Rattle.fc_kept_meaning.specs.FairImports.{AreFair, NInterface}
+use Rattle.fc_kept_meaning.specs.FairImports.{TellTruth}
 use Rattle.fc_kept_meaning.specs.OnePlace.{AtOnePlace}
 
 -- the words that others may use: exports and hidden names
@@ -45,17 +49,23 @@ abbrev pub OthersKeepOut : Program → NModule → Type 0
 OthersKeepOut P m = (n : Name) (t : Term) → (IsOwn m n → ⊥) → P n ≡ Some t → Mentions (MayBeAsked m) t
 
 -- whatever the module and its imports declare holds against them
-abbrev pub LintsAmong : List NInterface → NModule → Type 0
-LintsAmong xs m = AreHeld (decls_at (m ∷ map (λ x. x.told_module) xs))
+abbrev pub LintsAmong : List NModule → NModule → Type 0
+LintsAmong xs m = AreHeld (decls_at (m ∷ xs))
 
 -- THE LAW
 
--- Where a module lints, its imports are fair for a program that holds it, and what the rewrite makes of it lints too, that shows the same in
--- its place: each closed sorted term over what the module offers and over the names of other modules sees the same observations.
-abbrev pub KeepsMeaning : (List NInterface → NModule → NModule → Type 0) → Type 0
-KeepsMeaning Row = (xs : List NInterface) (m n : NModule) → Row xs m n → LintsAmong xs m → LintsAmong xs n → AreDeclsWritten (ndecls_in m) → AreDeclsWritten (ndecls_in n)
-    → (P : Program) → SortedProgram P → AreFair (decls_at (m ∷ map (λ x. x.told_module) xs)) P xs → HoldsModule P m → OthersKeepOut P m
+-- Where a module lints, its imports tell the right sides of a program that holds it, and what the rewrite makes of it lints too, that shows the
+-- same in its place: each closed sorted term over what the module offers and over the names of other modules sees the same observations.
+abbrev pub KeepsMeaning : (List NModule → NModule → NModule → Type 0) → Type 0
+KeepsMeaning Row = (xs : List NModule) (m n : NModule) → Row xs m n → LintsAmong xs m → LintsAmong xs n → AreDeclsWritten (ndecls_in m) → AreDeclsWritten (ndecls_in n)
+    → (P : Program) → SortedProgram P → TellTruth P xs → HoldsModule P m → OthersKeepOut P m
     → (t : Term) → IsSorted [] t → Mentions (MayBeAsked m) t → SeesSame P (with_module n P) t
+
+-- NAMES
+
+-- what holds of a name in both of two programs, whatever is put in
+abbrev pub MetIn : Program → Program → NKnown
+MetIn P Q = λ n f. ((p : Closing) → Meets P p (Global n) (erased_fact f)) × ((p : Closing) → Meets Q p (Global n) (erased_fact f))
 
 -- DEFINITIONS WHOSE RIGHT SIDES DIFFER IN PARTS
 
@@ -69,13 +79,11 @@ pub data DeclarationsChange (R : NPartRelation) : List NDecl → List NDecl → 
 -- A REWRITE AT ONE PLACE OF ONE RIGHT SIDE
 
 -- one right side is rewritten at one place
-pub data DeclarationsRewritten (R : NPartRelation) : List NDecl → List NDecl → Type 0 where
-  rewritten_def : {w : Word} {t : NTy} {e f : NExpr} {ds : List NDecl} → AtOnePlace R NOutside e f → DeclarationsRewritten R (NDef w t e ∷ ds) (NDef w t f ∷ ds)
-  rewritten_wrap : {w : Word} {t : NTy} {e f : NExpr} {ds : List NDecl} → AtOnePlace R NOutside e f → DeclarationsRewritten R (NWrap w t e ∷ ds) (NWrap w t f ∷ ds)
-  rewritten_later : {d : NDecl} {ds es : List NDecl} → DeclarationsRewritten R ds es → DeclarationsRewritten R (d ∷ ds) (d ∷ es)
+abbrev pub DeclarationsRewritten : NPartRelation → List NDecl → List NDecl → Type 0
+DeclarationsRewritten R ds es = Righted (AtOnePlace R NOutside) ds es
 
-pub data ModuleRewritten (R : NPartRelation) : List NInterface → NModule → NModule → Type 0 where
-  rewritten_in_module : {xs : List NInterface} {m : Word} {imports exports hidden : List Word} {ds es : List NDecl} → DeclarationsRewritten R ds es
+pub data ModuleRewritten (R : NPartRelation) : List NModule → NModule → NModule → Type 0 where
+  rewritten_in_module : {xs : List NModule} {m : Word} {imports exports hidden : List Word} {ds es : List NDecl} → DeclarationsRewritten R ds es
       → ModuleRewritten R xs (NModuleOf m imports exports hidden ds) (NModuleOf m imports exports hidden es)
 
 -- DEFINITIONS THAT ARE TAKEN AWAY
@@ -90,6 +98,6 @@ pub record IsDead (m : NModule) (keep : Word → Bool) : Type 0 where
   pub closed : (w : Word) (t : Term) → keep w ≡ true → right_side (ndecls_in m) w ≡ Some t → Mentions (λ n. is_kept m keep n ≡ true) t
 
 -- they are taken away
-pub data DeadTaken : List NInterface → NModule → NModule → Type 0 where
-  takes_dead : {xs : List NInterface} {m : Word} {imports exports hidden : List Word} {ds : List NDecl} (keep : Word → Bool) → IsDead (NModuleOf m imports exports hidden ds) keep
+pub data DeadTaken : List NModule → NModule → NModule → Type 0 where
+  takes_dead : {xs : List NModule} {m : Word} {imports exports hidden : List Word} {ds : List NDecl} (keep : Word → Bool) → IsDead (NModuleOf m imports exports hidden ds) keep
       → DeadTaken xs (NModuleOf m imports exports hidden ds) (NModuleOf m imports exports hidden (without_definitions keep ds))

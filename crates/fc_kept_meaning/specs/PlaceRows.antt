@@ -13,14 +13,14 @@ use Rattle.fc_model.specs.Replacing.{variables, coercion_variables, put_in_alts,
 use Rattle.fc_model.specs.Replacing.{join_count, with_arguments}
 use Rattle.fc_model.specs.Stepping.{Key, ConKey, Bare, Fielded, choose}
 use Rattle.fc_model.specs.Terms as term
-use Rattle.fc_model.specs.Terms.{Lifted}
+use Rattle.fc_model.specs.Terms.{Lifted, Unlifted}
 use Rattle.fc_model.specs.Typing.{is_atom}
 use Rattle.fc_meaning.proofs.WrittenExpressions.{IsWritten}
 use Rattle.fc_rows.specs.Shrinking.{moved_arg}
 use Rattle.fc_rows.specs.Surroundings.{past_joins, past_values}
 use Rattle.fc_term_rows.specs.TermRows.{IsAmong, IsNoDefault, HasKey}
-use Rattle.fc_row_places.specs.KnowingRows.{PartsFit, NChosen, NWithout, opened, IsFoldAnswer, IsValueOf}
-use Rattle.fc_row_places.specs.NamelessFacts.{BehindTypes, NFact, NFactNoneOf, NKnowsJoin, NKnows}
+use Rattle.fc_row_places.specs.KnowingRows.{AtFields, BehindLets, PartsFit, NChosen, NWithout, right_past_lets, IsFoldAnswer, IsValueOf}
+use Rattle.fc_row_places.specs.NamelessFacts.{BehindTypes, NFact, NFactNoneOf, NKnown, NKnowsJoin, NKnows}
 use Rattle.fc_row_places.specs.NamelessPlaces.{NPlace, scope_at}
 use Rattle.fc_row_places.specs.NamelessRows.{moved_alts, below_one_value, single_bind, single_join, outer_binder, NamesField}
 
@@ -56,21 +56,27 @@ pub data PlainRow : NExpr → NExpr → Type 0 where
   plain_named_field : {t u : NTy} {n : Name} {e b : NExpr} {args named : NArgs} → NamesField e args named
       → PlainRow (NLet false (single_bind t (NCon n args)) b) (NLet false (single_bind u e) (NLet false (single_bind t (NCon n named)) (renamed (below_one_value past_a_value) b)))
 
--- rewrites at a place; what a case looks at, where it is known, is a variable or a literal
-pub data PlaceRow : NPlace → NExpr → NExpr → Type 0 where
-  place_plain : {c : NPlace} {e d : NExpr} → PlainRow e d → PlaceRow c e d
-  place_known : {c : NPlace} {y b : NExpr} {f : NFact} {xt rt : NTy} {alts : NAlts} {bs : List NBinder} {parts : NArgs} → is_atom y ≡ true → IsWritten b → NKnows c y f → sort_of_type xt ≡ Lifted
+-- rewrites at a place, where G is known of top-level names; what a case looks at, where it is known, is a variable or a literal
+pub data PlaceRow (G : NKnown) : NPlace → NExpr → NExpr → Type 0 where
+  place_plain : {c : NPlace} {e d : NExpr} → PlainRow e d → PlaceRow G c e d
+  place_known : {c : NPlace} {y b : NExpr} {f : NFact} {xt rt : NTy} {alts : NAlts} {bs : List NBinder} {parts : NArgs} → is_atom y ≡ true → IsWritten b → NKnows G c y f
       → NChosen (below_value (sort_of_type xt) (scope_at c)) (sort_of_type xt) f alts bs b parts → PartsFit (scope_at c) parts bs
-      → PlaceRow c (NCase y xt rt alts) (replaced (with_arguments parts (with_argument (NATerm y) unchanged)) b)
-  place_dead_alternative : {c : NPlace} {y : NExpr} {hs : List term.Head} {xt rt : NTy} {h : Head} {bs : List NBinder} {alts blts : NAlts} → NKnows c y (NFactNoneOf hs)
+      → PlaceRow G c (NCase y xt rt alts) (replaced (with_arguments parts (with_argument (NATerm y) unchanged)) b)
+  -- an unlifted scrutinee and a default alone
+  place_atom : {c : NPlace} {y b : NExpr} {xt rt : NTy} → is_atom y ≡ true → sort_of_type xt ≡ Unlifted
+      → PlaceRow G c (NCase y xt rt (MoreNAlts (NBranch head.Default [] b) NoNAlts)) (replaced (with_argument (NATerm y) unchanged) b)
+  place_dead_alternative : {c : NPlace} {y : NExpr} {hs : List term.Head} {xt rt : NTy} {h : Head} {bs : List NBinder} {alts blts : NAlts} → NKnows G c y (NFactNoneOf hs)
       → IsAmong (erased_head h bs) hs → IsNoDefault (erased_head h bs) → NWithout h bs alts blts
-      → PlaceRow c (NCase y xt rt alts) (NCase y xt rt blts)
+      → PlaceRow G c (NCase y xt rt alts) (NCase y xt rt blts)
   place_head : {c : NPlace} {v b : NExpr} {xt rt : NTy} {alts : NAlts} (k : Key) → HasKey (sort_of_type xt) (erased (scope_at c) v) k
       → choose k (erased_alts (below_value (sort_of_type xt) (scope_at c)) alts) ≡ Bare (erased (below_value (sort_of_type xt) (scope_at c)) b)
-      → PlaceRow c (NCase v xt rt alts) (NLet false (single_bind xt v) b)
-  place_constructor : {c : NPlace} {n : Name} {args : NArgs} {xt rt : NTy} {alts : NAlts} (parts : NArgs) (bs : List NBinder) (b : NExpr) → sort_of_type xt ≡ Lifted → IsWritten b
+      → PlaceRow G c (NCase v xt rt alts) (NLet false (single_bind xt v) b)
+  -- a constructor with its alternative, behind lets for its fields
+  place_constructor : {c : NPlace} {n : Name} {args : NArgs} {xt rt : NTy} {alts : NAlts} {d f : NExpr} (parts : NArgs) (bs : List NBinder) (b : NExpr) → sort_of_type xt ≡ Lifted → IsWritten b
       → BehindTypes args parts → PartsFit (scope_at c) parts bs
       → choose (ConKey n) (erased_alts (below_value Lifted (scope_at c)) alts) ≡ Fielded (binder_sorts bs) (erased (below_all bs (below_value Lifted (scope_at c))) b)
-      → PlaceRow c (NCase (NCon n args) xt rt alts) (opened parts bs (with_argument (NATerm (NCon n args)) unchanged) b)
-  place_jump : {c : NPlace} {i : ℕ} {args : NArgs} (ps : List NBinder) (a : NExpr) → NKnowsJoin c i ps a → PartsFit (scope_at c) args ps → PlaceRow c (NJump i args) (opened args ps unchanged a)
-  place_fold : {c : NPlace} {o : PrimOp} {a b r : NExpr} → IsFoldAnswer a b r → IsValueOf (scope_at c) o a b r → PlaceRow c (NPrim o (MoreNExprs a (MoreNExprs b NoNExprs))) r
+      → AtFields xt n args parts bs b d → BehindLets (scope_at c) d 0 args f → PlaceRow G c (NCase (NCon n args) xt rt alts) f
+  -- a jump as the right side of its join point, behind lets for its terms
+  place_jump : {c : NPlace} {i : ℕ} {args : NArgs} {f : NExpr} (ps : List NBinder) (a : NExpr) → NKnowsJoin c i ps a → PartsFit (scope_at c) args ps
+      → BehindLets (scope_at c) (right_past_lets args ps a) 0 args f → PlaceRow G c (NJump i args) f
+  place_fold : {c : NPlace} {o : PrimOp} {a b r : NExpr} → IsFoldAnswer a b r → IsValueOf (scope_at c) o a b r → PlaceRow G c (NPrim o (MoreNExprs a (MoreNExprs b NoNExprs))) r

@@ -29,7 +29,7 @@ digits_plain (b ∷ bs) h =
     let parts = and_parts (is_digit b) (list_all is_digit bs) h in
     and_from (is_plain b) (list_all is_plain bs) (digit_plain b parts.0) (digits_plain bs parts.1)
 
-digits_from : (w : List ℕ) → list_all is_digit w ≡ true → 0 < length w → is_digits w ≡ true
+pub digits_from : (w : List ℕ) → list_all is_digit w ≡ true → 0 < length w → is_digits w ≡ true
 digits_from [] h l = absurd (omega arith)
 digits_from (b ∷ bs) h l = h
 

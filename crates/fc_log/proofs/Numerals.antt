@@ -15,15 +15,12 @@ use mir.Val.{SFits}
 use Rattle.fc_syntax.specs.declared.token.TokenKind.TheVariants as kind
 use Rattle.fc_syntax.specs.Tokens.{is_digit, is_digits, is_dot, is_in_range, is_literal, is_number, is_name, is_sign, literal_value, without_minus, word_kind}
 use Rattle.fc_lex.proofs.Literals.{own, literal_parses, without_last}
-use Rattle.fc_lex.proofs.Printed.{printed_literal}
+use Rattle.fc_lex.proofs.Printed.{digits_from, printed_literal}
+use Rattle.fc_read_parts.proofs.Names.{start_is_not}
 use Rattle.fc_log.specs.Grammar.{is_part_number, is_path, is_written_literal, no_leading_zero, path_of}
 use Rattle.fc_log.specs.Texts.{IsPath, path_text}
 
 -- NUMBERS
-
-digits_from : (w : List ℕ) → list_all is_digit w ≡ true → 0 < length w → is_digits w ≡ true
-digits_from [] h l = absurd (omega arith)
-digits_from (b ∷ bs) h l = h
 
 all_digits : (n : ℕ) → n < 2 ^ 64 → list_all is_digit (decimal n) ≡ true
 all_digits n h = digits_decimal own n h
@@ -109,9 +106,6 @@ by_kind w z false q false false e f g h k = no_sign (is_sign w) refl where
 
 pub printed_is : (z : ℤ) → SFits w64 z → IsLiteralOf (signed_decimal z ++ 35 ∷ []) z
 printed_is z h = let w = signed_decimal z ++ 35 ∷ [] in by_kind w z (is_literal w) (is_in_range w) (is_number w) (is_name w) refl refl refl refl (printed_literal 0 z h)
-
-start_is_not : (n b : ℕ) (bs cs : List ℕ) → (b == n) ≡ false → bytes_eq (b ∷ bs) (n ∷ cs) ≡ false
-start_is_not n b bs cs e = rw e refl
 
 digit_no_minus : (b : ℕ) → is_digit b ≡ true → (b == 45) ≡ false
 digit_no_minus b h = grind (arith, nat_tests)

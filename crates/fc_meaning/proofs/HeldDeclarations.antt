@@ -1,25 +1,54 @@
 -- What holds of what is found in modules whose declarations and definitions hold: types of definitions are lifted, and types that a
 -- constructor takes are of kinds without `#`.
-use Rattle.std.proofs.Common.{◌≡◌, ℕ, ◌+◌, true, bytes_eq, List, Option, Some, None, Ok, refl}
+use Rattle.std.proofs.Common.{◌≡◌, ℕ, ◌+◌, All, true, bytes_eq, List, [], ◌∷◌, Option, Some, None, Ok, refl}
+use Rattle.std.proofs.lemmas.List.Elements.{All-head, All-tail, All-weaker}
 use Rattle.std.specs.List.{list_all}
 use Rattle.fc_syntax.specs.declared.ty.Name.{Name}
 use Rattle.fc_syntax.specs.Tree.{Word, Kind}
 use Rattle.fc_model.specs.Calling.{Constructor, con_among, con_decl, constructor, first_of}
 use Rattle.fc_model.specs.Erasure.{sort_of_type}
-use Rattle.fc_model.specs.Kinding.{Modules, is_lifted, param_kinds}
+use Rattle.fc_model.specs.Headers.{ndecls_in}
+use Rattle.fc_model.specs.Kinding.{Modules, decls_at, decls_of_module, is_lifted, param_kinds}
 use Rattle.fc_model.specs.LintingRules.{ConHolds, ConsHold, no_cons, one_con, TypeDeclsHold, no_type_decls, one_type_decl, data_holds, newtype_holds, family_holds, axiom_holds, def_declares_no_type, wrap_declares_no_type}
 use Rattle.fc_model.specs.LintingRules.{DefinitionsHold, no_definitions, one_definition, def_holds, wrap_holds, data_defines_nothing, newtype_defines_nothing, family_defines_nothing, axiom_defines_nothing}
-use Rattle.fc_model.specs.Nameless.{NTy, NParam, NConDecl, NDecl}
+use Rattle.fc_model.specs.LintingRules.{ModuleHolds, module_holds}
+use Rattle.fc_model.specs.Nameless.{NTy, NParam, NConDecl, NDecl, NModule, NModuleOf}
 use Rattle.fc_model.specs.Terms.{Lifted}
 use Rattle.fc_model.specs.Typing.{def_type, value_type}
 use Rattle.fc_model.proofs.Parts.{err_ok, ok_ok}
-use Rattle.fc_meaning.proofs.Optional.{found_has, some_is, none_some}
+use Rattle.fc_meaning.proofs.Optional.{cond_keeps, found_has, some_is, none_some}
 use Rattle.fc_meaning.proofs.SortsOfTypes.{lifted_by_kind}
 
 -- whatever modules declare holds against them
 pub record AreHeld (ms : Modules) : Type 0 where
   pub types : (o : Option Word) → TypeDeclsHold ms (ms o)
   pub definitions : (o : Option Word) → DefinitionsHold ms (ms o)
+
+-- MODULES
+
+-- what holds where nothing is declared, and of the declarations of each module, holds of whatever the modules declare
+module _ (P : List NDecl → Type 0) (none : P []) where
+  of_module_have : (ns : List NModule) → All (λ n. P (ndecls_in n)) ns → (w : Word) → P (decls_of_module ns w)
+  of_module_have [] all w = none
+  of_module_have (NModuleOf m imports exports hidden ds ∷ ns) all w =
+      let n = NModuleOf m imports exports hidden ds in
+      cond_keeps P (bytes_eq m w) ds (decls_of_module ns w) (All-head (λ k. P (ndecls_in k)) n ns all) (of_module_have ns (All-tail (λ k. P (ndecls_in k)) n ns all) w)
+
+  pub declared_have : (ns : List NModule) → All (λ n. P (ndecls_in n)) ns → (o : Option Word) → P (decls_at ns o)
+  declared_have ns all None = none
+  declared_have ns all (Some w) = of_module_have ns all w
+
+module_parts : {ms : Modules} {n : NModule} → ModuleHolds ms n → TypeDeclsHold ms (ndecls_in n) × DefinitionsHold ms (ndecls_in n)
+module_parts (module_holds x h types definitions) = (types, definitions)
+
+-- what modules declare that hold against all of them holds against them
+pub modules_are_held : (ns : List NModule) → All (ModuleHolds (decls_at ns)) ns → AreHeld (decls_at ns)
+modules_are_held ns all =
+    let ds = decls_at ns in
+    record {
+      types = declared_have (TypeDeclsHold ds) no_type_decls ns (All-weaker (ModuleHolds ds) (λ n. TypeDeclsHold ds (ndecls_in n)) (λ n holds. (module_parts holds).0) ns all);
+      definitions = declared_have (DefinitionsHold ds) no_definitions ns (All-weaker (ModuleHolds ds) (λ n. DefinitionsHold ds (ndecls_in n)) (λ n holds. (module_parts holds).1) ns all);
+    }
 
 -- DEFINITIONS
 

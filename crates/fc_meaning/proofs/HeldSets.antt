@@ -1,21 +1,21 @@
 -- What holds of the nameless forms of a set of modules, and of what they declare: where the set lints, each form holds against all.
-use Rattle.std.proofs.Common.{◌≡◌, All, List, [], ◌∷◌, Option, Some, None, Result, Ok, Err, bytes_eq, refl, ap, subst, ◌∙◌}
-use Rattle.std.proofs.lemmas.List.Elements.{All-nil, All-cons, All-head, All-tail, All-weaker}
-use Rattle.fc_syntax.specs.Tree.{Word, Module}
+use Rattle.std.proofs.Common.{◌≡◌, All, List, [], ◌∷◌, Result, Ok, Err, refl, ap, subst, ◌∙◌}
+use Rattle.std.proofs.lemmas.List.Elements.{All-nil, All-cons, All-head, All-tail}
+use Rattle.fc_syntax.specs.Tree.{Module}
 use Rattle.fc_model.specs.Faulting.{F, and_then}
 use Rattle.fc_model.specs.Headers.{name_of, ndecls_in}
-use Rattle.fc_model.specs.Kinding.{Modules, decls_at, decls_of_module}
-use Rattle.fc_model.specs.Linting.{Done, done, InModule, SetLints, declarations_judged, exports_judged, form_before, in_module, lint_or_fault, module_judged, modules_judged, nameless_forms, offers_of}
-use Rattle.fc_model.specs.LintingRules.{TypeDeclsHold, no_type_decls, DefinitionsHold, no_definitions, ModuleHolds, module_holds}
-use Rattle.fc_model.specs.Nameless.{NDecl, NModule, NModuleOf}
+use Rattle.fc_model.specs.Kinding.{decls_at}
+use Rattle.fc_model.specs.Linting.{done, SetLints, declarations_judged, exports_judged, form_before, lint_or_fault, module_judged, modules_judged, nameless_forms, offers_of}
+use Rattle.fc_model.specs.LintingRules.{ModuleHolds}
+use Rattle.fc_model.specs.Nameless.{NModule, NModuleOf}
 use Rattle.fc_model.specs.Resolution.{resolved_among, resolved_or_fault}
 use Rattle.fc_model.specs.TypingLaws.{HasDistinctTypes}
 use Rattle.fc_model.proofs.DeclaredKinded.{resolved_have_distinct_types}
 use Rattle.fc_model.proofs.LintedIs.{lint_is}
 use Rattle.fc_model.proofs.Parts.{and_then_inv}
 use Rattle.fc_model.proofs.ResolvedModulesAre.{resolved_module_is}
-use Rattle.fc_meaning.proofs.HeldDeclarations.{AreHeld}
-use Rattle.fc_meaning.proofs.Optional.{cond_keeps}
+use Rattle.fc_model.proofs.SetWritten.{judged_first}
+use Rattle.fc_meaning.proofs.HeldDeclarations.{AreHeld, modules_are_held}
 
 -- FORMS
 
@@ -36,10 +36,6 @@ pub set_has_distinct_types : (ms : List Module) → All HasDistinctTypes (namele
 set_has_distinct_types ms = forms_have (λ m. Unit {0}) HasDistinctTypes (λ m n u form. resolved_have_distinct_types m n (resolved_module_is m n form)) ms (λ k d l. tt)
 
 -- JUDGED SETS
-
-judged_first : (r : Result Done F) (m : Word) (rest : Result Done InModule) → in_module m r rest ≡ Ok done → (r ≡ Ok done) × (rest ≡ Ok done)
-judged_first (Ok done) m rest h = (refl, h)
-judged_first (Err f) m rest h = absurd cc
 
 -- where a set has no fault, none of its modules has
 all_judged : (ns : List NModule) (ms : List Module) → modules_judged ns ms ≡ Ok done → All (λ m. module_judged ns m ≡ Ok done) ms
@@ -62,30 +58,6 @@ set_holds ms h =
     let ns = nameless_forms ms in
     forms_have (λ m. module_judged ns m ≡ Ok done) (ModuleHolds (decls_at ns)) (λ m n judged form. (lint_is (decls_at ns) n).0 (form_lints ns m n judged form)) ms (all_judged ns ms h)
 
--- DECLARATIONS
-
--- what holds where nothing is declared, and of the declarations of each module, holds of whatever the modules declare
-module _ (P : List NDecl → Type 0) (none : P []) where
-  of_module_have : (ns : List NModule) → All (λ n. P (ndecls_in n)) ns → (w : Word) → P (decls_of_module ns w)
-  of_module_have [] all w = none
-  of_module_have (NModuleOf m imports exports hidden ds ∷ ns) all w =
-      let n = NModuleOf m imports exports hidden ds in
-      cond_keeps P (bytes_eq m w) ds (decls_of_module ns w) (All-head (λ k. P (ndecls_in k)) n ns all) (of_module_have ns (All-tail (λ k. P (ndecls_in k)) n ns all) w)
-
-  pub declared_have : (ns : List NModule) → All (λ n. P (ndecls_in n)) ns → (o : Option Word) → P (decls_at ns o)
-  declared_have ns all None = none
-  declared_have ns all (Some w) = of_module_have ns all w
-
-module_parts : {ms : Modules} {n : NModule} → ModuleHolds ms n → TypeDeclsHold ms (ndecls_in n) × DefinitionsHold ms (ndecls_in n)
-module_parts (module_holds x h types definitions) = (types, definitions)
-
 -- what a set that lints declares holds against the set
 pub set_is_held : (ms : List Module) → SetLints ms → AreHeld (decls_at (nameless_forms ms))
-set_is_held ms h =
-    let ns = nameless_forms ms in
-    let ds = decls_at ns in
-    let all = set_holds ms h in
-    record {
-      types = declared_have (TypeDeclsHold ds) no_type_decls ns (All-weaker (ModuleHolds ds) (λ n. TypeDeclsHold ds (ndecls_in n)) (λ n holds. (module_parts holds).0) ns all);
-      definitions = declared_have (DefinitionsHold ds) no_definitions ns (All-weaker (ModuleHolds ds) (λ n. DefinitionsHold ds (ndecls_in n)) (λ n holds. (module_parts holds).1) ns all);
-    }
+set_is_held ms h = modules_are_held (nameless_forms ms) (set_holds ms h)

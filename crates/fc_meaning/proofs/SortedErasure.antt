@@ -17,8 +17,8 @@ use Rattle.fc_model.specs.Resolution.{top_of}
 use Rattle.fc_model.specs.Terms.{Term, IsSorted}
 use Rattle.fc_model.proofs.ResolvedModulesAre.{resolved_module_is}
 use Rattle.fc_meaning.specs.Laws.{LintedIsSorted}
-use Rattle.fc_meaning.proofs.HeldDeclarations.{AreHeld}
-use Rattle.fc_meaning.proofs.HeldSets.{declared_have, forms_have, set_is_held}
+use Rattle.fc_meaning.proofs.HeldDeclarations.{AreHeld, declared_have}
+use Rattle.fc_meaning.proofs.HeldSets.{forms_have, set_is_held}
 use Rattle.fc_meaning.proofs.Optional.{found_has, some_is, none_some}
 use Rattle.fc_meaning.proofs.ScopesFit.{fits_closed}
 use Rattle.fc_meaning.proofs.WrittenExpressions.{AreDeclsWritten, decls_written}

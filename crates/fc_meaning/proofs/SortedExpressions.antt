@@ -21,12 +21,12 @@ use Rattle.fc_meaning.proofs.WrittenExpressions.{AreAltsWritten, AreArgsWritten,
 -- PLACES
 
 -- a variable is an atom at the sort of its binder
-variable_is_atom : (g : List Sort) (o : Sort) (n : ℕ) → sort_at g n ≡ Some o → IsAtom g o (Var n)
+pub variable_is_atom : (g : List Sort) (o : Sort) (n : ℕ) → sort_at g n ≡ Some o → IsAtom g o (Var n)
 variable_is_atom g Lifted n h = tt
 variable_is_atom g Unlifted n h = h
 
 -- what has a type is an atom where its sort is unlifted
-is_placed : {ms : Modules} {c : Context} {e : NExpr} {t : NTy} → HasType ms c e t → (s : Scope) (g : List Sort) → Fits c s g → IsAtom g (sort_of s e) (erased s e)
+pub is_placed : {ms : Modules} {c : Context} {e : NExpr} {t : NTy} → HasType ms c e t → (s : Scope) (g : List Sort) → Fits c s g → IsAtom g (sort_of s e) (erased s e)
 is_placed (typed_local {i = i} {t = t} p) s g fits =
     let q = fits.values i t p in variable_is_atom g (s.sorts i) (s.values i) (q.1 ∙ ap (λ o. Some o) (sym q.0))
 is_placed (typed_declared p) s g fits = tt
@@ -51,13 +51,13 @@ lambdas_sorted [] g t h = h
 lambdas_sorted (s ∷ ss) g t h = lambdas_sorted ss (s ∷ g) t h
 
 -- all binders of a recursive group are lifted
-rights_lifted : {ms : Modules} {c : Context} {bs : NBinds} → BindsHaveTypes ms c true bs → (s : Scope) → lifteds (erased_rights s bs) ≡ bind_sorts bs
+pub rights_lifted : {ms : Modules} {c : Context} {bs : NBinds} → BindsHaveTypes ms c true bs → (s : Scope) → lifteds (erased_rights s bs) ≡ bind_sorts bs
 unfolding lifteds
 rights_lifted no_binds s = refl
 rights_lifted (one_bind {t = t} {rest = rest} k h v e atom binds) s =
     ap (λ o. o ∷ lifteds (erased_rights s rest)) (no_atom_is_lifted t atom) ∙ ap (λ os. sort_of_type t ∷ os) (rights_lifted binds s)
 
-joins_lifted : {ms : Modules} {c : Context} {t : NTy} {js : NJoins} → JoinsHaveType ms c t js → (s : Scope) → lifteds (erased_joins s js) ≡ join_sorts js
+pub joins_lifted : {ms : Modules} {c : Context} {t : NTy} {js : NJoins} → JoinsHaveType ms c t js → (s : Scope) → lifteds (erased_joins s js) ≡ join_sorts js
 unfolding lifteds
 joins_lifted no_joins s = refl
 joins_lifted (one_join kinded e rest) s = ap (λ os. Lifted ∷ os) (joins_lifted rest s)
@@ -87,11 +87,11 @@ module _ (ms : Modules) (held : AreHeld ms) where
     expr_sorted (typed_lambda (coercion_binder {r = r} {t = t} {u = u} j k h i v) e below) s g fits w =
         expr_sorted e (below_unnamed s) (Unlifted ∷ g) (fits_coercion (fits_values fits) (ends r t u)) w
     expr_sorted (typed_let {r = false} {bs = bs} {e = e} binds body) s g fits w =
-        lets_sorted binds s g (fits_values fits) w.0 (erased (below_binds bs s) e) (expr_sorted body (below_binds bs s) (enters (bind_sorts bs) g) (fits_binds bs fits) w.1)
+        lets_sorted binds s g (fits_values fits) w.1 (erased (below_binds bs s) e) (expr_sorted body (below_binds bs s) (enters (bind_sorts bs) g) (fits_binds bs fits) w.2)
     expr_sorted (typed_let {r = true} {bs = bs} {e = e} binds body) s g fits w =
         let inner = fits_binds bs fits in
         subst (λ os. AreSorted (enters os g) (erased_rights (below_binds bs s) bs) × IsSorted (enters os g) (erased (below_binds bs s) e)) (sym (rights_lifted binds (below_binds bs s)))
-        (rights_sorted binds (below_binds bs s) (enters (bind_sorts bs) g) (fits_values inner) w.0, expr_sorted body (below_binds bs s) (enters (bind_sorts bs) g) inner w.1)
+        (rights_sorted binds (below_binds bs s) (enters (bind_sorts bs) g) (fits_values inner) w.1, expr_sorted body (below_binds bs s) (enters (bind_sorts bs) g) inner w.2)
     expr_sorted (typed_case {s = xt} j k e t r alts v) s g fits w =
         (expr_sorted e s g (fits_values fits) w.0, alts_sorted alts (below_value (sort_of_type xt) s) (sort_of_type xt ∷ g) (fits_value fits xt) w.1)
     expr_sorted (typed_cast e p) s g fits w = expr_sorted e s g (fits_values fits) w
@@ -101,11 +101,11 @@ module _ (ms : Modules) (held : AreHeld ms) where
         (expr_sorted a s g inner w.0, operand_placed a p s g inner, expr_sorted b s g inner w.1.0, operand_placed b q s g inner)
     expr_sorted (typed_fail k t v) s g fits w = tt
     expr_sorted (typed_join {r = false} {t = t} {js = js} {e = e} k kind joins body v) s g fits w =
-        join_lets_sorted joins s g fits w.0 (erased (below_joins js s) e) (expr_sorted body (below_joins js s) (enters (join_sorts js) g) (fits_joins t js fits) w.1)
+        join_lets_sorted joins s g fits w.1 (erased (below_joins js s) e) (expr_sorted body (below_joins js s) (enters (join_sorts js) g) (fits_joins t js fits) w.2)
     expr_sorted (typed_join {r = true} {t = t} {js = js} {e = e} k kind joins body v) s g fits w =
         let inner = fits_joins t js fits in
         subst (λ os. AreSorted (enters os g) (erased_joins (below_joins js s) js) × IsSorted (enters os g) (erased (below_joins js s) e)) (sym (joins_lifted joins (below_joins js s)))
-        (joins_sorted joins (below_joins js s) (enters (join_sorts js) g) inner w.0, expr_sorted body (below_joins js s) (enters (join_sorts js) g) inner w.1)
+        (joins_sorted joins (below_joins js s) (enters (join_sorts js) g) inner w.1, expr_sorted body (below_joins js s) (enters (join_sorts js) g) inner w.2)
     expr_sorted (typed_jump {i = i} j gs t is args l takes) s g fits w = applied_sorted args s g (fits_values fits) w (Var (s.joins i)) (Lifted, fits.joins i j is)
 
     -- the fields of a constructor

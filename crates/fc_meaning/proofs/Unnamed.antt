@@ -14,7 +14,7 @@ unfolding ups uprs
 uprs-ups zero s r = refl
 uprs-ups (suc k) s r = uprs-ups k (up s) (upr r) ∙ ap (ups k) (upr-up s r)
 
-count-ren : (r : ℕ → ℕ) (ts : Terms) → count (ren_terms r ts) ≡ count ts
+pub count-ren : (r : ℕ → ℕ) (ts : Terms) → count (ren_terms r ts) ≡ count ts
 unfolding count ren
 count-ren r Nil = refl
 count-ren r (Cons t ts) = ap suc (count-ren r ts)

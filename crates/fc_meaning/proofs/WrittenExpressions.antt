@@ -1,6 +1,6 @@
--- The right sides of the definitions of a formed module, without names: each literal is in range, and an alternative that is not of a
--- constructor has no binders.
-use Rattle.std.proofs.Common.{◌≡◌, true, ◌&&◌, List, [], ◌∷◌, refl}
+-- The right sides of the definitions of a formed module, without names: each literal is in range, an alternative that is not of a
+-- constructor has no binders, and a let or join that is not recursive has one binder.
+use Rattle.std.proofs.Common.{◌≡◌, Bool, true, false, ◌&&◌, List, [], ◌∷◌, refl}
 use Rattle.std.proofs.lemmas.Bool.{and_parts}
 use Rattle.std.specs.List.{list_all}
 use Rattle.fc_syntax.specs.declared.expr.Head.{Head}
@@ -28,21 +28,34 @@ HasOwnBinders head.Default bs = bs ≡ []
 HasOwnBinders (head.Lit n) bs = bs ≡ []
 HasOwnBinders (head.Con n) bs = Unit {0}
 
+-- what is not recursive has one binder
+abbrev pub IsBindGroup : Bool → NBinds → Type 0
+IsBindGroup true bs = Unit {0}
+IsBindGroup false NoNBinds = ⊥
+IsBindGroup false (MoreNBinds b NoNBinds) = Unit {0}
+IsBindGroup false (MoreNBinds b (MoreNBinds c rest)) = ⊥
+
+abbrev pub IsJoinGroup : Bool → NJoins → Type 0
+IsJoinGroup true js = Unit {0}
+IsJoinGroup false NoNJoins = ⊥
+IsJoinGroup false (MoreNJoins j NoNJoins) = Unit {0}
+IsJoinGroup false (MoreNJoins j (MoreNJoins k rest)) = ⊥
+
 abbrev mutual
-  -- each literal is in range, and each alternative has binders of its own
+  -- each literal is in range, each alternative has binders of its own, and each let or join that is not recursive has one binder
   pub IsWritten : NExpr → Type 0
   IsWritten (NLocal i) = Unit {0}
   IsWritten (NVar n) = Unit {0}
   IsWritten (NLit n) = InRange n
   IsWritten (NApp f a) = IsWritten f × IsArgWritten a
   IsWritten (NLam b e) = IsWritten e
-  IsWritten (NLet r bs e) = AreBindsWritten bs × IsWritten e
+  IsWritten (NLet r bs e) = IsBindGroup r bs × AreBindsWritten bs × IsWritten e
   IsWritten (NCase e xt rt alts) = IsWritten e × AreAltsWritten alts
   IsWritten (NCast e g) = IsWritten e
   IsWritten (NCon n args) = AreArgsWritten args
   IsWritten (NPrim op es) = AreExprsWritten es
   IsWritten (NFail t) = Unit {0}
-  IsWritten (NJoin r t js e) = AreJoinsWritten js × IsWritten e
+  IsWritten (NJoin r t js e) = IsJoinGroup r js × AreJoinsWritten js × IsWritten e
   IsWritten (NJump i args) = AreArgsWritten args
 
   pub IsArgWritten : NArg → Type 0
@@ -94,6 +107,19 @@ module _ (top : Top) where
   head_written {bs = bs} (resolves_literal_head {n = n}) binders f = none_resolved binders (and_parts (is_literal_formed n) (is_empty_list bs) f).1
   head_written (resolves_constructor_head h) binders f = tt
 
+  -- resolution keeps how many binders there are
+  bind_group : {s : Locals} {earlier : WordSet} {bs : Binds} {us : NBinds} (r : Bool) → ResolvesBinds top s earlier bs us → is_bind_group r bs ≡ true → IsBindGroup r us
+  bind_group true h f = tt
+  bind_group false resolves_no_binds f = false_true f
+  bind_group false (resolves_binds new a g resolves_no_binds) f = tt
+  bind_group false (resolves_binds new a g (resolves_binds later b h rest)) f = false_true f
+
+  join_group : {s : Locals} {earlier : WordSet} {js : Joins} {us : NJoins} (r : Bool) → ResolvesJoins top s earlier js us → is_join_group r js ≡ true → IsJoinGroup r us
+  join_group true h f = tt
+  join_group false resolves_no_joins f = false_true f
+  join_group false (resolves_joins new b g resolves_no_joins) f = tt
+  join_group false (resolves_joins new b g (resolves_joins later c h rest)) f = false_true f
+
   mutual
     expr_written : {s : Locals} {e : Expr} {u : NExpr} → ResolvesExpr top s e u → is_expr_formed e ≡ true → IsWritten u
     expr_written (resolves_local p q) f = tt
@@ -105,7 +131,7 @@ module _ (top : Top) where
     expr_written (resolves_let {r = r} {bs = bs} {e = e} h g) f =
         let p = and_parts (is_bind_group r bs) (are_binds_formed bs && is_expr_formed e) f in
         let q = and_parts (are_binds_formed bs) (is_expr_formed e) p.1 in
-        (binds_written h q.0, expr_written g q.1)
+        (bind_group r h p.0, binds_written h q.0, expr_written g q.1)
     expr_written (resolves_case {e = e} {x = x} {t = t} {u = u} {alts = alts} g a b h) f =
         let p = and_parts (is_expr_formed e) ((is_lower_word x && (is_type_formed t && is_type_formed u)) && are_alts_formed alts) f in
         let q = and_parts (is_lower_word x && (is_type_formed t && is_type_formed u)) (are_alts_formed alts) p.1 in
@@ -118,7 +144,7 @@ module _ (top : Top) where
         let p = and_parts (is_join_group r js) (is_type_formed t && (are_joins_formed js && is_expr_formed e)) f in
         let q = and_parts (is_type_formed t) (are_joins_formed js && is_expr_formed e) p.1 in
         let v = and_parts (are_joins_formed js) (is_expr_formed e) q.1 in
-        (joins_written h v.0, expr_written g v.1)
+        (join_group r h p.0, joins_written h v.0, expr_written g v.1)
     expr_written (resolves_jump {j = j} {args = args} h g) f = args_written g (and_parts (is_lower_word j) (are_args_formed args) f).1
 
     arg_written : {s : Locals} {a : Arg} {u : NArg} → ResolvesArg top s a u → is_arg_formed a ≡ true → IsArgWritten u

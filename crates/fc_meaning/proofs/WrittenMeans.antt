@@ -15,7 +15,7 @@ use Rattle.fc_meaning.specs.Laws.{ShowsTheSame, WrittenMeansTheSame}
 -- a term whose names are of these names alone is of more
 module _ (N M : Name → Type 0) (more : (x : Name) → N x → M x) where
   mutual
-    mentions_more : (t : Term) → Mentions N t → Mentions M t
+    pub mentions_more : (t : Term) → Mentions N t → Mentions M t
     mentions_more (Lit z) h = h
     mentions_more (Var n) h = h
     mentions_more (Global x) h = more x h

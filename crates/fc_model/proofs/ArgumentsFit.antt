@@ -24,7 +24,7 @@ use Rattle.fc_model.proofs.Substitutions.{equal_types, shifted_is_kept, substitu
 -- TYPES BEFORE OTHERS
 
 -- past the innermost variable, what stands for it does not count
-type_past : (u : NTy) (s : ℕ → NTy) (t : NTy) → substituted_type (type_before u s) (shifted_type t) ≡ substituted_type s t
+pub type_past : (u : NTy) (s : ℕ → NTy) (t : NTy) → substituted_type (type_before u s) (shifted_type t) ≡ substituted_type s t
 type_past u s t = types_for_renamed suc (type_before u s) t
 
 innermost_before : (u : NTy) (s : ℕ → NTy) (i : ℕ) → instantiated u (types_below s i) ≡ type_before u s i
@@ -37,16 +37,16 @@ instantiated_before u s t = substitutions_compose (types_below s) (type_for_inne
 
 -- WHAT TAKES ARGUMENTS
 
-nothing_taken : {t u : NTy} → Takes t [] u → u ≡ t
+pub nothing_taken : {t u : NTy} → Takes t [] u → u ≡ t
 nothing_taken takes_nothing = refl
 
-term_taken : {a b t u : NTy} {atom : Bool} {gs : List Given} → Takes (NTFun a b) (GivenTerm t atom ∷ gs) u → (t ≡ a) × (atom_fits a atom ≡ true) × Takes b gs u
+pub term_taken : {a b t u : NTy} {atom : Bool} {gs : List Given} → Takes (NTFun a b) (GivenTerm t atom ∷ gs) u → (t ≡ a) × (atom_fits a atom ≡ true) × Takes b gs u
 term_taken (takes_term fits rest) = (refl, fits, rest)
 
-type_taken : {b t u : NTy} {j k : Kind} {gs : List Given} → Takes (NTForall j b) (GivenType t k ∷ gs) u → (k ≡ j) × Takes (instantiated t b) gs u
+pub type_taken : {b t u : NTy} {j k : Kind} {gs : List Given} → Takes (NTForall j b) (GivenType t k ∷ gs) u → (k ≡ j) × Takes (instantiated t b) gs u
 type_taken (takes_type rest) = (refl, rest)
 
-coercion_taken : {a b c t u v : NTy} {o q : Role} {gs : List Given} → Takes (NTCoForall o a b c) (GivenCoercion q t u ∷ gs) v → (ends q t u ≡ ends o a b) × Takes c gs v
+pub coercion_taken : {a b c t u v : NTy} {o q : Role} {gs : List Given} → Takes (NTCoForall o a b c) (GivenCoercion q t u ∷ gs) v → (ends q t u ≡ ends o a b) × Takes c gs v
 coercion_taken (takes_coercion rest) = (refl, rest)
 
 atom_at_int : (i a : Bool) → not i || a ≡ true → i ≡ true → a ≡ true
@@ -54,18 +54,18 @@ atom_at_int true a h e = h
 atom_at_int false a h e = absurd cc
 
 module _ (ms : Modules) (owes : Bool) where
-  binder_rest : {ks : List Kind} {b : NBinder} {bs : List NBinder} → BindersAreKinded ms owes ks (b ∷ bs) → BindersAreKinded ms owes (kinds_behind b ks) bs
+  pub binder_rest : {ks : List Kind} {b : NBinder} {bs : List NBinder} → BindersAreKinded ms owes ks (b ∷ bs) → BindersAreKinded ms owes (kinds_behind b ks) bs
   binder_rest (one_binder p rest) = rest
 
-  binder_first : {ks : List Kind} {b : NBinder} {bs : List NBinder} → BindersAreKinded ms owes ks (b ∷ bs) → BinderIsKinded ms owes ks b
+  pub binder_first : {ks : List Kind} {b : NBinder} {bs : List NBinder} → BindersAreKinded ms owes ks (b ∷ bs) → BinderIsKinded ms owes ks b
   binder_first (one_binder p rest) = p
 
-  lifted_binder : {ks : List Kind} {k : Kind} → BinderIsKinded ms owes ks (NBType k) → is_lifted k ≡ true
+  pub lifted_binder : {ks : List Kind} {k : Kind} → BinderIsKinded ms owes ks (NBType k) → is_lifted k ≡ true
   lifted_binder (type_binder l) = l
 
   -- ONE ARGUMENT
 
-  term_fits : (c d : Context) (r : Substitution) → Fits ms c d r → (t : NTy) (e : NExpr) → HasType ms (without_joins d) e (substituted_type r.types t)
+  pub term_fits : (c d : Context) (r : Substitution) → Fits ms c d r → (t : NTy) (e : NExpr) → HasType ms (without_joins d) e (substituted_type r.types t)
       → atom_fits (substituted_type r.types t) (is_atom e) ≡ true → Fits ms (with_value t c) d (with_argument (NATerm e) r)
   term_fits c d r f t e h fits = record {
     kinds = f.kinds;
@@ -81,7 +81,7 @@ module _ (ms : Modules) (owes : Bool) where
           subst (λ x. IsExpressionOf ms (without_joins d) e (substituted_type r.types x)) (ok_ok a) (h, atom_at_int (is_int (substituted_type r.types t)) (is_atom e) fits)
       values (suc i) u a = f.values i u a
 
-  type_fits : (c d : Context) (r : Substitution) → Fits ms c d r → (k : Kind) (u : NTy) → HasKind ms d.kinds u k → is_lifted k ≡ true
+  pub type_fits : (c d : Context) (r : Substitution) → Fits ms c d r → (k : Kind) (u : NTy) → HasKind ms d.kinds u k → is_lifted k ≡ true
       → Fits ms (with_type k c) d (with_argument (NAType u) r)
   type_fits c d r f k u h l = record { kinds = kinds; lifted = lifted; saturated = saturated; coercions = coercions; values = values; joins = joins }
     where
@@ -116,7 +116,7 @@ module _ (ms : Modules) (owes : Bool) where
           let past : substituted_join (type_before u r.types) (shifted_join q) ≡ substituted_join r.types q = rw (type_past u r.types q.type, type_past u r.types q.result) refl in
           f.joins i q p.1 ∙ ap (λ x. Ok x) (sym past ∙ ap (substituted_join (type_before u r.types)) p.2)
 
-  coercion_fits : (c d : Context) (r : Substitution) → Fits ms c d r → (p : Ends) (g : NCo) → IsCoercionProving ms d g (substituted_ends r.types p)
+  pub coercion_fits : (c d : Context) (r : Substitution) → Fits ms c d r → (p : Ends) (g : NCo) → IsCoercionProving ms d g (substituted_ends r.types p)
       → Fits ms (with_coercion p c) d (with_argument (NACo g) r)
   coercion_fits c d r f p g h = record {
     kinds = f.kinds;
@@ -176,7 +176,7 @@ module _ (ms : Modules) (owes : Bool) where
 pub arguments_fit : ArgumentsFit
 arguments_fit ms owes bs c d r f b args gs given long s u takes = all_fit ms owes bs c d r f b args gs given long s u takes
 
-unchanged_fits : (ms : Modules) (c : Context) → Fits ms c c unchanged
+pub unchanged_fits : (ms : Modules) (c : Context) → Fits ms c c unchanged
 unchanged_fits ms c = record {
   kinds = λ i k h. kind_variable h;
   lifted = λ i. refl;

@@ -85,7 +85,7 @@ pub binder_length_kept : (s : ℕ → NTy) (bs : List NBinder) → length (repla
 binder_length_kept s [] = refl
 binder_length_kept s (b ∷ bs) = ap suc (binder_length_kept (types_behind b s) bs)
 
-over_binders_kept : (bs : List NBinder) (s : ℕ → NTy) (t : NTy)
+pub over_binders_kept : (bs : List NBinder) (s : ℕ → NTy) (t : NTy)
     → substituted_type s (over_binders bs t) ≡ over_binders (replaced_binders s bs) (substituted_type (types_behind_all bs s) t)
 over_binders_kept [] s t = refl
 over_binders_kept (NBValue u ∷ bs) s t = ap (NTFun (substituted_type s u)) (over_binders_kept bs s t)
@@ -165,7 +165,7 @@ map_more : {X Y : Type 0} (f : X → Y) (xs : List X) (x : X) → map f (xs ++ x
 map_more f [] x = refl
 map_more f (y ∷ xs) x = ap (λ ys. f y ∷ ys) (map_more f xs x)
 
-map_length : {X Y : Type 0} (f : X → Y) (xs : List X) → length (map f xs) ≡ length xs
+pub map_length : {X Y : Type 0} (f : X → Y) (xs : List X) → length (map f xs) ≡ length xs
 map_length f [] = refl
 map_length f (x ∷ xs) = ap suc (map_length f xs)
 
@@ -178,7 +178,7 @@ arguments_kept s n (NTFun t u) h = false_true h
 arguments_kept s n (NTForall k t) h = false_true h
 arguments_kept s n (NTCoForall r t u v) h = false_true h
 
-at_type_kept : (s : ℕ → NTy) (t u v : NTy) → at_type t u ≡ Some v → at_type (substituted_type s t) (substituted_type s u) ≡ Some (substituted_type s v)
+pub at_type_kept : (s : ℕ → NTy) (t u v : NTy) → at_type t u ≡ Some v → at_type (substituted_type s t) (substituted_type s u) ≡ Some (substituted_type s v)
 at_type_kept s (NTForall k t) u v h =
     let e : instantiated u t ≡ v = cc in
     ap (λ x. Some x) (sym (instantiated_within s u t) ∙ ap (substituted_type s) e)
@@ -189,7 +189,7 @@ at_type_kept s (NTApp t w) u v h = absurd cc
 at_type_kept s (NTFun t w) u v h = absurd cc
 at_type_kept s (NTCoForall r t w x) u v h = absurd cc
 
-from_some_inv : {X Y : Type 0} (f : X → Option Y) (o : Option X) (y : Y) → from_some f o ≡ Some y → (x : X) × (o ≡ Some x) × (f x ≡ Some y)
+pub from_some_inv : {X Y : Type 0} (f : X → Option Y) (o : Option X) (y : Y) → from_some f o ≡ Some y → (x : X) × (o ≡ Some x) × (f x ≡ Some y)
 from_some_inv f (Some x) y h = (x, refl, h)
 from_some_inv f None y h = absurd cc
 
@@ -200,7 +200,7 @@ at_types_kept s t (u ∷ us) v h =
     let p = from_some_inv (λ w. at_types w us) (at_type t u) v h in
     rw (at_type_kept s t u p.0 p.1) (at_types_kept s p.0 us v p.2)
 
-same_as_inv : (o : Option NTy) (t : NTy) → same_as o t ≡ true → o ≡ Some t
+pub same_as_inv : (o : Option NTy) (t : NTy) → same_as o t ≡ true → o ≡ Some t
 same_as_inv (Some u) t h = ap (λ x. Some x) (same_type_eq u t h)
 same_as_inv None t h = false_true h
 

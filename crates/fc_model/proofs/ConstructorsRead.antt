@@ -20,21 +20,21 @@ with_innermost u s zero = u
 with_innermost u s (suc i) = s i
 
 -- the types among arguments, each for the variable of its binder
-abbrev put : List Given → (ℕ → NTy) → ℕ → NTy
+abbrev pub put : List Given → (ℕ → NTy) → ℕ → NTy
 put [] s = s
 put (GivenTerm t atom ∷ gs) s = put gs s
 put (GivenType u k ∷ gs) s = put gs (with_innermost u s)
 put (GivenCoercion o a b ∷ gs) s = put gs s
 
 -- how many types are among arguments
-abbrev types_among : List Given → ℕ
+abbrev pub types_among : List Given → ℕ
 types_among [] = 0
 types_among (GivenTerm t atom ∷ gs) = types_among gs
 types_among (GivenType u k ∷ gs) = suc (types_among gs)
 types_among (GivenCoercion o a b ∷ gs) = types_among gs
 
 -- a variable that stands outside of all binders keeps its type
-put_past : (gs : List Given) (s : ℕ → NTy) (i j : ℕ) → j ≡ i + types_among gs → put gs s j ≡ s i
+pub put_past : (gs : List Given) (s : ℕ → NTy) (i j : ℕ) → j ≡ i + types_among gs → put gs s j ≡ s i
 put_past [] s i j e = ap s (omega (arith, e))
 put_past (GivenTerm t atom ∷ gs) s i j e = put_past gs s i j e
 put_past (GivenType u k ∷ gs) s i j e = put_past gs (with_innermost u s) (suc i) j (omega (arith, e))
@@ -51,7 +51,7 @@ instantiated_is_put u s t = substitutions_compose (types_below s) (type_for_inne
 -- WHAT IS TAKEN
 
 -- what takes an argument for each of its binders is what stands behind them, with the types in place of their variables
-taken_is : (bs : List NBinder) (gs : List Given) (s : ℕ → NTy) (r w : NTy) → Takes (substituted_type s (over_binders bs r)) gs w → length gs ≡ length bs
+pub taken_is : (bs : List NBinder) (gs : List Given) (s : ℕ → NTy) (r w : NTy) → Takes (substituted_type s (over_binders bs r)) gs w → length gs ≡ length bs
     → (substituted_type (put gs s) r ≡ w) × (types_among gs ≡ type_count bs)
 taken_is [] [] s r w h l = (takes_none h, refl)
 taken_is [] (g ∷ gs) s r w h l = absurd (omega (arith, l))
@@ -65,7 +65,7 @@ taken_is (NBCo o t u ∷ bs) (g ∷ gs) s r w (takes_coercion rest) l = taken_is
 -- COUNTS OF TYPES
 
 -- parameters are all types
-params_count : (ps : List NParam) (bs : List NBinder) → type_count (map NBType (param_kinds ps) ++ bs) ≡ length ps + type_count bs
+pub params_count : (ps : List NParam) (bs : List NBinder) → type_count (map NBType (param_kinds ps) ++ bs) ≡ length ps + type_count bs
 params_count [] bs = omega arith
 params_count (NParamOf k o ∷ ps) bs = omega (arith, params_count ps bs)
 
@@ -74,7 +74,7 @@ fields_count : (ts : List NTy) → type_count (map NBValue ts) ≡ 0
 fields_count [] = refl
 fields_count (t ∷ ts) = fields_count ts
 
-behind_fields : (bs : List NBinder) (ts : List NTy) → type_count (bs ++ map NBValue ts) ≡ type_count bs
+pub behind_fields : (bs : List NBinder) (ts : List NTy) → type_count (bs ++ map NBValue ts) ≡ type_count bs
 behind_fields [] ts = fields_count ts
 behind_fields (NBValue t ∷ bs) ts = behind_fields bs ts
 behind_fields (NBType k ∷ bs) ts = ap (λ n. suc n) (behind_fields bs ts)

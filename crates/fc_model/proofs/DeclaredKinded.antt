@@ -316,5 +316,6 @@ linted_are_kinded ns distinct hold =
     record {
       values = λ v t p. definition_kinded ms (ms v.module) v.text t (held v.module).definitions p;
       constructors = λ v k p. constructor_kinded ms v k (con_found ms no_word (ms v.module) v.text k (held v.module).types (held v.module).distinct p);
+      data_types = λ v k p. declared_kind ms v k (con_found ms no_word (ms v.module) v.text k (held v.module).types (held v.module).distinct p);
       axioms = λ v a p. axiom_kinded ms v.module no_word (ms v.module) v.text a (held v.module).types (held v.module).distinct (λ w d q. q) p;
     }

@@ -81,7 +81,7 @@ module _ {V W : Type 0} {ms : Modules} {how : Standing V} {proofs : StandingCoer
           (stand.innermost d (substituted_type r.types t))
       here (suc i) u h = stand.past_value d (substituted_type r.types t) (r.values i) (substituted_type r.types u) (f.values i u h)
 
-  fits_type : (c d : Context) (r : Replacement V W) → FitsBy ms Proof IsOf c d r → (k : Kind)
+  pub fits_type : (c d : Context) (r : Replacement V W) → FitsBy ms Proof IsOf c d r → (k : Kind)
       → FitsBy ms Proof IsOf (with_type k c) (with_type k d) (below_binder how proofs (NBType k) r)
   fits_type c d r f k = record {
     kinds = below.kinds;
@@ -121,7 +121,7 @@ module _ {V W : Type 0} {ms : Modules} {how : Standing V} {proofs : StandingCoer
           mapped shifted_join d.joins (r.joins i) (substituted_join r.types q) (f.joins i q p.1)
           ∙ ap (λ x. Ok x) (e ∙ ap (substituted_join (types_below r.types)) p.2)
 
-  fits_coercion : (c d : Context) (r : Replacement V W) → FitsBy ms Proof IsOf c d r → (p : Ends)
+  pub fits_coercion : (c d : Context) (r : Replacement V W) → FitsBy ms Proof IsOf c d r → (p : Ends)
       → FitsBy ms Proof IsOf (with_coercion p c) (with_coercion (substituted_ends r.types p) d) (below_binder how proofs (NBCo p.role p.left p.right) r)
   fits_coercion c d r f p = record {
     kinds = f.kinds;
@@ -158,7 +158,7 @@ module _ {V W : Type 0} {ms : Modules} {how : Standing V} {proofs : StandingCoer
   fits_binds (MoreNBinds (NBound t e) rest) gs vs js c d r f =
       fits_binds rest gs vs js (with_value t c) (with_value (substituted_type r.types t) d) (below_values how proofs 1 r) (fits_value c d r f t)
 
-  fits_join : (c d : Context) (r : Replacement V W) → FitsBy ms Proof IsOf c d r → (j : JoinPoint)
+  pub fits_join : (c d : Context) (r : Replacement V W) → FitsBy ms Proof IsOf c d r → (j : JoinPoint)
       → FitsBy ms Proof IsOf (with_join j c) (with_join (substituted_join r.types j) d) (below_joins how proofs 1 r)
   fits_join c d r f j = record {
     kinds = f.kinds;
@@ -174,7 +174,7 @@ module _ {V W : Type 0} {ms : Modules} {how : Standing V} {proofs : StandingCoer
       here zero k h = ap (λ x. Ok (substituted_join r.types x)) (ok_ok h)
       here (suc i) k h = f.joins i k h
 
-  join_point_kept : (s : ℕ → NTy) (t : NTy) (ps : List NBinder) → substituted_join s (join_point t ps) ≡ join_point (substituted_type s t) (replaced_binders s ps)
+  pub join_point_kept : (s : ℕ → NTy) (t : NTy) (ps : List NBinder) → substituted_join s (join_point t ps) ≡ join_point (substituted_type s t) (replaced_binders s ps)
   join_point_kept s t ps = rw (binder_length_kept s ps, binders_to_kept s ps t) refl
 
   pub fits_joins : (t : NTy) (bs : NJoins) (gs : ℕ → W) (vs : ℕ → V) (js : ℕ → ℕ) (c d : Context) (r : Replacement V W) → FitsBy ms Proof IsOf c d r

@@ -57,7 +57,7 @@ body_kept ms ks ls s h b u (below_type {k = k} p) =
 module _ {V W : Type 0} {ms : Modules} {how : Standing V} {proofs : StandingCoercion W} {Proof : Context → W → Ends → Type 0} {IsOf : Context → V → NTy → Type 0}
     (closed : AreDeclaredClosed ms) (stand : Stand ms how proofs Proof IsOf) where
   -- a coercion proves what it did
-  proves_kept : (c d : Context) (r : Replacement V W) → FitsBy ms Proof IsOf c d r → (g : NCo) (o : Role) (t u : NTy) → Proves ms c.kinds c.coercions g o t u
+  pub proves_kept : (c d : Context) (r : Replacement V W) → FitsBy ms Proof IsOf c d r → (g : NCo) (o : Role) (t u : NTy) → Proves ms c.kinds c.coercions g o t u
       → Proves ms d.kinds d.coercions (put_in_coercion proofs r.types r.coercions g) o (substituted_type r.types t) (substituted_type r.types u)
   proves_kept c d r f g o t u h = stand.proves c d r.types r.coercions (types_fit stand c d r f) f.coercions g o t u h
 

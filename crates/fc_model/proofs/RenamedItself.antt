@@ -16,16 +16,16 @@ use Rattle.fc_model.proofs.Substitutions.{variables_for_themselves}
 
 -- BELOW BINDERS
 
-abbrev each_type : ℕ → NTy
+abbrev pub each_type : ℕ → NTy
 each_type i = NTVar i
 
-abbrev each : ℕ → ℕ
+abbrev pub each : ℕ → ℕ
 each i = i
 
-abbrev renaming : (ℕ → NTy) → (ℕ → ℕ) → (ℕ → ℕ) → (ℕ → ℕ) → Renaming
+abbrev pub renaming : (ℕ → NTy) → (ℕ → ℕ) → (ℕ → ℕ) → (ℕ → ℕ) → Renaming
 renaming s g v j = record { types = s; coercions = g; values = v; joins = j }
 
-times_same : {X : Type 0} (m : ℕ) (f : X → X) (x : X) → f x ≡ x → times m f x ≡ x
+pub times_same : {X : Type 0} (m : ℕ) (f : X → X) (x : X) → f x ≡ x → times m f x ≡ x
 times_same zero f x h = refl
 times_same (suc m) f x h = ap (times m f) h ∙ times_same m f x h
 
@@ -45,26 +45,26 @@ each_below : (i : ℕ) → renaming_below each i ≡ each i
 each_below zero = refl
 each_below (suc i) = refl
 
-types_themselves : (b : NBinder) → types_behind b each_type ≡ each_type
+pub types_themselves : (b : NBinder) → types_behind b each_type ≡ each_type
 types_themselves (NBValue t) = refl
 types_themselves (NBType k) = fun_ext each_type_below
 types_themselves (NBCo r t u) = refl
 
-coercions_themselves : (b : NBinder) → coercions_behind coercion_variables b each ≡ each
+pub coercions_themselves : (b : NBinder) → coercions_behind coercion_variables b each ≡ each
 coercions_themselves (NBValue t) = refl
 coercions_themselves (NBType k) = refl
 coercions_themselves (NBCo r t u) = fun_ext each_coercion_below
 
-values_themselves : (b : NBinder) → values_behind variables coercion_variables b each ≡ each
+pub values_themselves : (b : NBinder) → values_behind variables coercion_variables b each ≡ each
 values_themselves (NBValue t) = fun_ext each_value_below
 values_themselves (NBType k) = refl
 values_themselves (NBCo r t u) = refl
 
-all_types_themselves : (bs : List NBinder) → types_behind_all bs each_type ≡ each_type
+pub all_types_themselves : (bs : List NBinder) → types_behind_all bs each_type ≡ each_type
 all_types_themselves [] = refl
 all_types_themselves (b ∷ bs) = ap (types_behind_all bs) (types_themselves b) ∙ all_types_themselves bs
 
-all_coercions_themselves : (bs : List NBinder) → coercions_behind_all coercion_variables bs each ≡ each
+pub all_coercions_themselves : (bs : List NBinder) → coercions_behind_all coercion_variables bs each ≡ each
 all_coercions_themselves [] = refl
 all_coercions_themselves (b ∷ bs) = ap (coercions_behind_all coercion_variables bs) (coercions_themselves b) ∙ all_coercions_themselves bs
 
@@ -100,7 +100,7 @@ among_joins false m = refl
 -- COERCIONS AND BINDERS
 
 mutual
-  co_itself : (g : NCo) → renamed_coercion each_type each g ≡ g
+  pub co_itself : (g : NCo) → renamed_coercion each_type each g ≡ g
   co_itself (NGVar i) = refl
   co_itself (NGRefl r t) = ap (NGRefl r) (variables_for_themselves t)
   co_itself (NGSym g) = ap NGSym (co_itself g)
@@ -120,16 +120,16 @@ mutual
   co_itself (NGAx n gs) = ap (NGAx n) (cos_themselves gs)
   co_itself (NGUniv t u) = ap₂ NGUniv (variables_for_themselves t) (variables_for_themselves u)
 
-  cos_themselves : (gs : NCos) → put_in_coercions coercion_variables each_type each gs ≡ gs
+  pub cos_themselves : (gs : NCos) → put_in_coercions coercion_variables each_type each gs ≡ gs
   cos_themselves NoNCos = refl
   cos_themselves (MoreNCos g rest) = ap₂ MoreNCos (co_itself g) (cos_themselves rest)
 
-binder_itself : (b : NBinder) → replaced_binder each_type b ≡ b
+pub binder_itself : (b : NBinder) → replaced_binder each_type b ≡ b
 binder_itself (NBValue t) = ap NBValue (variables_for_themselves t)
 binder_itself (NBType k) = refl
 binder_itself (NBCo r t u) = ap₂ (NBCo r) (variables_for_themselves t) (variables_for_themselves u)
 
-binders_themselves : (bs : List NBinder) → replaced_binders each_type bs ≡ bs
+pub binders_themselves : (bs : List NBinder) → replaced_binders each_type bs ≡ bs
 binders_themselves [] = refl
 binders_themselves (b ∷ bs) = ap₂ (λ x xs. x ∷ xs) (binder_itself b) (ap (λ s. replaced_binders s bs) (types_themselves b) ∙ binders_themselves bs)
 

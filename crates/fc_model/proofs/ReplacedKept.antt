@@ -47,7 +47,7 @@ kinded_are_closed ms kinded = record {
 
 -- VARIABLES IN PLACE OF VARIABLES
 
-variables_stand : (ms : Modules) → AreDeclaredClosed ms → Stand ms variables coercion_variables IsVariableProving IsVariableOf
+pub variables_stand : (ms : Modules) → AreDeclaredClosed ms → Stand ms variables coercion_variables IsVariableProving IsVariableOf
 variables_stand ms closed = record {
   typed = λ d i t h. typed_local h;
   atom = λ d i t h int. refl;
@@ -66,10 +66,10 @@ variables_stand ms closed = record {
 pub renaming_keeps_types : RenamingKeepsTypes
 renaming_keeps_types ms closed c d r f e t h = type_kept closed (variables_stand ms closed) c d r f e t h
 
-join_itself : (j : JoinPoint) → substituted_join NTVar j ≡ j
+pub join_itself : (j : JoinPoint) → substituted_join NTVar j ≡ j
 join_itself j = rw (variables_for_themselves j.type, variables_for_themselves j.result) refl
 
-ends_themselves : (e : Ends) → substituted_ends NTVar e ≡ e
+pub ends_themselves : (e : Ends) → substituted_ends NTVar e ≡ e
 ends_themselves e = rw (variables_for_themselves e.left, variables_for_themselves e.right) refl
 
 -- from a context to another with the same type variables
@@ -77,13 +77,13 @@ module _ (ms : Modules) (closed : AreDeclaredClosed ms) (c : Context) (cs : List
     (coercions : (i : ℕ) (e : Ends) → at_distance c.coercions i ≡ Ok e → at_distance cs (g i) ≡ Ok e)
     (values : (i : ℕ) (t : NTy) → at_distance c.values i ≡ Ok t → at_distance vs (v i) ≡ Ok t)
     (joins : (i : ℕ) (p : JoinPoint) → at_distance c.joins i ≡ Ok p → at_distance js (j i) ≡ Ok p) where
-  abbrev other : Context
+  abbrev pub other : Context
   other = record { kinds = c.kinds; coercions = cs; values = vs; joins = js }
 
-  abbrev moved : Renaming
+  abbrev pub moved : Renaming
   moved = record { types = λ i. NTVar i; coercions = g; values = v; joins = j }
 
-  moved_fits : RenamingFits ms c other moved
+  pub moved_fits : RenamingFits ms c other moved
   moved_fits = record {
     kinds = λ i k h. kind_variable h;
     lifted = λ i. refl;
@@ -96,7 +96,7 @@ module _ (ms : Modules) (closed : AreDeclaredClosed ms) (c : Context) (cs : List
   pub moved_types : (e : NExpr) (t : NTy) → HasType ms c e t → HasType ms other (renamed moved e) t
   moved_types e t h = subst (λ x. HasType ms other (renamed moved e) x) (variables_for_themselves t) (renaming_keeps_types ms closed c other moved moved_fits e t h)
 
-  moved_ends : (p : NCo) (e : Ends) → IsCoercionProving ms c p e → IsCoercionProving ms other (renamed_coercion (λ i. NTVar i) g p) e
+  pub moved_ends : (p : NCo) (e : Ends) → IsCoercionProving ms c p e → IsCoercionProving ms other (renamed_coercion (λ i. NTVar i) g p) e
   moved_ends p e h =
       let fit = types_fit (variables_stand ms closed) c other moved moved_fits in
       subst (IsCoercionProving ms other (renamed_coercion (λ i. NTVar i) g p)) (ends_themselves e)
@@ -136,7 +136,7 @@ join_past_a_type j = rw (shifted_is_substituted j.type, shifted_is_substituted j
 ends_shifted : (e : Ends) → shifted_ends e ≡ substituted_ends past_a_type.types e
 ends_shifted e = rw (shifted_is_substituted e.left, shifted_is_substituted e.right) refl
 
-past_a_type_fits : (ms : Modules) (c : Context) (k : Kind) → RenamingFits ms c (with_type k c) past_a_type
+pub past_a_type_fits : (ms : Modules) (c : Context) (k : Kind) → RenamingFits ms c (with_type k c) past_a_type
 past_a_type_fits ms c k = record {
   kinds = λ i l h. kind_variable h;
   lifted = λ i. refl;
@@ -208,13 +208,13 @@ types_at_a_type ms closed c k u l h e t typed = renaming_keeps_types ms closed (
 -- EXPRESSIONS AND COERCIONS IN PLACE OF VARIABLES
 
 -- a renamed atom is an atom
-renamed_atom : (r : Renaming) (e : NExpr) → is_atom e ≡ true → is_atom (renamed r e) ≡ true
+pub renamed_atom : (r : Renaming) (e : NExpr) → is_atom e ≡ true → is_atom (renamed r e) ≡ true
 renamed_atom r (NLocal i) a = refl
 renamed_atom r (NVar n) a = refl
 renamed_atom r (NLit n) a = refl
 renamed_atom r e a = false_true a
 
-expressions_stand : (ms : Modules) → AreDeclaredClosed ms → Stand ms expressions whole_coercions (IsCoercionProving ms) (IsExpressionOf ms)
+pub expressions_stand : (ms : Modules) → AreDeclaredClosed ms → Stand ms expressions whole_coercions (IsCoercionProving ms) (IsExpressionOf ms)
 expressions_stand ms closed = record {
   typed = λ d e t h. types_among_joins ms closed d e t h.0;
   atom = λ d e t h int. h.1 int;
@@ -247,7 +247,7 @@ coercion_itself ms c i e h = proves_variable (h ∙ ap (λ x. Ok x) (sym (ends_t
 pub join_in_place : (c : Context) (i : ℕ) (j : JoinPoint) → at_distance c.joins i ≡ Ok j → at_distance c.joins i ≡ Ok (substituted_join NTVar j)
 join_in_place c i j h = h ∙ ap (λ x. Ok x) (sym (join_itself j))
 
-at_a_value_fits : (ms : Modules) (c : Context) (s : NTy) (a : NExpr) → HasType ms (without_joins c) a s → (is_int s ≡ true → is_atom a ≡ true)
+pub at_a_value_fits : (ms : Modules) (c : Context) (s : NTy) (a : NExpr) → HasType ms (without_joins c) a s → (is_int s ≡ true → is_atom a ≡ true)
     → Fits ms (with_value s c) c (value_alone a)
 at_a_value_fits ms c s a h atom = record {
   kinds = λ i k p. kind_variable p;

@@ -150,7 +150,7 @@ module_written order {ns = ns} {ks = ks} hide (ModuleOf m imports exports hidden
 
 -- SETS
 
-judged_first : (r : Result Done F) (m : Word) (rest : Result Done InModule) → in_module m r rest ≡ Ok done → (r ≡ Ok done) × (rest ≡ Ok done)
+pub judged_first : (r : Result Done F) (m : Word) (rest : Result Done InModule) → in_module m r rest ≡ Ok done → (r ≡ Ok done) × (rest ≡ Ok done)
 judged_first (Ok done) m rest h = (refl, h)
 judged_first (Err f) m rest h = absurd cc
 

@@ -40,26 +40,26 @@ module _ (ms : Modules) where
     type_kinded : {t : NTy} {k : Kind} {gs : List Given} → HasKind ms ks t k → AreGivenKinded ks gs → AreGivenKinded ks (GivenType t k ∷ gs)
     coercion_kinded : {r : Role} {t u : NTy} {gs : List Given} → AreGivenKinded ks gs → AreGivenKinded ks (GivenCoercion r t u ∷ gs)
 
-  given_kinded : {c : Context} {a : NArg} {g : Given} {gs : List Given} → ArgIsGiven ms c a g → AreGivenKinded c.kinds gs → AreGivenKinded c.kinds (g ∷ gs)
+  pub given_kinded : {c : Context} {a : NArg} {g : Given} {gs : List Given} → ArgIsGiven ms c a g → AreGivenKinded c.kinds gs → AreGivenKinded c.kinds (g ∷ gs)
   given_kinded (given_term p) rest = term_kinded rest
   given_kinded (given_type p) rest = type_kinded p rest
   given_kinded (given_coercion p) rest = coercion_kinded rest
 
-  all_given_kinded : {c : Context} {args : NArgs} {gs : List Given} → ArgsAreGiven ms c args gs → AreGivenKinded c.kinds gs
+  pub all_given_kinded : {c : Context} {args : NArgs} {gs : List Given} → ArgsAreGiven ms c args gs → AreGivenKinded c.kinds gs
   all_given_kinded no_args = none_kinded
   all_given_kinded (one_arg p rest) = given_kinded p (all_given_kinded rest)
 
-  value_result : (ks : List Kind) (s r : NTy) → IsValueType ms ks (NTFun s r) → IsValueType ms ks r
+  pub value_result : (ks : List Kind) (s r : NTy) → IsValueType ms ks (NTFun s r) → IsValueType ms ks r
   value_result ks s r (k, kind_function i j p q v w, x) = (j, q, w)
 
-  value_instance : (ks : List Kind) (k : Kind) (u r : NTy) → HasKind ms ks u k → IsValueType ms ks (NTForall k r) → IsValueType ms ks (instantiated u r)
+  pub value_instance : (ks : List Kind) (k : Kind) (u r : NTy) → HasKind ms ks u k → IsValueType ms ks (NTForall k r) → IsValueType ms ks (instantiated u r)
   value_instance ks k u r h (j, kind_forall l p, x) = (KStar, instantiating_keeps_kinds ms ks k KStar u r h p, refl)
 
-  value_behind : (ks : List Kind) (o : Role) (s t r : NTy) → IsValueType ms ks (NTCoForall o s t r) → IsValueType ms ks r
+  pub value_behind : (ks : List Kind) (o : Role) (s t r : NTy) → IsValueType ms ks (NTCoForall o s t r) → IsValueType ms ks r
   value_behind ks o s t r (k, kind_coforall i j p q v w, x) = (j, v, w)
 
   -- what takes arguments is of the type of a value at last, if it was one at first
-  called_kinded : (ks : List Kind) {t u : NTy} {gs : List Given} → Takes t gs u → AreGivenKinded ks gs → IsValueType ms ks t → IsValueType ms ks u
+  pub called_kinded : (ks : List Kind) {t u : NTy} {gs : List Given} → Takes t gs u → AreGivenKinded ks gs → IsValueType ms ks t → IsValueType ms ks u
   called_kinded ks takes_nothing none_kinded v = v
   called_kinded ks (takes_term {s = s} {r = r} fits rest) (term_kinded hs) v = called_kinded ks rest hs (value_result ks s r v)
   called_kinded ks (takes_type {u = u} {r = r} {k = k} rest) (type_kinded h hs) v = called_kinded ks rest hs (value_instance ks k u r h v)
@@ -67,27 +67,27 @@ module _ (ms : Modules) where
 
   -- CONTEXTS
 
-  without_joins_kinded : (c : Context) → IsContextKinded ms c → IsContextKinded ms (without_joins c)
+  pub without_joins_kinded : (c : Context) → IsContextKinded ms c → IsContextKinded ms (without_joins c)
   without_joins_kinded c f = record { coercions = f.coercions; values = f.values; joins = λ i j h. err_ok h }
 
-  value_kinded : (c : Context) (t : NTy) → IsContextKinded ms c → IsValueType ms c.kinds t → IsContextKinded ms (with_value t c)
+  pub value_kinded : (c : Context) (t : NTy) → IsContextKinded ms c → IsValueType ms c.kinds t → IsContextKinded ms (with_value t c)
   value_kinded c t f v = record { coercions = f.coercions; values = here; joins = f.joins }
     where
       here : (i : ℕ) (u : NTy) → at_distance (t ∷ c.values) i ≡ Ok u → IsValueType ms c.kinds u
       here zero u h = subst (IsValueType ms c.kinds) (ok_ok h) v
       here (suc i) u h = f.values i u h
 
-  coercion_kinded_behind : (c : Context) (p : Ends) → IsContextKinded ms c → HaveOneKind ms c.kinds p.left p.right → IsContextKinded ms (with_coercion p c)
+  pub coercion_kinded_behind : (c : Context) (p : Ends) → IsContextKinded ms c → HaveOneKind ms c.kinds p.left p.right → IsContextKinded ms (with_coercion p c)
   coercion_kinded_behind c p f v = record { coercions = here; values = f.values; joins = f.joins }
     where
       here : AreEndsKinded ms c.kinds (p ∷ c.coercions)
       here zero e h = subst (λ x. HaveOneKind ms c.kinds x.left x.right) (ok_ok h) v
       here (suc i) e h = f.coercions i e h
 
-  shifted_value : (ks : List Kind) (k : Kind) (t : NTy) → IsValueType ms ks t → IsValueType ms (k ∷ ks) (shifted_type t)
+  pub shifted_value : (ks : List Kind) (k : Kind) (t : NTy) → IsValueType ms ks t → IsValueType ms (k ∷ ks) (shifted_type t)
   shifted_value ks k t v = (v.0, shifting_keeps_kinds ms ks k 0 t v.0 v.1, v.2)
 
-  type_kinded_behind : (c : Context) (k : Kind) → IsContextKinded ms c → IsContextKinded ms (with_type k c)
+  pub type_kinded_behind : (c : Context) (k : Kind) → IsContextKinded ms c → IsContextKinded ms (with_type k c)
   type_kinded_behind c k f = record { coercions = ends_behind; values = here; joins = there }
     where
       ends_behind : AreEndsKinded ms (k ∷ c.kinds) (map shifted_ends c.coercions)
@@ -107,44 +107,44 @@ module _ (ms : Modules) where
           let p = mapped_inv shifted_join c.joins i j h in
           subst (λ x. IsValueType ms (k ∷ c.kinds) x.result) p.2 (shifted_value c.kinds k p.0.result (f.joins i p.0 p.1))
 
-  join_kinded : (c : Context) (t : NTy) (ps : List NBinder) → IsContextKinded ms c → IsValueType ms c.kinds t → IsContextKinded ms (with_join (join_point t ps) c)
+  pub join_kinded : (c : Context) (t : NTy) (ps : List NBinder) → IsContextKinded ms c → IsValueType ms c.kinds t → IsContextKinded ms (with_join (join_point t ps) c)
   join_kinded c t ps f v = record { coercions = f.coercions; values = f.values; joins = here }
     where
       here : (i : ℕ) (j : JoinPoint) → at_distance (join_point t ps ∷ c.joins) i ≡ Ok j → IsValueType ms c.kinds j.result
       here zero j h = subst (λ x. IsValueType ms c.kinds x.result) (ok_ok h) v
       here (suc i) j h = f.joins i j h
 
-  joins_kinded : (js : NJoins) (c : Context) (t : NTy) → IsContextKinded ms c → IsValueType ms c.kinds t → IsContextKinded ms (with_joins t js c)
+  pub joins_kinded : (js : NJoins) (c : Context) (t : NTy) → IsContextKinded ms c → IsValueType ms c.kinds t → IsContextKinded ms (with_joins t js c)
   joins_kinded NoNJoins c t f v = f
   joins_kinded (MoreNJoins (NJoined ps e) rest) c t f v = joins_kinded rest (with_join (join_point t ps) c) t (join_kinded c t ps f v) v
 
   -- the kinds behind binds and join points are those before them
-  kinds_of_binds : (bs : NBinds) (c : Context) → (with_binds bs c).kinds ≡ c.kinds
+  pub kinds_of_binds : (bs : NBinds) (c : Context) → (with_binds bs c).kinds ≡ c.kinds
   kinds_of_binds NoNBinds c = refl
   kinds_of_binds (MoreNBinds (NBound t e) rest) c = kinds_of_binds rest (with_value t c)
 
-  kinds_of_joins : (js : NJoins) (c : Context) (t : NTy) → (with_joins t js c).kinds ≡ c.kinds
+  pub kinds_of_joins : (js : NJoins) (c : Context) (t : NTy) → (with_joins t js c).kinds ≡ c.kinds
   kinds_of_joins NoNJoins c t = refl
   kinds_of_joins (MoreNJoins (NJoined ps e) rest) c t = kinds_of_joins rest (with_join (join_point t ps) c) t
 
-  kinds_among_binds : (o : Bool) (bs : NBinds) (c : Context) → (without_joins (if o then with_binds bs c else c)).kinds ≡ c.kinds
+  pub kinds_among_binds : (o : Bool) (bs : NBinds) (c : Context) → (without_joins (if o then with_binds bs c else c)).kinds ≡ c.kinds
   kinds_among_binds true bs c = kinds_of_binds bs c
   kinds_among_binds false bs c = refl
 
-  binds_kinded : (c d : Context) (o : Bool) (bs : NBinds) → BindsHaveTypes ms d o bs → d.kinds ≡ c.kinds → IsContextKinded ms c → IsContextKinded ms (with_binds bs c)
+  pub binds_kinded : (c d : Context) (o : Bool) (bs : NBinds) → BindsHaveTypes ms d o bs → d.kinds ≡ c.kinds → IsContextKinded ms c → IsContextKinded ms (with_binds bs c)
   binds_kinded c d o bs no_binds e f = f
   binds_kinded c d o bs (one_bind {t = t} {rest = rest} k p v q fits more) e f =
       binds_kinded (with_value t c) d o rest more e (value_kinded c t f (k, subst (λ ks. HasKind ms ks t k) e p, v))
 
   -- EXPRESSIONS
 
-  binder_kinded : (c : Context) (b : NBinder) → BinderIsKinded ms true c.kinds b → IsContextKinded ms c → IsContextKinded ms (with_binder b c)
+  pub binder_kinded : (c : Context) (b : NBinder) → BinderIsKinded ms true c.kinds b → IsContextKinded ms c → IsContextKinded ms (with_binder b c)
   binder_kinded c b (value_binder {t = t} k p v) f = value_kinded c t f (k, p, v)
   binder_kinded c b (type_binder {k = k} l) f = type_kinded_behind c k f
   binder_kinded c b (coercion_binder {r = r} {t = t} {u = u} j k p q same) f =
       coercion_kinded_behind c (ends r t u) f (j, p, subst (HasKind ms c.kinds u) (sym (same_kind_eq j k same)) q)
 
-  lambda_kinded : (c : Context) (b : NBinder) (u : NTy) → BinderIsKinded ms true c.kinds b → BodyFits ms c.kinds b u → IsValueType ms (with_binder b c).kinds u
+  pub lambda_kinded : (c : Context) (b : NBinder) (u : NTy) → BinderIsKinded ms true c.kinds b → BodyFits ms c.kinds b u → IsValueType ms (with_binder b c).kinds u
       → IsValueType ms c.kinds (over_binder b u)
   lambda_kinded c b u (value_binder k p v) fits w = (KStar, kind_function k w.0 p w.1 v w.2, refl)
   lambda_kinded c b u (type_binder l) (below_type p) w = (KStar, kind_forall l p, refl)
@@ -152,7 +152,7 @@ module _ (ms : Modules) where
       (KStar, kind_coforall j w.0 p (subst (HasKind ms c.kinds v) (sym (same_kind_eq j k same)) q) w.1 w.2, refl)
 
   -- a type of the kind of another that is a type of values
-  value_alike : (ks : List Kind) (s t : NTy) → HaveOneKind ms ks s t → IsValueType ms ks s → IsValueType ms ks t
+  pub value_alike : (ks : List Kind) (s t : NTy) → HaveOneKind ms ks s t → IsValueType ms ks s → IsValueType ms ks t
   value_alike ks s t (k, p, q) v = (k, q, subst (λ x. is_value_kind x ≡ true) (kind_is_one ms ks 0 s v.0 k v.1 p) v.2)
 
   module _ (declared : AreDeclaredKinded ms) where

@@ -3,13 +3,13 @@
 use Rattle.std.specs.Prelude.{◌≡◌, ℕ, All, Bool, true, false, List, [], length, Some, Ok}
 use Rattle.fc_syntax.specs.declared.ty.Name.{Name}
 use Rattle.fc_syntax.specs.Tree.{Kind, KStar, Module}
-use Rattle.fc_model.specs.Calling.{Constructor, Given, Takes, binders_to, constructor, constructor_type, is_int, type_count}
+use Rattle.fc_model.specs.Calling.{Constructor, data_name, Given, Takes, binders_to, constructor, constructor_type, is_int, type_count}
 use Rattle.fc_model.specs.Coercing.{Ends}
 use Rattle.fc_model.specs.CoercingRules.{Proves}
 use Rattle.fc_model.specs.CoercionLaws.{AreAxiomsClosed, AreAxiomsKinded, AreEndsKinded, IsSaturated, substituted_ends}
 use Rattle.fc_model.specs.Declaring.{ntype_words, nwords_by}
 use Rattle.fc_model.specs.Faulting.{at_distance}
-use Rattle.fc_model.specs.Kinding.{Modules, HasKind, decls_at, is_lifted, is_value_kind}
+use Rattle.fc_model.specs.Kinding.{Modules, HasKind, arrows, decls_at, name_kind, param_kinds, is_lifted, is_value_kind}
 use Rattle.fc_model.specs.LintingRules.{ModuleHolds}
 use Rattle.fc_model.specs.Nameless.{NTy, NArgs, NBinder, NCo, NExpr, NModule, NModuleOf}
 use Rattle.fc_model.specs.Replacing.{Replacement, Renaming, Substitution, renamed, replaced, themselves, coercion_alone, past_a_coercion, past_a_type, past_a_value, past_a_join, type_alone, unchanged, value_alone}
@@ -28,10 +28,12 @@ pub record AreDeclaredClosed (ms : Modules) : Type 0 where
   pub constructors : (n : Name) (k : Constructor) → constructor ms n ≡ Some k → IsScopedType 0 (constructor_type n k)
   pub axioms : AreAxiomsClosed ms
 
--- what modules define and construct has types of kind `*`, and both sides of an axiom have one kind
+-- what modules define and construct has types of kind `*`, what a constructor constructs is of a data type with its parameters, and both
+-- sides of an axiom have one kind
 pub record AreDeclaredKinded (ms : Modules) : Type 0 where
   pub values : (n : Name) (t : NTy) → value_type ms n ≡ Ok t → HasKind ms [] t KStar
   pub constructors : (n : Name) (k : Constructor) → constructor ms n ≡ Some k → HasKind ms [] (constructor_type n k) KStar
+  pub data_types : (n : Name) (k : Constructor) → constructor ms n ≡ Some k → (args : ℕ) → name_kind ms (data_name n k.data_word) args ≡ Ok (arrows (param_kinds k.params) KStar)
   pub axioms : AreAxiomsKinded ms
 
 abbrev pub KindedAreClosed : Type 0

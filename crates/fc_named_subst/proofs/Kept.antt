@@ -5,7 +5,8 @@ use Rattle.fc_model.specs.Replacing.{Renaming, coercion_before, coercion_variabl
 use Rattle.fc_model.specs.Replacing.{replaced, unchanged, value_before, variables, whole_coercions, with_argument}
 use Rattle.fc_model.specs.Substituting.{type_before}
 use Rattle.fc_used_words.specs.Scoped.{Counts, HoldsArg, HoldsCo, HoldsExpr, HoldsTy, Saying, in_coercion, in_join, in_type, in_value}
-use Rattle.fc_named_subst.proofs.PutIn.{Goes, ProveWell, Replaces, StandWell, co_alike, co_kept, expr_kept}
+use Rattle.fc_resolved_names.proofs.Obeying.{Goes}
+use Rattle.fc_named_subst.proofs.PutIn.{ProveWell, Replaces, StandWell, co_alike, co_kept, expr_kept}
 
 -- the binders around an expression in which such a piece stands for the innermost variable
 abbrev pub in_argument : NArg → Counts → Counts

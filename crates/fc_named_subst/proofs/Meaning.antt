@@ -14,10 +14,9 @@ use Rattle.fc_scope.specs.WordsAt.{join_word, value_word}
 use Rattle.fc_used_words.specs.Scoped.{HoldsExpr, nothing_around}
 use Rattle.fc_used_words.specs.Standing.{is_found, outside}
 use Rattle.fc_naming.specs.Named.{IsNamedExpr}
+use Rattle.fc_resolved_names.proofs.Obeying.{Goes, AreSaid, Reaches, arg_obeys, expr_obeys, in_a_coercion, in_a_type, in_a_value, join_join, join_past_join, join_past_value, one_more, some_some, value_past_join, value_past_value, value_value}
 use Rattle.fc_named_subst.specs.Substituted.{IsApart, IsSubstituted, behind, substituted}
-use Rattle.fc_named_subst.proofs.Found.{AreSaid, Reaches, arg_obeys, expr_obeys, in_a_coercion, in_a_type, in_a_value, join_join, join_past_join, join_past_value, one_more, some_some, value_past_join, value_past_value, value_value}
 use Rattle.fc_named_subst.proofs.Kept.{in_argument, replaced_holds}
-use Rattle.fc_named_subst.proofs.PutIn.{Goes}
 
 -- WORDS AT DISTANCES
 

@@ -11,21 +11,7 @@ use Rattle.fc_model.specs.Replacing.{replaced_binder, replaced_binders, types_be
 use Rattle.fc_model.specs.Substituting.{renamed_type, renaming_below, shifted_type, substituted_type, types_below}
 use Rattle.fc_used_words.specs.Scoped.{Counts, Saying, in_binder, in_binders, in_coercion, in_group, in_join, in_joins, in_type, in_value}
 use Rattle.fc_used_words.specs.Scoped.{HoldsAlt, HoldsAlts, HoldsArg, HoldsArgs, HoldsBind, HoldsBinder, HoldsBinders, HoldsBinds, HoldsCo, HoldsCos, HoldsExpr, HoldsExprs, HoldsJoin, HoldsJoins, HoldsTy}
-
--- what is said of the innermost variable always holds, and of a variable one binder further in what is said of it here
-pub record Goes (P : Saying) : Type 0 where
-  pub type_here : (k : ℕ) → P.type_at (suc k) zero
-  pub type_past : (k i : ℕ) → P.type_at k i → P.type_at (suc k) (suc i)
-  pub type_back : (k i : ℕ) → P.type_at (suc k) (suc i) → P.type_at k i
-  pub value_here : (k : ℕ) → P.value_at (suc k) zero
-  pub value_past : (k i : ℕ) → P.value_at k i → P.value_at (suc k) (suc i)
-  pub value_back : (k i : ℕ) → P.value_at (suc k) (suc i) → P.value_at k i
-  pub join_here : (k : ℕ) → P.join_at (suc k) zero
-  pub join_past : (k i : ℕ) → P.join_at k i → P.join_at (suc k) (suc i)
-  pub join_back : (k i : ℕ) → P.join_at (suc k) (suc i) → P.join_at k i
-  pub coercion_here : (k : ℕ) → P.coercion_at (suc k) zero
-  pub coercion_past : (k i : ℕ) → P.coercion_at k i → P.coercion_at (suc k) (suc i)
-  pub coercion_back : (k i : ℕ) → P.coercion_at (suc k) (suc i) → P.coercion_at k i
+use Rattle.fc_resolved_names.proofs.Obeying.{Goes}
 
 -- BINDERS OF OTHER SPACES
 

@@ -13,7 +13,8 @@ use Rattle.fc_model.specs.TypingRules.{HasType}
 use Rattle.fc_model.proofs.TypesRead.{type_is_read_off}
 use Rattle.fc_outlines.specs.Headers.{SameHeaders}
 use Rattle.fc_outlines.specs.Outlines.{outlined_all, outlined_decl}
-use Rattle.fc_outlines.proofs.HeadersAlone.{turned, kind_there, proof_there, type_there, definitions_there}
+use Rattle.fc_outlines.proofs.Alike.{kind_alike, proves_alike}
+use Rattle.fc_outlines.proofs.HeadersAlone.{turned, turned_alike, type_there, definitions_there}
 
 -- DECLARATIONS
 
@@ -78,10 +79,12 @@ outlined_at ms (Some w) = outlined_module ms w
 -- outlines declare what the modules declare
 pub outlines_declare : (ms : List NModule) → SameHeaders (decls_at ms) (decls_at (outlined_all ms))
 outlines_declare ms = record {
-  types = λ n. rw (outlined_at ms n.module) (same_type_decl (decls_at ms n.module) n.text);
+  alike = record {
+    types = λ o w. rw (outlined_at ms o) (same_type_decl (decls_at ms o) w);
+    constructors = λ o w. rw (outlined_at ms o) (same_con_decl (decls_at ms o) w);
+    axioms = λ o w. rw (outlined_at ms o) (same_axiom_decl o (decls_at ms o) w);
+  };
   values = λ n. rw (outlined_at ms n.module) (same_def_type (decls_at ms n.module) n.text);
-  constructors = λ n. rw (outlined_at ms n.module) (same_con_decl (decls_at ms n.module) n.text);
-  axioms = λ n. rw (outlined_at ms n.module) (same_axiom_decl n.module (decls_at ms n.module) n.text);
 }
 
 -- JUDGEMENTS, the same among modules and among their outlines
@@ -90,13 +93,13 @@ module _ (ms : List NModule) where
   -- a kind of a type, the head of that many arguments
   pub kinds_by_outlines : (ks : List Kind) (args : ℕ) (t : NTy) (k : Kind) → HasHeadKind (decls_at ms) ks args t k ↔ HasHeadKind (decls_at (outlined_all ms)) ks args t k
   kinds_by_outlines ks args t k =
-      (λ h. kind_there _ _ (outlines_declare ms) h, λ h. kind_there _ _ (turned _ _ (outlines_declare ms)) h)
+      (λ h. kind_alike _ _ (outlines_declare ms).alike h, λ h. kind_alike _ _ (turned_alike _ _ (outlines_declare ms).alike) h)
 
   -- what a coercion proves
   pub proofs_by_outlines : (ks : List Kind) (cs : List Ends) (g : NCo) (r : Role) (s t : NTy)
       → Proves (decls_at ms) ks cs g r s t ↔ Proves (decls_at (outlined_all ms)) ks cs g r s t
   proofs_by_outlines ks cs g r s t =
-      (λ h. proof_there _ _ (outlines_declare ms) h, λ h. proof_there _ _ (turned _ _ (outlines_declare ms)) h)
+      (λ h. proves_alike _ _ (outlines_declare ms).alike h, λ h. proves_alike _ _ (turned_alike _ _ (outlines_declare ms).alike) h)
 
   -- a type of an expression
   pub types_by_outlines : (c : Context) (e : NExpr) (t : NTy) → HasType (decls_at ms) c e t ↔ HasType (decls_at (outlined_all ms)) c e t

@@ -1,2 +1,4 @@
-pub mod HeadersAlone
+pub mod Alike
 pub mod AmongOutlines
+pub mod HeadersAlone
+pub mod RightSides

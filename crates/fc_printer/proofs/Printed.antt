@@ -10,7 +10,7 @@ use Rattle.fc_syntax.specs.declared.token.TokenKind.TheVariants as kind
 use Rattle.fc_syntax.specs.Tokens.{ends_with_hash, is_digit, is_digits, is_literal, is_module_name, is_number, is_plain, word_kind, without_hash, without_minus}
 use Rattle.fc_syntax.proofs.Lexing.{StartsApart}
 use Rattle.fc_lex.proofs.Literals.{own}
-use Rattle.fc_lex.proofs.Printed.{decimal_plain}
+use Rattle.fc_lex.proofs.Printed.{decimal_plain, digits_from}
 use Rattle.fc_model.specs.Words.{Tok, Open, Close, Key, Lower, Upper, LowerOf, UpperOf, Star, Hash, Arrow, Operator, Literal, Number, Other}
 use Rattle.fc_model.specs.Pieces.{Piece, Leaf, Group, Pieces, NoPieces, MorePieces, tok_text, piece_text, pieces_text, spaced_text, piece_toks, pieces_toks}
 use Rattle.fc_model.specs.Formed.{is_literal_formed, is_lower_word, is_upper_word}
@@ -26,10 +26,6 @@ no_hash : (w : List ℕ) → list_all is_digit w ≡ true → ends_with_hash w �
 no_hash [] h = refl
 no_hash (b ∷ []) h = no_hash_at b (and_parts (is_digit b) true h).0
 no_hash (b ∷ c ∷ bs) h = no_hash (c ∷ bs) (and_parts (is_digit b) (list_all is_digit (c ∷ bs)) h).1
-
-digits_from : (w : List ℕ) → list_all is_digit w ≡ true → 0 < length w → is_digits w ≡ true
-digits_from [] h l = absurd (omega arith)
-digits_from (b ∷ bs) h l = h
 
 second : {X : Type 0} (l n : Bool) (a b c : X) → l ≡ false → n ≡ true → (if l then a else if n then b else c) ≡ b
 second true n a b c e h = absurd (true≢false e)

@@ -1,22 +1,17 @@
 -- A text whose members are within the limits is a whole file within them, or there is a first token that cannot go on.
 use Rattle.std.proofs.Common.{◌≡◌, ℕ, suc, true, List, [], ◌∷◌, length, refl, sym, ap, ◌∙◌, subst}
 use Rattle.fc_model.specs.Words.{Tok, Close}
-use Rattle.fc_model.specs.FileForms.{FileForm, File, FileHeader, FileBody, Member, whole_part, header_part, member_part, file_from, module_in}
-use Rattle.fc_model.specs.Grammar.{gives, ◌▸◌, Many}
+use Rattle.fc_model.specs.FileForms.{FileForm, File, FileHeader, FileBody, whole_part, header_part, file_from, module_in}
+use Rattle.fc_model.specs.Grammar.{gives, ◌▸◌}
 use Rattle.fc_model.specs.Reading.{Outcome, Got, Stuck, read_part, Reads}
-use Rattle.fc_model.specs.Texts.{SomeMembersAt, no_members, some_members, SomeBodyAt, some_hidden, some_plain, begins_with}
+use Rattle.fc_model.specs.Texts.{SomeBodyAt, some_hidden, some_plain, begins_with}
 use Rattle.fc_model.specs.ReadFaults.{decls_within, WithinSoFar}
 use Rattle.fc_reader.specs.Halting.{FirstBadWithin}
 use Rattle.fc_reader.proofs.Bodies.{BodyParts, with_hidden, without, body_parts, whole_parts}
 use Rattle.fc_reader.proofs.Ends.{first_bad}
 use Rattle.fc_reader.proofs.Firsts.{parted, parted_behind}
 use Rattle.fc_reader.proofs.Forms.{decls_of_file}
-use Rattle.fc_reader.proofs.Members.{ends_at_once, member}
-
--- members that were read to their end are some members
-some_of : (f : FileForm) (xs : List (Member f)) (ts rest : List Tok) → Reads (Many (member_part f)) ts xs rest → SomeMembersAt f ts xs (Close ∷ rest)
-some_of f [] ts rest e = subst (λ us. SomeMembersAt f us [] (Close ∷ rest)) (sym (ends_at_once (member_part f) ts rest e)) no_members
-some_of f (x ∷ xs) ts rest e = let m = member (member_part f) x xs ts rest e in some_members m.first (some_of f xs m.behind rest m.others)
+use Rattle.fc_reader.proofs.Within.{some_of}
 
 -- the members of a whole file stand whole in it, so it is within the limits
 whole_within : (f : FileForm) (room : ℕ) (ts : List Tok) (m : File f) → Reads (whole_part f) ts m [] → WithinSoFar f room ts → decls_within room (module_in f m) ≡ true

@@ -43,7 +43,7 @@ pub keyword_tok : (w : List ℕ) (k : Keyword) → keyword_of w ≡ Some k → w
 keyword_tok w k e = word_tok_undotted w (Some k) e (keyword_undotted w k e)
 
 -- no sign starts as a name does
-start_is_not : (n b : ℕ) (bs cs : List ℕ) → (b == n) ≡ false → bytes_eq (b ∷ bs) (n ∷ cs) ≡ false
+pub start_is_not : (n b : ℕ) (bs cs : List ℕ) → (b == n) ≡ false → bytes_eq (b ∷ bs) (n ∷ cs) ≡ false
 start_is_not n b bs cs e = rw e refl
 
 name_no_sign : (b : ℕ) (bs : List ℕ) → starts_names b ≡ true → sign_tok (b ∷ bs) ≡ None

@@ -84,7 +84,7 @@ some_within f room {us = us} {xs = xs} a e h ys vs b = whole us xs ys e h (compa
   whole us xs ys e h (no_longer more p) = front_within room (member_decls f ys) (member_decls f more) (ap (are_within room) (sym (ap (member_decls f) p ∙ decls_append f ys more)) ∙ e)
   whole us xs ys e h (longer x ws a) = absurd (h x ws a)
 
-some_of : (f : FileForm) (xs : List (Member f)) (ts rest : List Tok) → Reads (Many (member_part f)) ts xs rest → SomeMembersAt f ts xs (Close ∷ rest)
+pub some_of : (f : FileForm) (xs : List (Member f)) (ts rest : List Tok) → Reads (Many (member_part f)) ts xs rest → SomeMembersAt f ts xs (Close ∷ rest)
 some_of f [] ts rest e = some_on (ends_at_once (member_part f) ts rest e) no_members
 some_of f (x ∷ xs) ts rest e = let m = member (member_part f) x xs ts rest e in some_members m.first (some_of f xs m.behind rest m.others)
 

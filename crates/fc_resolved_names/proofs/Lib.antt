@@ -1,4 +1,4 @@
-pub mod Counted
 pub mod Distinct
 pub mod NamesHold
+pub mod Obeying
 pub mod Scoped

@@ -1,5 +1,5 @@
 -- What resolves is scoped, where the module does not import itself.
-use Rattle.std.proofs.Common.{◌≡◌, Bool, true, false, bytes_eq, All, List, [], ◌∷◌, Option, Some, None, Ok, refl, subst}
+use Rattle.std.proofs.Common.{◌≡◌, arith, Bool, true, false, bytes_eq, All, List, [], ◌∷◌, Option, Some, None, Ok, refl, subst}
 use Rattle.std.proofs.lemmas.List.Elements.{All-head, All-tail}
 use Rattle.fc_syntax.specs.declared.ty.Name.{Name}
 use Rattle.fc_syntax.specs.declared.fault.FaultKind.TheVariants.{NotExported, Unbound}
@@ -11,7 +11,8 @@ use Rattle.fc_model.proofs.Sameness.{bytes_eq_eq, bytes_eq_refl}
 use Rattle.fc_used_words.specs.Scoped.{HoldsDecls, IsKnown, is_meant}
 use Rattle.fc_resolved_names.specs.ResolvedNames.{ResolvedAreScoped}
 use Rattle.fc_resolved_names.proofs.Distinct.{coercions_distinct, same_top, terms_distinct, types_distinct}
-use Rattle.fc_resolved_names.proofs.NamesHold.{HoldsOfFound, names_hold}
+use Rattle.fc_resolved_names.proofs.NamesHold.{IsSaidOfOwn, names_hold}
+use Rattle.fc_resolved_names.proofs.Obeying.{AreSaid, Goes}
 
 -- a word that none of these is, is not in their set
 pub in_none : (ws : List Word) (s : WordSet) (w : Word) → All (λ v. bytes_eq v w ≡ false) ws → s w ≡ false → plus_all ws s w ≡ false
@@ -38,21 +39,36 @@ module _ (top : Top) (alone : top.imports top.own ≡ false) where
       let q = need_inv (offered v w) NotExported _ m p.1 in
       subst (IsKnown top words offered) (ok_ok q.1) (rw (is_other v p.0, p.0, q.0) refl)
 
-  known_found : HoldsOfFound top (is_meant top)
-  known_found = record {
-    type_at = λ k i low. low;
-    value_at = λ k i low. low;
-    join_at = λ k i low. low;
-    coercion_at = λ k i low. low;
-    type_name = known top.types top.offers.types;
-    axiom_name = known top.coercions top.offers.coercions;
-    constructor = known top.terms top.offers.terms;
-    definition = known top.terms top.offers.terms;
+  known_goes : Goes (is_meant top)
+  known_goes = record {
+    type_here = λ k. omega arith;
+    type_past = λ k i low. omega (arith, low);
+    type_back = λ k i low. omega (arith, low);
+    value_here = λ k. omega arith;
+    value_past = λ k i low. omega (arith, low);
+    value_back = λ k i low. omega (arith, low);
+    join_here = λ k. omega arith;
+    join_past = λ k i low. omega (arith, low);
+    join_back = λ k i low. omega (arith, low);
+    coercion_here = λ k. omega arith;
+    coercion_past = λ k i low. omega (arith, low);
+    coercion_back = λ k i low. omega (arith, low);
   }
+
+  known_said : AreSaid top (is_meant top)
+  known_said = record {
+    type_name = λ n m h. known top.types top.offers.types n.module n.text m h;
+    axiom_name = λ n m h. known top.coercions top.offers.coercions n.module n.text m h;
+    constructor = λ n m h. known top.terms top.offers.terms n.module n.text m h;
+    imported = λ v w m h. known top.terms top.offers.terms (Some v) w m h;
+  }
+
+  known_own : IsSaidOfOwn top (is_meant top)
+  known_own w m h = known top.terms top.offers.terms None w m h
 
 pub resolved_are_scoped : ResolvedAreScoped
 resolved_are_scoped m n (resolves_module {m = w} {imports = imports} {exports = exports} {hidden = hidden} {ds = ds} {cs = cs} rules) others =
     let top : Top = top_of (ModuleOf w imports exports hidden ds) in
     let same : top ≡ ntop_of n = same_top w imports exports hidden rules in
     let alone : top.imports top.own ≡ false = in_none imports no_word w others refl in
-    (types_distinct rules, terms_distinct rules, coercions_distinct rules, subst (λ t. HoldsDecls (is_meant t) cs) same (names_hold top (is_meant top) (known_found top alone) rules))
+    (types_distinct rules, terms_distinct rules, coercions_distinct rules, subst (λ t. HoldsDecls (is_meant t) cs) same (names_hold top (is_meant top) (known_goes top alone) (known_said top alone) (known_own top alone) rules))

@@ -18,7 +18,7 @@ pub let_once_examples : LetOnceExamples
 let_once_examples = (refl, refl, refl, refl, refl, refl, refl, refl, refl, refl, refl, refl)
 
 pub case_known_examples : CaseKnownExamples
-case_known_examples = (refl, refl, refl, refl, refl, refl, refl, refl, refl, refl, refl, refl, refl, refl, refl, refl, refl, refl, refl, refl, refl, refl, refl, refl, refl, refl, refl)
+case_known_examples = (refl, refl, refl, refl, refl, refl, refl, refl, refl, refl, refl, refl, refl, refl, refl, refl, refl, refl, refl, refl, refl, refl, refl, refl, refl, refl, refl, refl, refl)
 
 pub case_evaluated_examples : CaseEvaluatedExamples
 case_evaluated_examples = (refl, refl, refl, refl, refl, refl, refl, refl, refl, refl, refl, refl, refl, refl, refl)
@@ -63,7 +63,7 @@ pub name_field_examples : NameFieldExamples
 name_field_examples = (refl, refl, refl, refl, refl)
 
 pub place_examples : PlaceExamples
-place_examples = (refl, refl, refl, refl)
+place_examples = (refl, refl, refl, refl, refl, refl)
 
 pub import_examples : ImportExamples
 import_examples = (refl, refl)

@@ -118,6 +118,13 @@ KnownLiteralAtDefault = made_at row.CaseKnown (3 ∷ 0 ∷ [])
 abbrev pub UnknownVariable : Type 0
 UnknownVariable = made_by row.CaseKnown (case_of (NLocal 0) (on_default leaf NoNAlts)) ≡ None
 
+-- the variable of the let behind a lambda is known, and the lambda's own, which hides it, is not
+abbrev pub KnownBehindALambda : Type 0
+KnownBehindALambda = made_at row.CaseKnown (1 ∷ 1 ∷ []) (let_of tree leaf (lambda (case_of (NLocal 1) (on_leaf small NoNAlts)))) ≡ Some (let_of tree leaf (lambda small))
+
+abbrev pub HiddenByALambda : Type 0
+HiddenByALambda = made_at row.CaseKnown (1 ∷ 1 ∷ []) (let_of tree leaf (lambda (case_of (NLocal 0) (on_leaf small NoNAlts)))) ≡ None
+
 -- what has a field that is not trivial, a lambda, and what is cast are no known constructors
 abbrev pub KnownWithACall : Type 0
 KnownWithACall = made_at row.CaseKnown (1 ∷ []) (let_of tree (node (call same leaf) (NLocal 1)) (case_of (NLocal 0) (on_default leaf NoNAlts))) ≡ None

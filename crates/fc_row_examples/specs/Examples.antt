@@ -6,7 +6,7 @@ use Rattle.fc_syntax.specs.Tree.{Word, KStar}
 use Rattle.fc_log.specs.declared.log.Row.TheVariants as row
 use Rattle.fc_model.specs.Nameless.{NTVar, NTInt, NTFun, NTForall, NGVar, NGSym, NGTrans, NBValue, NBType, NBCo, NDef, NWrap, NModule, NModuleOf, NATerm, NAType, NACo, NoNArgs, MoreNArgs}
 use Rattle.fc_model.specs.Nameless.{NLocal, NLit, NApp, NLam, NCase, NCast, NCon, NFail, NJump, NoNAlts}
-use Rattle.fc_row_examples.specs.ExampleTerms.{age, as_tree, call, case_of, declared, holding, join_of, jump, lambda, leaf, let_both, let_rec, made_by, named, node, on_default, on_leaf, on_node}
+use Rattle.fc_row_examples.specs.ExampleTerms.{age, as_tree, call, case_of, declared, holding, join_of, jump, lambda, leaf, let_both, let_rec, made_at, made_by, named, node, on_default, on_leaf, on_node}
 use Rattle.fc_row_examples.specs.ExampleTerms.{same, small, tree, two}
 use Rattle.fc_rows.specs.Rewriting.{rewritten, without_definitions}
 use Rattle.fc_rows.specs.Shrinking.{let_of}
@@ -272,6 +272,13 @@ RowInNoDefinition = rewritten [] row.CastCast (codes "other") (1 ∷ []) (holdin
 -- a part that is no expression
 abbrev pub RowAtABinder : Type 0
 RowAtABinder = rewritten [] row.CastCast (codes "whole") (1 ∷ 0 ∷ []) (holding (lambda (NLocal 0))) ≡ None
+
+-- the right side of a bind is its part 1, and its type is part 0
+abbrev pub RowInARightSide : Type 0
+RowInARightSide = made_at row.CastCast (0 ∷ 1 ∷ []) (let_of tree (NCast (NCast small as_tree) (NGSym as_tree)) (NLocal 0)) ≡ Some (let_of tree (NCast small (NGTrans as_tree (NGSym as_tree))) (NLocal 0))
+
+abbrev pub RowInTheTypeOfABind : Type 0
+RowInTheTypeOfABind = made_at row.CastCast (0 ∷ 0 ∷ []) (let_of tree (NCast (NCast small as_tree) (NGSym as_tree)) (NLocal 0)) ≡ None
 
 abbrev pub all_but_whole : Word → Bool
 all_but_whole w = not (bytes_eq w (codes "whole"))

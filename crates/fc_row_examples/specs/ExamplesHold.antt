@@ -4,7 +4,7 @@ use Rattle.fc_row_examples.specs.CaseExamples.{BoundCoercionPutIn, BoundTypePutI
 use Rattle.fc_row_examples.specs.CaseExamples.{EvaluatedCoercionLambda, EvaluatedConstructor, EvaluatedDefinition, EvaluatedInADefault, EvaluatedLambda, EvaluatedLiteral, EvaluatedNumber}
 use Rattle.fc_row_examples.specs.CaseExamples.{EvaluatedWithMoreAlternatives, EvaluatedWithoutDefault, FewerFields, FieldOfAnotherSort, FieldsInOrder, InnerCaseBesideAnAlternative}
 use Rattle.fc_row_examples.specs.CaseExamples.{InnerCaseInNoDefault, InnerCaseMerged, InnerCaseOfAnother, KnownAsALambda, KnownAtDefault, KnownBelowACast, KnownByADefinition, KnownByALet}
-use Rattle.fc_row_examples.specs.CaseExamples.{KnownByARecursiveLet, KnownCaseBinder, KnownInADefault, KnownInAnAlternative, KnownLiteral, KnownLiteralAtDefault, KnownWithACall}
+use Rattle.fc_row_examples.specs.CaseExamples.{HiddenByALambda, KnownBehindALambda, KnownByARecursiveLet, KnownCaseBinder, KnownInADefault, KnownInAnAlternative, KnownLiteral, KnownLiteralAtDefault, KnownWithACall}
 use Rattle.fc_row_examples.specs.CaseExamples.{KnownWithoutAlternative, LetIsNotEvaluated, LiteralAtDefault, LiteralDead, LiteralWithItsAlternative, LiteralWithoutAlternative}
 use Rattle.fc_row_examples.specs.CaseExamples.{LookedAtACall, MoreFields, NoAlternative, PlaceOfTheCase, TypeLambdaIsNoValue, UnknownVariable, VariableOfATree}
 use Rattle.fc_row_examples.specs.Examples.{AppliedToACoercion, AppliedToATerm, AppliedToAType, AppliedToAnotherSort, CastAlone, CastInALet, CastTwice, DefinitionDropped, DifferentEnds}
@@ -13,7 +13,7 @@ use Rattle.fc_row_examples.specs.Examples.{FieldOfNoLet, FieldsAreTrivial, Group
 use Rattle.fc_row_examples.specs.Examples.{JumpFromARecursiveJoinPoint, JumpFromTheBody, JumpOnce, JumpTwice, JumpWithFewerArguments, JumpWithMoreArguments, LambdaWithoutAType, LetApplied}
 use Rattle.fc_row_examples.specs.Examples.{LetAsAnArgument, LetAtAType, LetCast, LetInAnAlternative, LetLookedAt, LetNotUsed, LetOfACall, LetOfACallBehindALet, LetOfACast}
 use Rattle.fc_row_examples.specs.Examples.{LetOfAConstructor, LetOfAValueBehindLets, LetOfAVariable, LetUsed, NeverUsed, NoJump, NoJumpAtAll, NoJumpFromTheBody, NoLambdaApplied}
-use Rattle.fc_row_examples.specs.Examples.{RecursiveField, RecursiveJumpOnce, RecursiveLetOfALet, RecursiveLetOfAVariable, RecursiveUsedOnce, RowAtABinder, RowInADefinition, RowInAType}
+use Rattle.fc_row_examples.specs.Examples.{RecursiveField, RecursiveJumpOnce, RecursiveLetOfALet, RecursiveLetOfAVariable, RecursiveUsedOnce, RowAtABinder, RowInADefinition, RowInARightSide, RowInTheTypeOfABind, RowInAType}
 use Rattle.fc_row_examples.specs.Examples.{RowInNoDefinition, UnliftedUsedOnce, UsedAsAField, UsedBelowACast, UsedInACoercionLambda, UsedInAJoinPoint, UsedInALambda}
 use Rattle.fc_row_examples.specs.Examples.{ReachedThroughOthers, UntoldFails, UsedInARecursiveJoinPoint, UsedInATypeLambda, UsedOnce, UsedTwice}
 
@@ -33,7 +33,7 @@ LetOnceExamples = UsedOnce × UsedInATypeLambda × UsedBelowACast × UsedInAJoin
 abbrev pub CaseKnownExamples : Type 0
 CaseKnownExamples = FieldsInOrder × BinderBehindFields × BoundTypePutIn × BoundCoercionPutIn × ConstructorAtDefault × NoAlternative × FewerFields × MoreFields × FieldOfAnotherSort
     × LookedAtACall × LiteralWithItsAlternative × LiteralAtDefault × LiteralWithoutAlternative × KnownByALet × KnownByARecursiveLet × KnownByADefinition × KnownAtDefault
-    × KnownInAnAlternative × KnownCaseBinder × KnownLiteral × KnownLiteralAtDefault × UnknownVariable × KnownWithACall × KnownAsALambda × KnownBelowACast
+    × KnownInAnAlternative × KnownCaseBinder × KnownLiteral × KnownLiteralAtDefault × UnknownVariable × KnownBehindALambda × HiddenByALambda × KnownWithACall × KnownAsALambda × KnownBelowACast
     × KnownWithoutAlternative × KnownInADefault
 
 abbrev pub CaseEvaluatedExamples : Type 0
@@ -81,7 +81,7 @@ abbrev pub NameFieldExamples : Type 0
 NameFieldExamples = FieldNamed × FieldOfABoundType × FieldsAreTrivial × RecursiveField × FieldOfNoLet
 
 abbrev pub PlaceExamples : Type 0
-PlaceExamples = RowInADefinition × RowInAType × RowInNoDefinition × RowAtABinder
+PlaceExamples = RowInADefinition × RowInAType × RowInNoDefinition × RowAtABinder × RowInARightSide × RowInTheTypeOfABind
 
 abbrev pub ImportExamples : Type 0
 ImportExamples = UntoldFails × ReachedThroughOthers

@@ -106,7 +106,7 @@ module _ (R : NPartRelation) (TermsRewritten : PartRelation) where
       erased_change (nchange_in_lambda {b = NBValue t} w) pl we wd se sd = change_in_lambda (erased_change w pl we wd se sd)
       erased_change (nchange_in_lambda {b = NBType k} w) pl we wd se sd = erased_change w pl we wd se sd
       erased_change (nchange_in_lambda {b = NBCo r t u} w) pl we wd se sd = change_in_lambda (erased_change w pl we wd se sd)
-      erased_change (nchange_in_let {t = t} w v) pl we wd se sd = change_in_let (right_change w pl we.0.0 wd.0.0 se.0 sd.0 se.1) (erased_change v (se.0, pl) we.1 wd.1 se.2 sd.2)
+      erased_change (nchange_in_let {t = t} w v) pl we wd se sd = change_in_let (right_change w pl we.1.0 wd.1.0 se.0 sd.0 se.1) (erased_change v (se.0, pl) we.2 wd.2 se.2 sd.2)
       erased_change {c = c} (nchange_in_group {bs = bs} {cs = cs} {e = e} {d = d} w v) pl we wd se sd =
           let s = below_binds bs (scope_at c) in
           let same = same_binds w (scope_at c) in
@@ -114,7 +114,7 @@ module _ (R : NPartRelation) (TermsRewritten : PartRelation) where
           let l = rights_lifteds w s in
           let su = subst (λ ls. AreSorted (enters ls (sorts_in (place_at c))) (erased_rights s cs) × IsSorted (enters ls (sorts_in (place_at c))) (erased s d)) (sym l) sd' in
           subst (λ x. Change TermsRewritten (place_at c) (Rec (erased_rights s bs) (erased s e)) (Rec (erased_rights x cs) (erased x d))) same
-          (change_in_group (rights_change w pl we.0 wd.0 se.0 su.0) (erased_change v pl we.1 wd.1 se.1 su.1))
+          (change_in_group (rights_change w (se.0, pl) we.1 wd.1 se.0 su.0) (erased_change v (se.0, pl) we.2 wd.2 se.1 su.1))
       erased_change (nchange_in_case w v) pl we wd se sd = change_in_case (erased_change w pl we.0 wd.0 se.0 sd.0) (alts_change v pl we.1 wd.1 se.1 sd.1)
       erased_change (nchange_in_cast w) pl we wd se sd = erased_change w pl we wd se sd
       erased_change {c = c} (nchange_in_constructor {n = n} {args = args} {brgs = brgs} w) pl we wd se sd =
@@ -128,8 +128,8 @@ module _ (R : NPartRelation) (TermsRewritten : PartRelation) where
           let s = below_all ps (scope_at c) in
           change_in_let (lifted_change
           (lambdas_change (binder_sorts ps) (place_at c) (erased s a) (erased s b)
-          (erased_change w pl we.0.0 wd.0.0 (lambdas_inner (binder_sorts ps) (place_at c) (erased s a) se.0) (lambdas_inner (binder_sorts ps) (place_at c) (erased s b) sd.0))))
-          (erased_change v pl we.1 wd.1 se.2 sd.2)
+          (erased_change w pl we.1.0 wd.1.0 (lambdas_inner (binder_sorts ps) (place_at c) (erased s a) se.0) (lambdas_inner (binder_sorts ps) (place_at c) (erased s b) sd.0))))
+          (erased_change v pl we.2 wd.2 se.2 sd.2)
       erased_change {c = c} (nchange_in_joins {js = js} {ks = ks} {e = e} {d = d} w v) pl we wd se sd =
           let s = below_joins js (scope_at c) in
           let same = same_joins w (scope_at c) in
@@ -137,7 +137,7 @@ module _ (R : NPartRelation) (TermsRewritten : PartRelation) where
           let l = joins_lifteds w s in
           let su = subst (λ ls. AreSorted (enters ls (sorts_in (place_at c))) (erased_joins s ks) × IsSorted (enters ls (sorts_in (place_at c))) (erased s d)) (sym l) sd' in
           subst (λ x. Change TermsRewritten (place_at c) (Rec (erased_joins s js) (erased s e)) (Rec (erased_joins x ks) (erased x d))) same
-          (change_in_group (joins_change w pl we.0 wd.0 se.0 su.0) (erased_change v pl we.1 wd.1 se.1 su.1))
+          (change_in_group (joins_change w pl we.1 wd.1 se.0 su.0) (erased_change v pl we.2 wd.2 se.1 su.1))
 
       right_change : {c : NPlace} {s : Sort} {a b : NExpr} → NRightChange R c s a b → IsPlaceSorted c → IsWritten a → IsWritten b → IsSorted (sorts_in (place_at c)) (erased (scope_at c) a)
           → IsSorted (sorts_in (place_at c)) (erased (scope_at c) b) → IsAtom (sorts_in (place_at c)) s (erased (scope_at c) a)

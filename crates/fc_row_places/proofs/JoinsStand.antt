@@ -23,13 +23,14 @@ use Rattle.fc_term_rows.specs.Heads.{SameHeads}
 use Rattle.fc_term_rows.specs.TermRows.{applied_term}
 use Rattle.fc_term_rows.proofs.LetsEntered.{applied-sub, same_applied}
 use Rattle.fc_term_rows.proofs.SameHeads as same
-use Rattle.fc_row_places.specs.KnowingRows.{PartsFit, opened}
+use Rattle.fc_row_places.specs.KnowingRows.{BehindLets, PartsFit, right_past_lets}
 use Rattle.fc_row_places.specs.NamelessFacts.{moved_params, moved_below, past_one, params_past_binders, below_past_binders, NKnowsJoin, join_here, join_past_let, join_past_group, join_past_join}
-use Rattle.fc_row_places.specs.NamelessFacts.{join_past_joins, join_past_parameters, join_past_alternative}
-use Rattle.fc_row_places.specs.NamelessPlaces.{NPlace, scope_at, place_at, in_bodies}
+use Rattle.fc_row_places.specs.NamelessFacts.{join_below, join_past_joins, join_past_parameters, join_past_alternative}
+use Rattle.fc_row_places.specs.NamelessPlaces.{NPlace, NBelow, scope_at, place_at, in_bodies}
 use Rattle.fc_row_places.proofs.MovedFacts.{args_are, all_steps, behind, ren_itself, steps_of}
 use Rattle.fc_row_places.proofs.MovedParts.{past_group_erases, past_joins_erases, unchanged_erases}
-use Rattle.fc_row_places.proofs.OpenedErased.{closed_under, count_args, opened_same, with_parts}
+use Rattle.fc_row_places.proofs.NamedFields.{right_named}
+use Rattle.fc_row_places.proofs.OpenedErased.{count_args, with_parts}
 
 -- a join point when types are gone
 abbrev pub join_term : Scope → List NBinder → NExpr → Term
@@ -129,6 +130,13 @@ below_parameters (NBCo r t v ∷ bs) p s j ps e h =
     below_parameters bs (InBody Unlifted p) (below_unnamed s) j _ _
     (stands_moved s _ suc (join_past_one (NBCo r t v) s j ps e h.written) (λ x u k. stands_past_lambda k) (λ x u k. stands_past_lambda k) h)
 
+-- below one binder
+below_binder_stands : (b : NBinder) (c : NPlace) (j : ℕ) (ps : List NBinder) (e : NExpr) → JoinStands (side_on_left (place_at c)) (side_on_right (place_at c)) (scope_at c) j ps e
+    → JoinStands (side_on_left (place_at (NBelow b c))) (side_on_right (place_at (NBelow b c))) (below b (scope_at c)) j (moved_params (past_one b) ps) (moved_below (past_one b) ps e)
+below_binder_stands (NBValue t) c j ps e h = below_parameters (NBValue t ∷ []) (place_at c) (scope_at c) j ps e h
+below_binder_stands (NBType k) c j ps e h = below_parameters (NBType k ∷ []) (place_at c) (scope_at c) j ps e h
+below_binder_stands (NBCo r t u) c j ps e h = below_parameters (NBCo r t u ∷ []) (place_at c) (scope_at c) j ps e h
+
 pub njoin_stands : {c : NPlace} {j : ℕ} {ps : List NBinder} {a : NExpr} → NKnowsJoin c j ps a → JoinStands (side_on_left (place_at c)) (side_on_right (place_at c)) (scope_at c) j ps a
 unfolding upr
 njoin_stands (join_here {c = c} ps a o) =
@@ -161,6 +169,7 @@ njoin_stands (join_past_joins {js = js} {ks = ks} {c = c} {i = j} ps a n w) =
     stands_moved s i (λ m. join_count js + m) (join_moved_by s i (past_joins (join_count js)) (λ m. join_count js + m) (past_joins_erases js s) j ps a h.written)
     (λ x u k. subst (λ m. Stands (BelowGroup (erased_joins i js) (side_on_left (place_at c))) (ren (λ l. m + l) x) (ren (λ l. m + l) u)) (joins_count i js) (stands_past_group k))
     (λ x u k. subst (λ m. Stands (BelowGroup (erased_joins i ks) (side_on_right (place_at c))) (ren (λ l. m + l) x) (ren (λ l. m + l) u)) (joins_count i ks ∙ sym n) (stands_past_group k)) h
+njoin_stands (join_below {b = b} {c = c} {i = j} ps a w) = below_binder_stands b c j ps a (njoin_stands w)
 njoin_stands (join_past_parameters {bs = bs} {c = c} {i = j} ps a w) = below_parameters bs (place_at c) (scope_at c) j ps a (njoin_stands w)
 njoin_stands (join_past_alternative {xt = xt} {s = sl} {t = sr} {all = all} {h = hd} {bs = bs} {c = c} {i = j} ps a own w) =
     let h = njoin_stands w in
@@ -183,11 +192,12 @@ applied_are s (MoreNArgs (NATerm e) rest) t = applied_are s rest (App (sort_of s
 applied_are s (MoreNArgs (NAType u) rest) t = applied_are s rest t
 applied_are s (MoreNArgs (NACo g) rest) t = applied_are s rest (App Unlifted t coercion_token)
 
-pub jump_opened : (P : Program) (s : Scope) (i : ℕ) (args : NArgs) (ps : List NBinder) (a : NExpr) → AreArgsWritten args → IsWritten a → PartsFit s args ps → (q : Closing)
-    → sub q (Var (s.joins i)) ≡ sub q (join_term s ps a)
-    → SameHeads P (sub q (applied s (Var (s.joins i)) args)) (sub q (erased s (opened args ps unchanged a)))
-unfolding closed_under pushes sub
-jump_opened P s i args ps a wr wa fits q e =
+-- a jump comes to the right side of its join point at the variables of lets
+pub jump_named : (P : Program) (s : Scope) (i : ℕ) (args : NArgs) (ps : List NBinder) (a : NExpr) {f : NExpr} → AreArgsWritten args → IsWritten a → PartsFit s args ps
+    → BehindLets s (right_past_lets args ps a) 0 args f → (q : Closing) → sub q (Var (s.joins i)) ≡ sub q (join_term s ps a)
+    → SameHeads P (sub q (applied s (Var (s.joins i)) args)) (sub q (erased s f))
+unfolding pushes sub
+jump_named P s i args ps a wr wa fits lets q e =
     let ss = arg_sorts s args in
     let ts = sub_terms q (erased_args s args) in
     let body = erased (below_all ps s) a in
@@ -196,6 +206,5 @@ jump_opened P s i args ps a wr wa fits q e =
     let lam : sub q (Var (s.joins i)) ≡ sub q (lambdas ss body) = e ∙ ap (λ z. sub q (lambdas z body)) sorts in
     let jump : sub q (applied s (Var (s.joins i)) args) ≡ applied_term (sub q (lambdas ss body)) ss ts =
     ap (sub q) (applied_are s args (Var (s.joins i))) ∙ applied-sub q ss (erased_args s args) (Var (s.joins i)) ∙ ap (λ z. applied_term z ss ts) lam in
-    let there = opened_same P a wa args ps s s unchanged Var wr fits (unchanged_erases s) q in
     same.same_trans P _ (applied_term (sub q (lambdas ss body)) ss ts) _ (same.same_is P _ _ jump)
-    (same.same_trans P _ (sub (pushes ts q) body) _ (same_applied P ss ts n q body) (same.same_sym P _ _ there))
+    (same.same_trans P _ (sub (pushes ts q) body) _ (same_applied P ss ts n q body) (same.same_sym P _ _ (right_named P s q args ps a wr wa fits lets)))

@@ -4,6 +4,7 @@ pub mod JoinsStand
 pub mod KnowingRowsErased
 pub mod MovedFacts
 pub mod MovedParts
+pub mod NamedFields
 pub mod NamelessKnowing
 pub mod OpenedErased
 pub mod RowsErased

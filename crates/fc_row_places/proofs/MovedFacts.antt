@@ -6,7 +6,7 @@ use Rattle.fc_model.specs.Erasure.{Scope, arg_sorts, below, below_all, below_unn
 use Rattle.fc_model.specs.Nameless.{NTy, NCo, NBinder, NBValue, NBType, NBCo, NExpr, NATerm, NAType, NACo, NArgs, NoNArgs, MoreNArgs}
 use Rattle.fc_model.specs.Replacing.{Renaming, variables, coercion_variables, renamed, past_a_type, past_a_coercion, past_a_value}
 use Rattle.fc_model.specs.Terms as term
-use Rattle.fc_model.specs.Terms.{Sort, Unlifted, Term, Var, Terms, Nil, Cons, binders, ren, ren_terms}
+use Rattle.fc_model.specs.Terms.{Sort, Unlifted, Term, Var, Terms, Nil, Cons, ren, ren_terms}
 use Rattle.fc_rows.specs.Shrinking.{moved_args}
 use Rattle.fc_meaning.proofs.Unnamed.{sub-var}
 use Rattle.fc_meaning.proofs.WrittenExpressions.{AreArgsWritten, IsWritten}
@@ -50,6 +50,15 @@ args_are s (MoreNArgs (NACo g) rest) = coercion_part (args_are s rest)
 pub behind_are : (s : Scope) {args parts : NArgs} {ss : List Sort} {ts : Terms} → BehindTypes args parts → PartsBecome s args ss ts → PartsBecome s parts ss ts
 behind_are s behind_none w = w
 behind_are s (behind_one b) (type_part w) = behind_are s b w
+
+-- with types before them
+pub types_are : (s : Scope) {args parts : NArgs} {ss : List Sort} {ts : Terms} → BehindTypes args parts → PartsBecome s parts ss ts → PartsBecome s args ss ts
+types_are s behind_none w = w
+types_are s (behind_one b) w = type_part (types_are s b w)
+
+pub types_written : {args parts : NArgs} → BehindTypes args parts → AreArgsWritten parts → AreArgsWritten args
+types_written behind_none w = w
+types_written (behind_one b) w = (tt, types_written b w)
 
 pub behind_written : {args parts : NArgs} → BehindTypes args parts → AreArgsWritten args → AreArgsWritten parts
 behind_written behind_none w = w

@@ -25,7 +25,7 @@ step_behind i m = omega arith
 none_behind : (i : ℕ) → i + 0 ≡ i
 none_behind i = omega arith
 
-binds_values : (bs : NBinds) (c : Scope) (i : ℕ) → (below_binds bs c).values (i + bind_count bs) ≡ bind_count bs + c.values i
+pub binds_values : (bs : NBinds) (c : Scope) (i : ℕ) → (below_binds bs c).values (i + bind_count bs) ≡ bind_count bs + c.values i
 unfolding upr
 binds_values NoNBinds c i = let f : c.values i ≡ 0 + c.values i = omega arith in ap c.values (none_behind i) ∙ f
 binds_values (MoreNBinds (NBound t e) rest) c i =

@@ -94,7 +94,7 @@ module _ (G : Known) (D : Name → Term → Type 0) where
       let o = sort_of_type t in
       let body = erased (below_value o s) b in
       here_by (place_at c) _ (Let o (erased s a) body) (erased s d) (sub (push (erased s a) Var) body) refl
-      (erased_replaced s (below_value o s) (value_alone a) (push (erased s a) Var) (value_alone_erases s o a we.0.0 h) b we.1) (row_reduces reduces_let_put)
+      (erased_replaced s (below_value o s) (value_alone a) (push (erased s a) Var) (value_alone_erases s o a we.1.0 h) b we.2) (row_reduces reduces_let_put)
   row_erased c _ _ (nrow_application_of_let {t = t} {a = a} {e = e} {b = NATerm b}) pl we wd se sd =
       let s = scope_at c in
       let o = sort_of_type t in
@@ -138,7 +138,7 @@ module _ (G : Known) (D : Name → Term → Type 0) where
       let d = erased (below_value o s) e in
       let body = erased (below_value (sort_of_type t) s) b in
       let moved = moved_expr (below_value (sort_of_type t) (below_value o s)) (below_value (sort_of_type t) s) (below_one_value past_a_value) (upr suc)
-      (under_one (below_value o s) s past_a_value suc (past_value_erases o s) (sort_of_type t)) b we.1 in
+      (under_one (below_value o s) s past_a_value suc (past_value_erases o s) (sort_of_type t)) b we.2 in
       here_by (place_at c) _ (Let Lifted (Let o (erased s a) d) body) _ (Let o (erased s a) (Let Lifted d (ren (upr suc) body))) (ap (λ r. Let r (Let o (erased s a) d) body) h)
       (ap₂ (λ r x. Let o (erased s a) (Let r d x)) h moved) row_let_of_let
   row_erased c _ _ (nrow_let_of_group {t = t} {bs = bs} {e = e} {b = b} h) pl we wd se sd =
@@ -148,7 +148,7 @@ module _ (G : Known) (D : Name → Term → Type 0) where
       let d = erased i e in
       let body = erased (below_value (sort_of_type t) s) b in
       let moved = moved_expr (below_value (sort_of_type t) i) (below_value (sort_of_type t) s) (below_one_value (past_values (bind_count bs))) (upr (λ n. bind_count bs + n))
-      (under_one i s (past_values (bind_count bs)) (λ n. bind_count bs + n) (past_group_erases bs s) (sort_of_type t)) b we.1
+      (under_one i s (past_values (bind_count bs)) (λ n. bind_count bs + n) (past_group_erases bs s) (sort_of_type t)) b we.2
       ∙ ap (λ k. ren (upr (λ n. k + n)) body) (sym (rights_count i bs)) in
       here_by (place_at c) _ (Let Lifted (Rec ts d) body) _ (Rec ts (Let Lifted d (ren (upr (λ n. count ts + n)) body))) (ap (λ r. Let r (Rec ts d) body) h)
       (ap₂ (λ r x. Rec ts (Let r d x)) h moved) row_let_of_group
@@ -184,7 +184,7 @@ module _ (G : Known) (D : Name → Term → Type 0) where
       let con = Con n (arg_sorts i named) (erased_args i named) in
       let body = erased (below_value (sort_of_type t) s) b in
       let moved = moved_expr (below_value (sort_of_type t) i) (below_value (sort_of_type t) s) (below_one_value past_a_value) (upr suc)
-      (under_one i s past_a_value suc (past_value_erases o s) (sort_of_type t)) b we.1 in
-      let back : Con n (arg_sorts s args) (erased_args s args) ≡ sub (push x Var) con = ap₂ (Con n) (sym (field_sorts s o e f h)) (sym (field_put s o e f we.0.0)) in
+      (under_one i s past_a_value suc (past_value_erases o s) (sort_of_type t)) b we.2 in
+      let back : Con n (arg_sorts s args) (erased_args s args) ≡ sub (push x Var) con = ap₂ (Con n) (sym (field_sorts s o e f h)) (sym (field_put s o e f we.1.0)) in
       here_by (place_at c) _ (Let (sort_of_type t) (sub (push x Var) con) body) _ (Let o x (Let (sort_of_type t) con (ren (upr suc) body))) (ap (λ y. Let (sort_of_type t) y body) back)
       (ap (λ y. Let o x (Let (sort_of_type t) con y)) moved) (row_reduces reduces_named_part)

@@ -4,7 +4,7 @@ use Rattle.fc_syntax.specs.declared.expr.Head.{Head}
 use Rattle.fc_model.specs.Erasure.{Scope, no_scope, below, below_all, below_binds, below_joins, below_join, below_value, binder_sorts, erased, erased_alts, erased_head, erased_joins, erased_rights}
 use Rattle.fc_model.specs.Erasure.{lambdas, sort_of_type}
 use Rattle.fc_model.specs.Nameless.{NTy, NBinder, NBValue, NBType, NBCo, NExpr, NBinds, NJoins, NAlts}
-use Rattle.fc_model.specs.Terms.{Sort, Lifted, Unlifted, lifteds, IsSorted}
+use Rattle.fc_model.specs.Terms.{Sort, Lifted, Unlifted, lifteds, AreSorted, IsSorted}
 use Rattle.fc_counted.specs.Places.{Place, Outside, InBody, PastLet, PastGroup, InAlt, heads_of, sorts_in}
 
 -- the binders above a place
@@ -55,13 +55,13 @@ place_at (NPastJoins js ks c) =
 place_at (NInAlt xt s t alts h bs c) =
     InAlt (sort_of_type xt) (erased (scope_at c) s) (erased (scope_at c) t) (heads_of (erased_alts (below_value (sort_of_type xt) (scope_at c)) alts)) (erased_head h bs) (place_at c)
 
--- what lets bind above a place is sorted
+-- what lets and groups bind above a place is sorted
 abbrev pub IsPlaceSorted : NPlace → Type 0
 IsPlaceSorted NOutside = Unit {0}
 IsPlaceSorted (NBelow b c) = IsPlaceSorted c
 IsPlaceSorted (NBelowAll bs c) = IsPlaceSorted c
 IsPlaceSorted (NPastLet t d e c) = IsSorted (sorts_in (place_at c)) (erased (scope_at c) d) × IsPlaceSorted c
-IsPlaceSorted (NPastGroup bs cs c) = IsPlaceSorted c
+IsPlaceSorted (NPastGroup bs cs c) = AreSorted (sorts_in (place_at (NPastGroup bs cs c))) (erased_rights (below_binds bs (scope_at c)) bs) × IsPlaceSorted c
 IsPlaceSorted (NPastJoin ps d e c) = IsPlaceSorted c
 IsPlaceSorted (NPastJoins js ks c) = IsPlaceSorted c
 IsPlaceSorted (NInAlt xt s t alts h bs c) = IsPlaceSorted c

@@ -8,10 +8,10 @@ use Rattle.fc_meaning.proofs.WrittenExpressions.{IsWritten}
 use Rattle.fc_counted.specs.Changes.{Change, PartRelation}
 use Rattle.fc_counted.specs.CountingLaws.{Tested}
 use Rattle.fc_counted.specs.Places.{Place, sorts_in}
-use Rattle.fc_term_rows.specs.Facts.{Fact}
-use Rattle.fc_term_rows.specs.TermRowLaws.{KnownBy, PutBy}
+use Rattle.fc_term_rows.specs.TermRowLaws.{PutBy}
 use Rattle.fc_term_rows.specs.TermRows.{TermRow}
 use Rattle.fc_row_places.specs.KnowingRows.{NKnowingRow}
+use Rattle.fc_row_places.specs.NamelessFacts.{ErasedKnown, NFact, NKnownBy}
 use Rattle.fc_row_places.specs.NamelessChanges.{NChange, NPartRelation}
 use Rattle.fc_row_places.specs.NamelessPlaces.{IsPlaceSorted, NPlace, place_at, scope_at}
 
@@ -33,4 +33,4 @@ ChangesErase = (test : NPlace → NExpr → NExpr → Bool) (terms : Place → T
 
 -- rewrites of the nameless tree are rewrites of terms, whatever is known of top-level names
 abbrev pub RewritesErase : Type 0
-RewritesErase = (known : Name → Fact → Bool) (put : Name → Term → Bool) → PartsErase NKnowingRow (TermRow (KnownBy known) (PutBy put))
+RewritesErase = (known : Name → NFact → Bool) (put : Name → Term → Bool) → PartsErase (NKnowingRow (NKnownBy known)) (TermRow (ErasedKnown (NKnownBy known)) (PutBy put))

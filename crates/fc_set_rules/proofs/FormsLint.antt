@@ -12,7 +12,7 @@ use Rattle.fc_resolved_names.proofs.Scoped.{in_none}
 use Rattle.fc_set_rules.specs.FormsDecide.{AllResolve, FormsDecideLint, none_resolve, offered_names, one_resolves}
 use Rattle.fc_set_rules.specs.SetRules.{AllHold, HoldsInSet, ResolvesAmong, no_modules, one_module, resolves_among}
 use Rattle.fc_set_rules.proofs.FoundAmong.{decls_among}
-use Rattle.fc_set_rules.proofs.NamesOffered.{found_offered}
+use Rattle.fc_set_rules.proofs.NamesOffered.{offered_goes, offered_own, offered_said}
 use Rattle.fc_set_rules.proofs.SetsAre.{hold_forms, set_is_by_cases}
 
 -- names of other modules are among what they have for others, whatever words binders have
@@ -20,7 +20,7 @@ offered_alike : (offers : Offers) {m k : Module} {n : NModule} → ImportsOthers
 offered_alike offers others (resolves_among {m = m} {imports = imports} {exports = exports} {hidden = hidden} {ds = ds} rules) (resolves_module {ds = es} alone) =
     let top = top_among offers (ModuleOf m imports exports hidden ds) in
     resolves_among (decls_among (top_of (ModuleOf m imports exports hidden es)) offers (in_none imports no_word m others refl) alone
-    (names_hold top (offered_names top.own top.offers) (found_offered top) rules))
+    (names_hold top (offered_names top.own top.offers) (offered_goes top) (offered_said top) (offered_own top) rules))
 
 all_alike : (forms : List NModule) {ms ks : List Module} {ns : List NModule} → AllHold forms ms ns → All ImportsOthers ns → AllResolve ks ns → AllHold forms ks ns
 all_alike forms no_modules others none_resolve = no_modules

@@ -6,7 +6,9 @@ use Rattle.fc_syntax.specs.Tree.{Word}
 use Rattle.fc_model.specs.Resolution.{Top, WordSet, declared_name}
 use Rattle.fc_model.proofs.Parts.{need_inv, ok_ok}
 use Rattle.fc_model.proofs.Sameness.{bytes_eq_refl}
-use Rattle.fc_resolved_names.proofs.NamesHold.{HoldsOfFound}
+use Rattle.fc_used_words.specs.Scoped.{Saying}
+use Rattle.fc_resolved_names.proofs.NamesHold.{IsSaidOfOwn}
+use Rattle.fc_resolved_names.proofs.Obeying.{AreSaid, Goes}
 use Rattle.fc_set_rules.specs.FormsDecide.{IsOffered, offered_names}
 
 not_itself : (w : Word) → bytes_eq w w ≡ false → ⊥
@@ -21,14 +23,33 @@ name_offered top words offered (Some v) w m h =
     let q = need_inv (offered v w) NotExported _ m p.1 in
     subst (IsOffered top.own offered) (ok_ok q.1) (λ other. q.0)
 
-pub found_offered : (top : Top) → HoldsOfFound top (offered_names top.own top.offers)
-found_offered top = record {
-  type_at = λ k i low. tt;
-  value_at = λ k i low. tt;
-  join_at = λ k i low. tt;
-  coercion_at = λ k i low. tt;
-  type_name = name_offered top top.types top.offers.types;
-  axiom_name = name_offered top top.coercions top.offers.coercions;
-  constructor = name_offered top top.terms top.offers.terms;
-  definition = name_offered top top.terms top.offers.terms;
-}
+module _ (top : Top) where
+  abbrev Offered : Saying
+  Offered = offered_names top.own top.offers
+
+  pub offered_goes : Goes Offered
+  offered_goes = record {
+    type_here = λ k. tt;
+    type_past = λ k i h. tt;
+    type_back = λ k i h. tt;
+    value_here = λ k. tt;
+    value_past = λ k i h. tt;
+    value_back = λ k i h. tt;
+    join_here = λ k. tt;
+    join_past = λ k i h. tt;
+    join_back = λ k i h. tt;
+    coercion_here = λ k. tt;
+    coercion_past = λ k i h. tt;
+    coercion_back = λ k i h. tt;
+  }
+
+  pub offered_said : AreSaid top Offered
+  offered_said = record {
+    type_name = λ n m h. name_offered top top.types top.offers.types n.module n.text m h;
+    axiom_name = λ n m h. name_offered top top.coercions top.offers.coercions n.module n.text m h;
+    constructor = λ n m h. name_offered top top.terms top.offers.terms n.module n.text m h;
+    imported = λ v w m h. name_offered top top.terms top.offers.terms (Some v) w m h;
+  }
+
+  pub offered_own : IsSaidOfOwn top Offered
+  offered_own w m h = name_offered top top.terms top.offers.terms None w m h

@@ -1,16 +1,17 @@
 -- Sets that lint are those of which the rules hold.
-use Rattle.std.proofs.Common.{◌≡◌, ◌∙◌, ◌↔◌, List, [], ◌∷◌, Result, Ok, Err, refl, sym, subst}
-use Rattle.fc_syntax.specs.Tree.{Word, Module, ModuleOf}
+use Rattle.std.proofs.Common.{◌≡◌, ◌∙◌, ◌↔◌, List, [], ◌∷◌, Result, Ok, refl, sym, subst}
+use Rattle.fc_syntax.specs.Tree.{Module, ModuleOf}
 use Rattle.fc_model.specs.Faulting.{F, and_then}
 use Rattle.fc_model.specs.Headers.{name_of, ndecls_in}
 use Rattle.fc_model.specs.Kinding.{decls_at}
-use Rattle.fc_model.specs.Linting.{Done, done, InModule, SetLints, declarations_judged, exports_judged, in_module, lint_or_fault, module_judged, modules_judged, nameless_forms, offers_of}
+use Rattle.fc_model.specs.Linting.{Done, done, SetLints, declarations_judged, exports_judged, lint_or_fault, module_judged, modules_judged, nameless_forms, offers_of}
 use Rattle.fc_model.specs.Nameless.{NModule, NModuleOf}
 use Rattle.fc_model.specs.Resolution.{Offers, no_words, offers_all, resolved_among, resolved_decls, resolved_or_fault, top_among}
 use Rattle.fc_model.proofs.LintedIs.{lint_is}
 use Rattle.fc_model.proofs.Parts.{and_then_inv, ok_ok}
 use Rattle.fc_model.proofs.ResolvedMore.{OffersMore, resolved_more}
 use Rattle.fc_model.proofs.ResolvedModulesAre.{decls_are_resolved, module_is_resolved, resolved_decls_are, resolved_module_is}
+use Rattle.fc_model.proofs.SetWritten.{judged_first}
 use Rattle.fc_set_rules.specs.SetRules.{AllHold, HoldsInSet, ResolvesAmong, SetHolds, no_modules, one_module, resolves_among}
 
 is_done : (r : Result Done F) (d : Done) → r ≡ Ok d → r ≡ Ok done
@@ -58,10 +59,6 @@ holds_judged ns m n h =
     rw (module_is_resolved h.resolves, p.0, among_is_resolved h.offered, p.1) refl
 
 -- ---- a set
-
-judged_first : (r : Result Done F) (m : Word) (rest : Result Done InModule) → in_module m r rest ≡ Ok done → (r ≡ Ok done) × (rest ≡ Ok done)
-judged_first (Ok done) m rest h = (refl, h)
-judged_first (Err f) m rest h = absurd cc
 
 pub all_hold : (ns : List NModule) (ms : List Module) → modules_judged ns ms ≡ Ok done → AllHold ns ms (nameless_forms ms)
 all_hold ns [] h = no_modules

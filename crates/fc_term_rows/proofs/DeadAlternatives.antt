@@ -12,7 +12,7 @@ use Rattle.fc_term_rows.proofs.SameHeads as same
 
 among_misses : (k : Key) (h : Head) (hs : List Head) → IsAmong h hs → AllMiss k hs → matches k h ≡ false
 among_misses k h [] a w = elim a [ ]
-among_misses k h (_ ∷ hs) among_first w = w.0
+among_misses k h (_ ∷ hs) (among_first alike) w = alike k ∙ w.0
 among_misses k h (_ ∷ hs) (among_later a) w = among_misses k h hs a w.1
 
 pub without_sub : (p : Closing) {h : Head} {alts blts : Alts} → Without h alts blts → Without h (sub_alts p alts) (sub_alts p blts)

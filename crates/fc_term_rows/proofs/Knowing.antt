@@ -54,7 +54,7 @@ lit_taken (LitKey y) x ss ts z s e = shape_lit y x ss ts s ∙ ap Lit (int_eq_eq
 lit_taken (ConKey c) x ss ts z s e = absurd (false_true e)
 lit_taken LamKey x ss ts z s e = absurd (false_true e)
 
-head_none : (P : Program) (t h : Term) (l : ℕ) → Reaches P t l h → IsHead h → NoneTakes P t []
+pub head_none : (P : Program) (t h : Term) (l : ℕ) → Reaches P t l h → IsHead h → NoneTakes P t []
 head_none P t (Lit z) l r w = record { steps = l; head = Lit z; key = LitKey z; ss = []; ts = Nil; there = r; shape = literal_shape; misses = tt }
 head_none P t (Lam s b) l r w = record { steps = l; head = Lam s b; key = LamKey; ss = []; ts = Nil; there = r; shape = lambda_shape; misses = tt }
 head_none P t (Con c ss ts) l r w = record { steps = l; head = Con c ss ts; key = ConKey c; ss = ss; ts = ts; there = r; shape = constructor_shape; misses = tt }

@@ -5,7 +5,8 @@ use Rattle.fc_model.specs.Erasure.{lambdas}
 use Rattle.fc_model.specs.Stepping.{Program, AppTo, plug, next}
 use Rattle.fc_model.specs.Terms.{Sort, Term, App, Lam, Let, Terms, Nil, Cons, count, ren_terms, sub, sub_terms, push, pushes, up}
 use Rattle.fc_counted.specs.Closings.{Closing}
-use Rattle.fc_counted.proofs.TermSubstitutions.{put_one, count-ren}
+use Rattle.fc_meaning.proofs.Unnamed.{count-ren}
+use Rattle.fc_counted.proofs.TermSubstitutions.{put_one}
 use Rattle.fc_term_rows.specs.Heads.{SameHeads}
 use Rattle.fc_term_rows.specs.TermRows.{lets, applied_term, case_last, past_case_binder}
 use Rattle.fc_term_rows.proofs.Instances.{pushes_past}

@@ -3,7 +3,7 @@ use Rattle.std.specs.Prelude.{◌≡◌, ℕ, zero, suc, ◌+◌, ℤ, if◌then
 use Rattle.fc_syntax.specs.declared.expr.PrimOp.{PrimOp}
 use Rattle.fc_syntax.specs.declared.ty.Name.{Name}
 use Rattle.fc_model.specs.Erasure.{lambdas}
-use Rattle.fc_model.specs.Stepping.{Program, Frame, AppTo, CaseOf, plug, Key, LitKey, ConKey, LamKey, Bare, Fielded, choose, on_literals}
+use Rattle.fc_model.specs.Stepping.{Program, Frame, AppTo, CaseOf, plug, Key, LitKey, ConKey, LamKey, Bare, Fielded, choose, matches, on_literals}
 use Rattle.fc_model.specs.Terms.{Sort, Lifted, Unlifted, Head, Default, OfLit, OfCon, Term, Lit, Var, Global, Fail, App, Lam, Let, Rec, Case, Con, Prim, Terms, Nil, Cons, Alts, NoAlt, Alt, binders}
 use Rattle.fc_model.specs.Terms.{count, ren, ren_terms, ren_alts, shift, sub, push, pushes, ups, upr, InRange, IsAtom, IsSorted, AreSorted, HasSorts}
 use Rattle.fc_meaning.specs.Laws.{SortedProgram}
@@ -49,9 +49,13 @@ pub data Without : Head → Alts → Alts → Type 0 where
   without_first : {h : Head} {b : Term} {alts : Alts} → Without h (Alt h b alts) alts
   without_later : {h k : Head} {b : Term} {alts blts : Alts} → Without h alts blts → Without h (Alt k b alts) (Alt k b blts)
 
--- the head is one of these
+-- a case that looks for one head finds it exactly where it finds the other
+abbrev pub AreFoundAlike : Head → Head → Type 0
+AreFoundAlike h k = (key : Key) → matches key h ≡ matches key k
+
+-- the head is found as one of these is
 pub data IsAmong (h : Head) : List Head → Type 0 where
-  among_first : {hs : List Head} → IsAmong h (h ∷ hs)
+  among_first : {k : Head} {hs : List Head} → AreFoundAlike h k → IsAmong h (k ∷ hs)
   among_later : {k : Head} {hs : List Head} → IsAmong h hs → IsAmong h (k ∷ hs)
 
 abbrev pub IsNoDefault : Head → Type 0

@@ -1,4 +1,4 @@
--- Every name of what resolves obeys what is said of the words in scope and of the names of declarations; so it is found again in its scope.
+-- Every name of what resolves obeys what is said of the words in scope and of the names of declarations.
 use Rattle.std.proofs.Common.{◌≡◌, ℕ, zero, suc, ◌+◌, Bool, true, false, if◌then◌else◌, List, ◌∷◌, Option, Some, None, option_map, Ok, bytes_eq, refl, sym, ap, subst, arith}
 use Rattle.fc_syntax.specs.declared.ty.Name.{Name}
 use Rattle.fc_syntax.specs.declared.expr.Head.{Head}
@@ -18,7 +18,23 @@ use Rattle.fc_model.specs.ResolutionRules.{ResolvesArg, resolves_term, resolves_
 use Rattle.fc_model.specs.ResolutionRules.{ResolvesBinds, resolves_no_binds, resolves_binds, ResolvesJoins, resolves_no_joins, resolves_joins, ResolvesAlts, resolves_no_alts, resolves_alts}
 use Rattle.fc_used_words.specs.Scoped.{Counts, Saying, in_binder, in_binders, in_coercion, in_group, in_join, in_joins, in_type, in_value}
 use Rattle.fc_used_words.specs.Scoped.{HoldsAlts, HoldsArg, HoldsArgs, HoldsBinder, HoldsBinders, HoldsBinds, HoldsCo, HoldsCos, HoldsExpr, HoldsExprs, HoldsHead, HoldsJoins, HoldsTy}
-use Rattle.fc_named_subst.proofs.PutIn.{Goes}
+
+-- SAYINGS
+
+-- what is said of the innermost variable always holds, and of a variable one binder further in what is said of it here
+pub record Goes (P : Saying) : Type 0 where
+  pub type_here : (k : ℕ) → P.type_at (suc k) zero
+  pub type_past : (k i : ℕ) → P.type_at k i → P.type_at (suc k) (suc i)
+  pub type_back : (k i : ℕ) → P.type_at (suc k) (suc i) → P.type_at k i
+  pub value_here : (k : ℕ) → P.value_at (suc k) zero
+  pub value_past : (k i : ℕ) → P.value_at k i → P.value_at (suc k) (suc i)
+  pub value_back : (k i : ℕ) → P.value_at (suc k) (suc i) → P.value_at k i
+  pub join_here : (k : ℕ) → P.join_at (suc k) zero
+  pub join_past : (k i : ℕ) → P.join_at k i → P.join_at (suc k) (suc i)
+  pub join_back : (k i : ℕ) → P.join_at (suc k) (suc i) → P.join_at k i
+  pub coercion_here : (k : ℕ) → P.coercion_at (suc k) zero
+  pub coercion_past : (k i : ℕ) → P.coercion_at k i → P.coercion_at (suc k) (suc i)
+  pub coercion_back : (k i : ℕ) → P.coercion_at (suc k) (suc i) → P.coercion_at k i
 
 -- LOOKING A WORD UP
 
@@ -30,7 +46,7 @@ one_more (Some j) i h = (j, refl, omega (arith, some_some (j + 1) i h))
 one_more None i h = absurd cc
 
 -- what is said of the innermost word and of the others is said of the one that is found
-found_below : (Q : ℕ → Type 0) (v w : Word) (vs : List Word) (i : ℕ) → Q zero → ((j : ℕ) → index_of vs w ≡ Some j → Q (suc j)) → index_of (v ∷ vs) w ≡ Some i → Q i
+pub found_below : (Q : ℕ → Type 0) (v w : Word) (vs : List Word) (i : ℕ) → Q zero → ((j : ℕ) → index_of vs w ≡ Some j → Q (suc j)) → index_of (v ∷ vs) w ≡ Some i → Q i
 found_below Q v w vs i here past = by (bytes_eq v w)
   where
     by : (b : Bool) → (if b then Some 0 else option_map (λ j. j + 1) (index_of vs w)) ≡ Some i → Q i
@@ -162,12 +178,12 @@ module _ {top : Top} {P : Saying} (goes : Goes P) (said : AreSaid top P) where
       nowhere w m true h = absurd cc
       nowhere w m false h = r.definitions w m (nowhere_past_join (found_term s.terms w) h)
 
-  in_a_binder : {s : Locals} {b : Binder} {c : NBinder} → ResolvesBinder top s b c → (k : Counts) → Reach s k → Reach (enter b s) (in_binder c k)
+  pub in_a_binder : {s : Locals} {b : Binder} {c : NBinder} → ResolvesBinder top s b c → (k : Counts) → Reach s k → Reach (enter b s) (in_binder c k)
   in_a_binder {s = s} (resolves_value_binder {x = x} t) k r = in_a_value x s k r
   in_a_binder {s = s} (resolves_type_binder {a = a}) k r = in_a_type a s k r
   in_a_binder {s = s} (resolves_coercion_binder {c = c} t u) k r = in_a_coercion c s k r
 
-  in_all_binders : {s : Locals} {ws : Words} {bs : List Binder} {cs : List NBinder} → ResolvesBinders top s ws bs cs → (k : Counts) → Reach s k → Reach (enter_all bs s) (in_binders cs k)
+  pub in_all_binders : {s : Locals} {ws : Words} {bs : List Binder} {cs : List NBinder} → ResolvesBinders top s ws bs cs → (k : Counts) → Reach s k → Reach (enter_all bs s) (in_binders cs k)
   in_all_binders resolves_no_binders k r = r
   in_all_binders (resolves_binders {c = c} new b bs) k r = in_all_binders bs (in_binder c k) (in_a_binder b k r)
 
@@ -219,16 +235,16 @@ module _ {top : Top} {P : Saying} (goes : Goes P) (said : AreSaid top P) where
     cos_obey resolves_no_coercions k r = tt
     cos_obey (resolves_coercions g gs) k r = (co_obeys g k r, cos_obey gs k r)
 
-  binder_obeys : {s : Locals} {b : Binder} {c : NBinder} → ResolvesBinder top s b c → (k : Counts) → Reach s k → HoldsBinder P k c
+  pub binder_obeys : {s : Locals} {b : Binder} {c : NBinder} → ResolvesBinder top s b c → (k : Counts) → Reach s k → HoldsBinder P k c
   binder_obeys {s = s} (resolves_value_binder t) k r = ty_obeys t s k refl r
   binder_obeys resolves_type_binder k r = tt
   binder_obeys {s = s} (resolves_coercion_binder t u) k r = (ty_obeys t s k refl r, ty_obeys u s k refl r)
 
-  binders_obey : {s : Locals} {ws : Words} {bs : List Binder} {cs : List NBinder} → ResolvesBinders top s ws bs cs → (k : Counts) → Reach s k → HoldsBinders P k cs
+  pub binders_obey : {s : Locals} {ws : Words} {bs : List Binder} {cs : List NBinder} → ResolvesBinders top s ws bs cs → (k : Counts) → Reach s k → HoldsBinders P k cs
   binders_obey resolves_no_binders k r = tt
   binders_obey (resolves_binders {c = c} new b bs) k r = (binder_obeys b k r, binders_obey bs (in_binder c k) (in_a_binder b k r))
 
-  head_obeys : {h x : Head} → ResolvesHead top h x → HoldsHead P x
+  pub head_obeys : {h x : Head} → ResolvesHead top h x → HoldsHead P x
   head_obeys resolves_default = tt
   head_obeys resolves_literal_head = tt
   head_obeys (resolves_constructor_head {n = n} {m = m} h) = said.constructor n m h

@@ -1,0 +1,2 @@
+pub mod ErasedMentions
+pub mod ReplaysMeant

@@ -1,0 +1,3 @@
+pub mod NamesDeclared
+pub mod NeededClosed
+pub mod StepsKept

@@ -1,0 +1,3 @@
+pub mod DefinitionsDropped
+pub mod LintKept
+pub mod TypesKept

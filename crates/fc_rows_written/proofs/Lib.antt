@@ -1,0 +1,5 @@
+pub mod ChangesWritten
+pub mod CommutingWritten
+pub mod RowsWritten
+pub mod ShrinkingWritten
+pub mod SurroundingsWritten

@@ -1,0 +1,9 @@
+pub mod AmongTold
+pub mod Growing
+pub mod Headed
+pub mod HeadersKept
+pub mod InOrder
+pub mod Mentions
+pub mod Reached
+pub mod SetsKept
+pub mod Told
