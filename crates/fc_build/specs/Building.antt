@@ -8,7 +8,7 @@ use Rattle.fc_model.specs.Grammar.{Interface, InterfaceOf}
 use Rattle.fc_model.specs.Headers.{name_of}
 use Rattle.fc_model.specs.InterfaceTexts.{interface_text}
 use Rattle.fc_model.specs.Linting.{SetLints, nameless_forms}
-use Rattle.fc_model.specs.Nameless.{NDecl, NData, NNew, NFamily, NAxiom, NDef, NWrap, NModule, NModuleOf}
+use Rattle.fc_model.specs.Nameless.{NModule, NModuleOf}
 use Rattle.fc_model.specs.Planning.{is_among}
 use Rattle.fc_model.specs.Programs.{IsMainExpression}
 use Rattle.fc_model.specs.ResolutionRules.{Resolves}
@@ -24,21 +24,12 @@ use Rattle.fc_reaching.specs.Numbering.{word_of}
 use Rattle.fc_reaching.specs.Recursion.{AreRecursive}
 use Rattle.fc_rows.specs.Replaying.{Replays}
 use Rattle.fc_rows.specs.Telling.{reached_by_imports, told_module}
+use Rattle.fc_set_types.specs.SetsReplayed.{type_declarations}
 use Rattle.fc_words.specs.Asking.{Order, Building, Explaining, Linting}
 use Rattle.fc_words.specs.declared.Tuning.{Tuning}
 use Rattle.fc_build.specs.Product.{Step, built_step, core_name, explained_step, interface_name, interface_written, linted_step, log_name}
 
 -- WHAT A MODULE OFFERS
-
--- its declarations of types: data types, newtypes, families and axioms
-abbrev pub type_declarations : List NDecl → List NDecl
-type_declarations [] = []
-type_declarations (NData n ps cs ∷ ds) = NData n ps cs ∷ type_declarations ds
-type_declarations (NNew n ps t con ∷ ds) = NNew n ps t con ∷ type_declarations ds
-type_declarations (NFamily n ps k ∷ ds) = NFamily n ps k ∷ type_declarations ds
-type_declarations (NAxiom n ps t u ∷ ds) = NAxiom n ps t u ∷ type_declarations ds
-type_declarations (NDef n t e ∷ ds) = type_declarations ds
-type_declarations (NWrap n t e ∷ ds) = type_declarations ds
 
 -- two modules have one name, export the same words, each that is of a definition at the same type, and have the same declarations of types
 abbrev pub OffersTheSame : NModule → NModule → Type 0

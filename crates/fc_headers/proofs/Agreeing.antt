@@ -1,14 +1,13 @@
 -- The form of a module that resolves mentions no module but itself and those that it imports. So its written header is that of the module.
-use Rattle.std.proofs.Common.{◌≡◌, Bool, true, false, not, ◌&&◌, bytes_eq, if◌then◌else◌, List, [], ◌∷◌, ◌++◌, Option, Some, None, Ok, append-nil, refl, sym, ap, ◌∙◌, subst}
+use Rattle.std.proofs.Common.{◌≡◌, true, List, ◌∷◌, ◌++◌, Option, Some, None, Ok, append-nil, refl, sym, ap, ◌∙◌, subst}
 use Rattle.std.specs.List.{flat_map, list_all}
-use Rattle.std.proofs.lemmas.Bool.{and_parts}
 use Rattle.std.proofs.lemmas.List.Concat.{flat_map-cons}
 use Rattle.fc_syntax.specs.declared.ty.Name.{Name}
 use Rattle.fc_syntax.specs.declared.expr.Head.{Head}
 use Rattle.fc_syntax.specs.declared.fault.FaultKind.TheVariants.{NotExported, Unbound}
 use Rattle.fc_syntax.specs.Tree.{Word, Ty, Co, Cos, Binder, Arg, Args, Expr, Exprs, Binds, Joins, Alts, ConDecl, Decl, ModuleOf}
 use Rattle.fc_model.specs.Faulting.{and_then}
-use Rattle.fc_model.specs.Headers.{hidden_of, others, words_but, written_among}
+use Rattle.fc_model.specs.Headers.{hidden_of, others, written_among}
 use Rattle.fc_model.specs.Mentioning.{in_head, in_name}
 use Rattle.fc_model.specs.Nameless.{NTy, NCo, NCos, NBinder, NArg, NArgs, NExpr, NExprs, NBinds, NJoins, NAlts, NConDecl, NConOf, NDecl, NModuleOf}
 use Rattle.fc_model.specs.Resolution.{Locals, Top, WordSet, Words, declared_name, no_word, no_words, plus, plus_all, resolved_decls, resolved_or_fault, top_of}
@@ -28,12 +27,13 @@ use Rattle.fc_model.specs.ResolutionRules.{ResolvesDecl, resolves_data, resolves
 use Rattle.fc_model.proofs.Parts.{and_then_inv, need_inv, ok_ok}
 use Rattle.fc_model.proofs.Resolved.{decls_have_words}
 use Rattle.fc_model.proofs.ResolvedModulesAre.{resolved_decls_are}
-use Rattle.fc_model.proofs.Sameness.{bytes_eq_eq, bytes_eq_refl, false_true}
+use Rattle.fc_model.proofs.Sameness.{bytes_eq_refl, false_true}
 use Rattle.fc_model.proofs.SetWritten.{written_alone}
 use Rattle.fc_model.proofs.UnderHeader.{all_are_in, all_keep, all_of_both}
 use Rattle.fc_headers.specs.NamelessHeaders.{HeadersAgree, form_written_among, hidden_of_form, imports_of_form}
 use Rattle.fc_headers.specs.NamelessHeaders.{modules_in_alts, modules_in_arg, modules_in_args, modules_in_binder, modules_in_binds, modules_in_coercion, modules_in_coercions, modules_in_constructor}
 use Rattle.fc_headers.specs.NamelessHeaders.{modules_in_decl, modules_in_decls, modules_in_expr, modules_in_exprs, modules_in_joins, modules_in_type}
+use Rattle.fc_model.proofs.SetWritten.{in_all, none_chosen}
 
 -- WHAT A FORM MENTIONS is known, where the module itself is, and each that it imports
 module _ (top : Top) (known : WordSet) (itself : known top.own ≡ true)
@@ -165,29 +165,8 @@ module _ (top : Top) (known : WordSet) (itself : known top.own ≡ true)
 
 -- SETS
 
--- a word of a set is in another, where all that were put in are
-plus_in : (p s : WordSet) (v w : Word) (b : Bool) → bytes_eq v w ≡ b → p v ≡ true → (s w ≡ true → p w ≡ true) → (if b then true else s w) ≡ true → p w ≡ true
-plus_in p s v w true same here there h = subst (λ x. p x ≡ true) (bytes_eq_eq v w same) here
-plus_in p s v w false same here there h = there h
-
-in_all : (p s : WordSet) (ws : List Word) → list_all p ws ≡ true → ((w : Word) → s w ≡ true → p w ≡ true) → (w : Word) → plus_all ws s w ≡ true → p w ≡ true
-in_all p s [] all rest w h = rest w h
-in_all p s (v ∷ ws) all rest w h =
-    let a = and_parts (p v) (list_all p ws) all in in_all p (plus v s) ws a.1 (λ u g. plus_in p s v u (bytes_eq v u) refl a.0 (rest u) g) w h
-
 among : (p : WordSet) (ws : List Word) → list_all p ws ≡ true → (w : Word) → plus_all ws no_word w ≡ true → p w ≡ true
 among p ws all w h = in_all p no_word ws all (λ v g. false_true g) w h
-
--- nothing is chosen but what is left out
-skipped : (b c : Bool) (w : Word) (ws : List Word) → (b ≡ true → c ≡ true) → (if b && not c then w ∷ ws else ws) ≡ ws
-skipped true true w ws h = refl
-skipped false true w ws h = refl
-skipped false false w ws h = refl
-skipped true false w ws h = false_true (h refl)
-
-none_chosen : (chosen but : WordSet) (ws : List Word) → ((w : Word) → chosen w ≡ true → but w ≡ true) → words_but chosen but ws ≡ []
-none_chosen chosen but [] within = refl
-none_chosen chosen but (w ∷ ws) within = skipped (chosen w) (but w) w (words_but chosen but ws) (within w) ∙ none_chosen chosen but ws within
 
 -- THE LAW
 

@@ -4,19 +4,14 @@ use Rattle.fc_syntax.specs.Tree.{Word}
 use Rattle.fc_syntax.specs.declared.ty.Name.{Name}
 use Rattle.fc_model.specs.Erasure.{erased, no_scope}
 use Rattle.fc_model.specs.Headers.{ndecls_in}
-use Rattle.fc_model.specs.Kinding.{Modules, decls_at, decls_of_module, same_word}
-use Rattle.fc_model.specs.LintingRules.{DefinitionsHold, no_definitions, one_definition, def_holds, wrap_holds, data_defines_nothing, newtype_defines_nothing, family_defines_nothing}
-use Rattle.fc_model.specs.LintingRules.{axiom_defines_nothing}
+use Rattle.fc_model.specs.Kinding.{decls_at, decls_of_module, same_word}
+use Rattle.fc_model.specs.LintingRules.{DefinitionsHold}
 use Rattle.fc_model.specs.Nameless.{NDecl, NData, NNew, NFamily, NAxiom, NDef, NWrap, NModule, NModuleOf}
 use Rattle.fc_model.specs.Programs.{right_side}
 use Rattle.fc_model.specs.Stepping.{Program}
 use Rattle.fc_model.specs.Terms.{Term, IsSorted}
 use Rattle.fc_model.proofs.Sameness.{bytes_eq_refl}
 use Rattle.fc_meaning.specs.Laws.{SortedProgram}
-use Rattle.fc_meaning.proofs.HeldDeclarations.{AreHeld}
-use Rattle.fc_meaning.proofs.Optional.{some_is, none_some, found_has}
-use Rattle.fc_meaning.proofs.ScopesFit.{fits_closed}
-use Rattle.fc_meaning.proofs.SortedExpressions.{expr_sorted}
 use Rattle.fc_meaning.proofs.WrittenExpressions.{AreDeclsWritten}
 use Rattle.fc_counted.specs.Changes.{PartRelation, Change}
 use Rattle.fc_counted.specs.CountingLaws.{DefinitionChange, ProgramChange, SeesSame}
@@ -31,29 +26,9 @@ use Rattle.fc_row_places.specs.RowPlaceLaws.{PartsErase}
 use Rattle.fc_row_places.proofs.ErasedChanges.{erased_change}
 use Rattle.fc_reaching.specs.Numbering.{word_of}
 use Rattle.fc_kept_meaning.specs.MeaningKept.{IsOwn, with_module, HoldsModule, LintsAmong, DeclarationsChange, no_changed_declarations, same_declaration, changed_def, changed_wrap}
+use Rattle.fc_meaning.proofs.SortedErasure.{AreRightsSorted, right_side_sorted, rights_sorted}
 
 -- RIGHT SIDES
-
-abbrev pub IsRightSorted : NDecl → Type 0
-IsRightSorted (NData n ps cs) = Unit {0}
-IsRightSorted (NNew n ps t con) = Unit {0}
-IsRightSorted (NFamily n ps k) = Unit {0}
-IsRightSorted (NAxiom n ps t u) = Unit {0}
-IsRightSorted (NDef n t e) = IsSorted [] (erased no_scope e)
-IsRightSorted (NWrap n t e) = IsSorted [] (erased no_scope e)
-
-abbrev pub AreRightsSorted : List NDecl → Type 0
-AreRightsSorted [] = Unit {0}
-AreRightsSorted (d ∷ ds) = IsRightSorted d × AreRightsSorted ds
-
-pub rights_sorted : {ms : Modules} {ds : List NDecl} → DefinitionsHold ms ds → AreHeld ms → AreDeclsWritten ds → AreRightsSorted ds
-rights_sorted no_definitions held w = tt
-rights_sorted {ms = ms} (one_definition (def_holds kind e) rest) held w = (expr_sorted ms held e no_scope [] fits_closed w.0, rights_sorted rest held w.1)
-rights_sorted {ms = ms} (one_definition (wrap_holds kind e) rest) held w = (expr_sorted ms held e no_scope [] fits_closed w.0, rights_sorted rest held w.1)
-rights_sorted (one_definition data_defines_nothing rest) held w = (tt, rights_sorted rest held w.1)
-rights_sorted (one_definition newtype_defines_nothing rest) held w = (tt, rights_sorted rest held w.1)
-rights_sorted (one_definition family_defines_nothing rest) held w = (tt, rights_sorted rest held w.1)
-rights_sorted (one_definition axiom_defines_nothing rest) held w = (tt, rights_sorted rest held w.1)
 
 -- the definitions of a module that lints among its imports hold
 pub own_definitions : (xs : List NModule) (m : NModule) → LintsAmong xs m → DefinitionsHold (decls_at (m ∷ xs)) (ndecls_in m)
@@ -64,20 +39,11 @@ own_definitions xs (NModuleOf own imports exports hidden ds) held =
 pub linted_rights : (xs : List NModule) (m : NModule) → LintsAmong xs m → AreDeclsWritten (ndecls_in m) → AreRightsSorted (ndecls_in m)
 linted_rights xs m held w = rights_sorted (own_definitions xs m held) held w
 
-right_sorted : (ds : List NDecl) (w : Word) (t : Term) → AreRightsSorted ds → right_side ds w ≡ Some t → IsSorted [] t
-right_sorted [] w t s e = absurd (none_some e)
-right_sorted (NData n ps cs ∷ ds) w t s e = right_sorted ds w t s.1 e
-right_sorted (NNew n ps u con ∷ ds) w t s e = right_sorted ds w t s.1 e
-right_sorted (NFamily n ps k ∷ ds) w t s e = right_sorted ds w t s.1 e
-right_sorted (NAxiom n ps u v ∷ ds) w t s e = right_sorted ds w t s.1 e
-right_sorted (NDef n u d ∷ ds) w t s e = found_has (IsSorted []) Some (λ x y same. some_is same) (bytes_eq n w) (erased no_scope d) t (right_side ds w) s.0 (λ q. right_sorted ds w t s.1 q) e
-right_sorted (NWrap n u d ∷ ds) w t s e = found_has (IsSorted []) Some (λ x y same. some_is same) (bytes_eq n w) (erased no_scope d) t (right_side ds w) s.0 (λ q. right_sorted ds w t s.1 q) e
-
 pub with_module_sorted : (n : NModule) (P : Program) → SortedProgram P → AreRightsSorted (ndecls_in n) → SortedProgram (with_module n P)
 with_module_sorted n P sp s x t e = go (same_word x.module (Some (word_of n))) e
   where
     go : (b : Bool) → (if b then right_side (ndecls_in n) x.text else P x) ≡ Some t → IsSorted [] t
-    go true q = right_sorted (ndecls_in n) x.text t s q
+    go true q = right_side_sorted (ndecls_in n) x.text t s q
     go false q = sp x t q
 
 -- CHANGES

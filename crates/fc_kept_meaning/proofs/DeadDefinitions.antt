@@ -16,7 +16,8 @@ use Rattle.fc_meaning.proofs.WrittenMeans.{mentions_more}
 use Rattle.fc_counted.specs.CountingLaws.{SeesSame}
 use Rattle.fc_rows.specs.Rewriting.{without_definitions}
 use Rattle.fc_reaching.specs.Numbering.{word_of}
-use Rattle.fc_kept_meaning.specs.MeaningKept.{with_module, HoldsModule, MayBeAsked, OthersKeepOut, KeepsMeaning, is_kept, IsDead, DeadTaken, takes_dead}
+use Rattle.fc_kept_meaning.specs.MeaningKept.{with_module, HoldsModule, MayBeAsked, OthersKeepOut, KeepsMeaning, IsDead, DeadTaken, takes_dead}
+use Rattle.fc_rows.specs.Dropping.{is_kept}
 
 -- a kept definition is found as before
 kept_step : (keep : Word → Bool) (v w : Word) (x : Term) (d : NDecl) (rest more : Option Term) (b : Bool) → keep v ≡ b → keep w ≡ true → rest ≡ more → (t : Bool) → bytes_eq v w ≡ t
@@ -46,14 +47,14 @@ kept_found keep (NWrap v t e ∷ ds) w k =
 module _ (m n : NModule) (keep : Word → Bool) (dead : IsDead m keep) (same : word_of m ≡ word_of n) (goes : ndecls_in n ≡ without_definitions keep (ndecls_in m)) (P : Program)
     (holds : HoldsModule P m) (out : OthersKeepOut P m) where
   -- what may be asked for stays
-  asked_is_kept : (x : Name) → MayBeAsked m x → is_kept m keep x ≡ true
+  asked_is_kept : (x : Name) → MayBeAsked m x → is_kept keep (word_of m) x ≡ true
   asked_is_kept x w = go (same_word x.module (Some (word_of m))) refl
     where
       go : (b : Bool) → same_word x.module (Some (word_of m)) ≡ b → (if b then keep x.text else true) ≡ true
       go true e = dead.offered x.text (w e)
       go false e = refl
 
-  kept_is_same : (x : Name) → is_kept m keep x ≡ true → P x ≡ with_module n P x
+  kept_is_same : (x : Name) → is_kept keep (word_of m) x ≡ true → P x ≡ with_module n P x
   kept_is_same x w = go (same_word x.module (Some (word_of m))) refl w
     where
       go : (b : Bool) → same_word x.module (Some (word_of m)) ≡ b → (if b then keep x.text else true) ≡ true → P x ≡ with_module n P x
@@ -64,17 +65,17 @@ module _ (m n : NModule) (keep : Word → Bool) (dead : IsDead m keep) (same : w
           let other : same_word x.module (Some (word_of n)) ≡ false = ap (λ v. same_word x.module (Some v)) (sym same) ∙ e in
           sym (ap (λ b. if b then right_side (ndecls_in n) x.text else P x) other)
 
-  kept_is_closed : (x : Name) → is_kept m keep x ≡ true → (t : Term) → P x ≡ Some t → Mentions (λ y. is_kept m keep y ≡ true) t
+  kept_is_closed : (x : Name) → is_kept keep (word_of m) x ≡ true → (t : Term) → P x ≡ Some t → Mentions (λ y. is_kept keep (word_of m) y ≡ true) t
   kept_is_closed x w t d = go (same_word x.module (Some (word_of m))) refl w
     where
-      go : (b : Bool) → same_word x.module (Some (word_of m)) ≡ b → (if b then keep x.text else true) ≡ true → Mentions (λ y. is_kept m keep y ≡ true) t
+      go : (b : Bool) → same_word x.module (Some (word_of m)) ≡ b → (if b then keep x.text else true) ≡ true → Mentions (λ y. is_kept keep (word_of m) y ≡ true) t
       go true e k = dead.closed x.text t k (sym (holds x e) ∙ d)
-      go false e k = mentions_more (MayBeAsked m) (λ y. is_kept m keep y ≡ true) asked_is_kept t (out x t (λ own. false_true (sym e ∙ own)) d)
+      go false e k = mentions_more (MayBeAsked m) (λ y. is_kept keep (word_of m) y ≡ true) asked_is_kept t (out x t (λ own. false_true (sym e ∙ own)) d)
 
   pub dead_shows : (t : Term) → Mentions (MayBeAsked m) t → SeesSame P (with_module n P) t
   dead_shows t w =
-      sees_other (λ x. is_kept m keep x ≡ true) P (with_module n P) (record { same = kept_is_same; closed = kept_is_closed }) t
-      (mentions_more (MayBeAsked m) (λ y. is_kept m keep y ≡ true) asked_is_kept t w)
+      sees_other (λ x. is_kept keep (word_of m) x ≡ true) P (with_module n P) (record { same = kept_is_same; closed = kept_is_closed }) t
+      (mentions_more (MayBeAsked m) (λ y. is_kept keep (word_of m) y ≡ true) asked_is_kept t w)
 
 pub dead_keeps_meaning : KeepsMeaning DeadTaken
 dead_keeps_meaning xs _ _ (takes_dead {m = m} {imports = imports} {exports = exports} {hidden = hidden} {ds = ds} keep dead) lm ln wm wn P sp tells holds out t st w =

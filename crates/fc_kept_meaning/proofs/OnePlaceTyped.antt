@@ -1,6 +1,6 @@
 -- A rewrite at one place, between expressions that have types, is a change of parts whose sorts stay.
 use Rattle.std.proofs.Common.{◌≡◌, true, false, ◌&&◌, ◌||◌, not, Bool, List, [], ◌∷◌, refl, sym, ap, ◌∙◌, subst}
-use Rattle.fc_model.specs.Calling.{Given, GivenTerm, Takes, takes_term, takes_type, takes_coercion, atom_fits, constructor_type, is_int}
+use Rattle.fc_model.specs.Calling.{Given, GivenTerm, Takes, takes_term, takes_type, takes_coercion, atom_fits, constructor_type, is_unlifted}
 use Rattle.fc_model.specs.Coercing.{ends}
 use Rattle.fc_model.specs.Erasure.{Scope, erased, below_all, below_binds, below_joins, below_value, binder_sorts, sort_of, sort_of_type}
 use Rattle.fc_syntax.specs.Tree.{Kind}
@@ -271,7 +271,7 @@ place_row_no_atom (place_fold a v) = refl
 place_row_no_atom (place_constructor parts bs b l w behind ok e inner lets) = refl
 
 atom_fits_any : (t : NTy) (b : Bool) → b ≡ true → atom_fits t b ≡ true
-atom_fits_any t b e = go (not (is_int t)) b e
+atom_fits_any t b e = go (not (is_unlifted t)) b e
   where
     go : (a b : Bool) → b ≡ true → a || b ≡ true
     go true b e = refl

@@ -10,7 +10,8 @@ use Rattle.fc_model.specs.Terms.{Term}
 use Rattle.fc_reaching.specs.Numbering.{word_of}
 use Rattle.fc_counted.specs.CountingLaws.{SeesSame}
 use Rattle.fc_kept_meaning.specs.MeaningKept.{HoldsModule, with_module}
-use Rattle.fc_kept_meaning.proofs.ChangesKeepMeaning.{AreRightsSorted, with_module_sorted}
+use Rattle.fc_meaning.proofs.SortedErasure.{AreRightsSorted}
+use Rattle.fc_kept_meaning.proofs.ChangesKeepMeaning.{with_module_sorted}
 use Rattle.fc_kept_meaning.proofs.ModulesKeepMeaning.{ShowsTheSame}
 
 either_again : (b c : Bool) (x y z : Option Term) → c ≡ b → (if b then x else (if c then y else z)) ≡ (if b then x else z)

@@ -16,7 +16,7 @@ use Rattle.fc_counted.specs.CountingLaws.{SeesSame}
 use Rattle.fc_term_rows.specs.FactsMet.{Meets}
 use Rattle.fc_reaching.specs.Numbering.{word_of}
 use Rattle.fc_outlines.specs.RightSides.{Righted}
-use Rattle.fc_rows.specs.Dropping.{is_offered}
+use Rattle.fc_rows.specs.Dropping.{is_kept, is_offered}
 use Rattle.fc_rows.specs.Rewriting.{without_definitions}
 use Rattle.fc_row_places.specs.NamelessChanges.{NPartRelation, NChange}
 use Rattle.fc_row_places.specs.NamelessFacts.{NKnown, erased_fact}
@@ -88,14 +88,10 @@ pub data ModuleRewritten (R : NPartRelation) : List NModule → NModule → NMod
 
 -- DEFINITIONS THAT ARE TAKEN AWAY
 
--- the names that stay: those of other modules, and the kept ones of the module
-abbrev pub is_kept : NModule → (Word → Bool) → Name → Bool
-is_kept m keep n = if same_word n.module (Some (word_of m)) then keep n.text else true
-
 -- definitions go that nothing reaches from what the module offers
 pub record IsDead (m : NModule) (keep : Word → Bool) : Type 0 where
   pub offered : (w : Word) → IsOffered m w → keep w ≡ true
-  pub closed : (w : Word) (t : Term) → keep w ≡ true → right_side (ndecls_in m) w ≡ Some t → Mentions (λ n. is_kept m keep n ≡ true) t
+  pub closed : (w : Word) (t : Term) → keep w ≡ true → right_side (ndecls_in m) w ≡ Some t → Mentions (λ n. is_kept keep (word_of m) n ≡ true) t
 
 -- they are taken away
 pub data DeadTaken : List NModule → NModule → NModule → Type 0 where

@@ -8,8 +8,8 @@ use Rattle.fc_model.specs.Resolution.{WordSet, no_word, plus}
 use Rattle.fc_model.specs.ResolutionRules.{AreDistinct, one_word_more, Resolves, resolves_module}
 use Rattle.fc_model.specs.TypingLaws.{HasDistinctTypes}
 use Rattle.fc_reaching.specs.Reaching.{defined_words}
-use Rattle.fc_replays.proofs.NeededClosed.{not_before}
-use Rattle.fc_replays.proofs.StepsKept.{fewer_before}
+use Rattle.fc_replay_types.proofs.NeededClosed.{not_before}
+use Rattle.fc_replay_types.proofs.StepsKept.{fewer_before}
 use Rattle.fc_resolved_names.proofs.Distinct.{terms_distinct, types_distinct}
 
 -- without the words of constructors before them

@@ -9,7 +9,7 @@ use Rattle.fc_model.specs.ResolutionRules.{ResolvesDecls}
 use Rattle.fc_model.proofs.Parts.{need_inv, ok_ok}
 use Rattle.fc_used_words.specs.Scoped.{HoldsDecls, Saying}
 use Rattle.fc_resolved_names.proofs.NamesHold.{IsSaidOfOwn, names_hold}
-use Rattle.fc_resolved_names.proofs.Obeying.{AreSaid, Goes}
+use Rattle.fc_resolved_names.proofs.Obeying.{AreSaid, Goes, goes_everywhere}
 use Rattle.fc_views.specs.Views.{IsNameInView, View}
 use Rattle.fc_lint_in_order.proofs.Mentioned.{mentioned}
 
@@ -39,20 +39,7 @@ module _ (top : Top) (view : View) (use_of : Name → Bool) (serves : Serves top
       subst (λ n. use_of n ≡ true) (ok_ok q.1) (serves.imports_used v w p.0 q.0)
 
   goes : Goes P
-  goes = record {
-    type_here = λ k. tt;
-    type_past = λ k i h. tt;
-    type_back = λ k i h. tt;
-    value_here = λ k. tt;
-    value_past = λ k i h. tt;
-    value_back = λ k i h. tt;
-    join_here = λ k. tt;
-    join_past = λ k i h. tt;
-    join_back = λ k i h. tt;
-    coercion_here = λ k. tt;
-    coercion_past = λ k i h. tt;
-    coercion_back = λ k i h. tt;
-  }
+  goes = goes_everywhere P (λ k i. tt) (λ k i. tt) (λ k i. tt) (λ k i. tt)
 
   said : AreSaid top P
   said = record {

@@ -9,41 +9,22 @@ use Rattle.fc_model.specs.Kinding.{decls_of_module}
 use Rattle.fc_model.specs.Linting.{nameless_forms, offers_of, told_by}
 use Rattle.fc_model.specs.Nameless.{NDecl, NModule, NModuleOf}
 use Rattle.fc_model.specs.Planning.{build_order, is_among, is_ready}
-use Rattle.fc_model.specs.Resolution.{WordSet, no_word, plus, plus_all, top_among}
+use Rattle.fc_model.specs.Resolution.{no_word, plus_all, top_among}
 use Rattle.fc_model.specs.ResolutionRules.{Resolves, resolves_module}
 use Rattle.fc_model.proofs.Sameness.{bytes_eq_eq, bytes_eq_refl, false_true}
 use Rattle.fc_reaching.specs.Numbering.{word_of}
 use Rattle.fc_rows.specs.Dropping.{is_offered}
 use Rattle.fc_set_rules.specs.SetRules.{AllHold, HoldsInSet, ResolvesAmong, no_modules, one_module, resolves_among}
 use Rattle.fc_set_rules.proofs.SetsAre.{all_hold}
-use Rattle.fc_sets.specs.SetsReplayed.{LintInOrder, LintsBehind, is_offered_by, is_one_of, may_mention, may_use, none_lint, one_lints}
-use Rattle.fc_sets.proofs.Reached.{all_at}
+use Rattle.fc_set_types.specs.SetsReplayed.{LintInOrder, LintsBehind, is_offered_by, is_one_of, may_mention, may_use, none_lint, one_lints}
+use Rattle.fc_set_types.proofs.Reached.{all_at}
 use Rattle.fc_used_words.specs.Scoped.{HoldsDecls}
 use Rattle.fc_lint_in_order.specs.BuildOrder.{BuiltSetsLintInOrder}
 use Rattle.fc_lint_in_order.proofs.Distinct.{definitions_differ, types_differ}
 use Rattle.fc_lint_in_order.proofs.Found.{Serves, names_serve}
 use Rattle.fc_lint_in_order.proofs.Mentioned.{decls_seen, decls_used, mentioned}
 use Rattle.fc_lint_in_order.proofs.Ready.{AreReady, built_are_ready, one_ready}
-
--- WORDS
-
-one_more : (b c d : Bool) → (c || (if b then true else d)) ≡ ((b || c) || d)
-one_more true true d = refl
-one_more true false d = refl
-one_more false c d = refl
-
--- a set with words put in has them, and what it had
-put_in : (ws : List Word) (s : WordSet) (w : Word) → plus_all ws s w ≡ (is_among ws w || s w)
-put_in [] s w = refl
-put_in (v ∷ vs) s w = put_in vs (plus v s) w ∙ one_more (bytes_eq v w) (is_among vs w) (s w)
-
-without_none : (b : Bool) → (b || false) ≡ b
-without_none true = refl
-without_none false = refl
-
--- the words of a list alone
-words_alone : (ws : List Word) (w : Word) → plus_all ws no_word w ≡ is_among ws w
-words_alone ws w = put_in ws no_word w ∙ without_none (is_among ws w)
+use Rattle.fc_model.proofs.Lists.{words_alone, words_put_in}
 
 -- WHAT MODULES OFFER
 
@@ -58,7 +39,7 @@ all_apart all = record { told = λ v w h. false_true h; later = λ v w h. refl }
 -- a module tells what it offers
 first_tells : (m : Word) (imports exports hidden : List Word) (ds : List NDecl) (ns : List NModule) (v w : Word) → bytes_eq m v ≡ true
     → told_by (NModuleOf m imports exports hidden ds ∷ ns) v w ≡ is_offered (NModuleOf m imports exports hidden ds) w
-first_tells m imports exports hidden ds ns v w same = rw (same, put_in exports (plus_all hidden no_word) w, words_alone hidden w) refl
+first_tells m imports exports hidden ds ns v w same = rw (same, words_put_in exports (plus_all hidden no_word) w, words_alone hidden w) refl
 
 -- one more, of a new name
 one_apart : (all before ns : List NModule) (n : NModule) → is_one_of before (word_of n) ≡ false → AreApart all before (n ∷ ns) → AreApart all (n ∷ before) ns

@@ -3,7 +3,7 @@ use Rattle.std.specs.Prelude.{List, []}
 use Rattle.fc_syntax.specs.Tree.{Module}
 use Rattle.fc_model.specs.Linting.{SetLints, nameless_forms}
 use Rattle.fc_model.specs.Planning.{build_order}
-use Rattle.fc_sets.specs.SetsReplayed.{LintInOrder}
+use Rattle.fc_set_types.specs.SetsReplayed.{LintInOrder}
 
 -- If modules lint in the order in which they are built, each lints behind those built before it: its name is new, its imports are before it, and it mentions of them
 -- what they offer.

@@ -11,12 +11,12 @@ use Rattle.fc_log.specs.declared.tokens.Stop.TheVariants as stop
 use Rattle.fc_log.specs.Grammar.{LogToken, Stand, AtStart, BehindPath, Outcome, Got, Stuck, reads}
 use Rattle.fc_log.specs.Reading.{Tells, stop_of, tokens_in}
 use Rattle.fc_log.specs.Seen.{seen, seen_all}
-use Rattle.fc_log.specs.Stopping.{IsRefusalAt}
+use Rattle.fc_read_parts.specs.Refusing.{IsRefusalAt}
 use Rattle.fc_log.specs.Texts.{FirstLogFault, of_form, IsLogRefusal, answer_kind, bad_byte_from, byte_of, cuts_of, log_tokens_of, stuck_at, stuck_kind}
 
 pub told : (file bytes : List ℕ) (e : ByteFault) (r : Refusal) → FirstLogFault bytes e → IsRefusalAt file e.kind e.at r → IsLogRefusal file bytes r
 told file bytes e refusal.Memory f h = tt
-told file bytes e (refusal.Fault g) f h = (e, f, h.0, h.1, h.2, h.3)
+told file bytes e (refusal.Fault g) f h = (e, f, ap (λ d. d.kind) h, ap (λ d. d.module) h, ap (λ d. d.def) h, ap (λ d. d.path) h)
 
 form_at : (s : Stand) (n left : ℕ) (ts : List LogToken) → stop_of (Stuck s n) ≡ Some (stop.Form left) → (n ≡ left) × (stuck_kind s ts ≡ fault.BadForm)
 form_at (BehindPath m es d p) n left ts h = absurd (cc)

@@ -5,5 +5,4 @@ pub mod Dots
 pub mod Seen
 pub mod Shapes
 pub mod Reading
-pub mod Stopping
 pub mod Laws

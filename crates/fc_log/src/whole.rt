@@ -4,7 +4,6 @@ ghost use Rattle.fc_syntax.specs.Limits.{standard_limits};
 ghost use Rattle.fc_log.specs.Grammar as spec;
 ghost use Rattle.fc_log.specs.Reading.{StopsAt, tokens_in};
 ghost use Rattle.fc_log.specs.Seen.{seen_all};
-ghost use Rattle.fc_log.specs.Stopping.{IsRefusalAt};
 ghost use Rattle.fc_log.specs.Texts.{IsFormedLog, IsLogRefusal, SpellsLog, answer_kind, bad_byte_from, byte_of, cuts_of, stuck_at};
 
 use crate::cut::{Piece, Token, bad_byte, cut};
@@ -12,7 +11,8 @@ use crate::log::Log;
 use crate::numbers::is_written_literal;
 use crate::reading::{read_entries, read_head};
 use crate::tokens::{Stop, Tokens};
-use fc_syntax::{Fault, FaultKind, Place, Refusal, Text};
+use fc_read_parts::refusal_at;
+use fc_syntax::{FaultKind, Refusal, Text};
 use std::alloc::Global;
 
 /// The log that the bytes of a file of at most 4 MiB spell.
@@ -98,20 +98,5 @@ fn stopped(alloc: Global, file: &str, bytes: &[u8], pieces: &[Piece<'_>], stop: 
             let rest = last_pieces(pieces, left);
             refusal_at(alloc, file, answer_fault(rest), byte_of_first(bytes, rest))
         }
-    }
-}
-
-/// A fault at a byte of a file; out of memory where the name of the file cannot be copied.
-fn refusal_at(alloc: Global, file: &str, kind: FaultKind, at: u32) -> Refusal
-    ensures { IsRefusalAt file.now kind at result }
-{
-    match Text::from_str(alloc, file) {
-        Err(_) => Refusal::Memory,
-        Ok(module) => Refusal::Fault(Fault {
-            kind,
-            module,
-            def: None,
-            path: Place::Byte(at),
-        }),
     }
 }

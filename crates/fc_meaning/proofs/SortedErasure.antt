@@ -27,29 +27,29 @@ use Rattle.fc_meaning.proofs.SortedExpressions.{expr_sorted}
 -- DEFINITIONS
 
 -- the right side of a definition is sorted
-abbrev IsDefSorted : NDecl → Type 0
-IsDefSorted (NData n ps cs) = Unit {0}
-IsDefSorted (NNew n ps t con) = Unit {0}
-IsDefSorted (NFamily n ps k) = Unit {0}
-IsDefSorted (NAxiom n ps t u) = Unit {0}
-IsDefSorted (NDef n t e) = IsSorted [] (erased no_scope e)
-IsDefSorted (NWrap n t e) = IsSorted [] (erased no_scope e)
+abbrev pub IsRightSorted : NDecl → Type 0
+IsRightSorted (NData n ps cs) = Unit {0}
+IsRightSorted (NNew n ps t con) = Unit {0}
+IsRightSorted (NFamily n ps k) = Unit {0}
+IsRightSorted (NAxiom n ps t u) = Unit {0}
+IsRightSorted (NDef n t e) = IsSorted [] (erased no_scope e)
+IsRightSorted (NWrap n t e) = IsSorted [] (erased no_scope e)
 
-abbrev AreDefsSorted : List NDecl → Type 0
-AreDefsSorted [] = Unit {0}
-AreDefsSorted (d ∷ ds) = IsDefSorted d × AreDefsSorted ds
+abbrev pub AreRightsSorted : List NDecl → Type 0
+AreRightsSorted [] = Unit {0}
+AreRightsSorted (d ∷ ds) = IsRightSorted d × AreRightsSorted ds
 
-defs_sorted : {ms : Modules} {ds : List NDecl} → DefinitionsHold ms ds → AreHeld ms → AreDeclsWritten ds → AreDefsSorted ds
-defs_sorted no_definitions held w = tt
-defs_sorted {ms = ms} (one_definition (def_holds kind e) rest) held w = (expr_sorted ms held e no_scope [] fits_closed w.0, defs_sorted rest held w.1)
-defs_sorted {ms = ms} (one_definition (wrap_holds kind e) rest) held w = (expr_sorted ms held e no_scope [] fits_closed w.0, defs_sorted rest held w.1)
-defs_sorted (one_definition data_defines_nothing rest) held w = (tt, defs_sorted rest held w.1)
-defs_sorted (one_definition newtype_defines_nothing rest) held w = (tt, defs_sorted rest held w.1)
-defs_sorted (one_definition family_defines_nothing rest) held w = (tt, defs_sorted rest held w.1)
-defs_sorted (one_definition axiom_defines_nothing rest) held w = (tt, defs_sorted rest held w.1)
+pub rights_sorted : {ms : Modules} {ds : List NDecl} → DefinitionsHold ms ds → AreHeld ms → AreDeclsWritten ds → AreRightsSorted ds
+rights_sorted no_definitions held w = tt
+rights_sorted {ms = ms} (one_definition (def_holds kind e) rest) held w = (expr_sorted ms held e no_scope [] fits_closed w.0, rights_sorted rest held w.1)
+rights_sorted {ms = ms} (one_definition (wrap_holds kind e) rest) held w = (expr_sorted ms held e no_scope [] fits_closed w.0, rights_sorted rest held w.1)
+rights_sorted (one_definition data_defines_nothing rest) held w = (tt, rights_sorted rest held w.1)
+rights_sorted (one_definition newtype_defines_nothing rest) held w = (tt, rights_sorted rest held w.1)
+rights_sorted (one_definition family_defines_nothing rest) held w = (tt, rights_sorted rest held w.1)
+rights_sorted (one_definition axiom_defines_nothing rest) held w = (tt, rights_sorted rest held w.1)
 
 -- what is defined is the right side of a definition
-right_side_sorted : (ds : List NDecl) (w : Word) (t : Term) → AreDefsSorted ds → right_side ds w ≡ Some t → IsSorted [] t
+pub right_side_sorted : (ds : List NDecl) (w : Word) (t : Term) → AreRightsSorted ds → right_side ds w ≡ Some t → IsSorted [] t
 right_side_sorted [] w t s h = absurd (none_some h)
 right_side_sorted (NData n ps cs ∷ ds) w t s h = right_side_sorted ds w t s.1 h
 right_side_sorted (NNew n ps u con ∷ ds) w t s h = right_side_sorted ds w t s.1 h
@@ -77,4 +77,4 @@ set_is_written ms formed =
 pub linted_is_sorted : LintedIsSorted
 linted_is_sorted ms formed lints x t h =
     let held = set_is_held ms lints in
-    right_side_sorted (decls_at (nameless_forms ms) x.module) x.text t (defs_sorted (held.definitions x.module) held (set_is_written ms formed x.module)) h
+    right_side_sorted (decls_at (nameless_forms ms) x.module) x.text t (rights_sorted (held.definitions x.module) held (set_is_written ms formed x.module)) h

@@ -2,7 +2,7 @@
 use Rattle.std.proofs.Common.{◌≡◌, ℕ, zero, suc, Bool, true, false, not, ◌||◌, List, [], ◌∷◌, length, map, Ok, refl, sym, ap, ◌∙◌, subst, arith}
 use Rattle.fc_syntax.specs.declared.ty.Role.{Role}
 use Rattle.fc_syntax.specs.Tree.{Kind}
-use Rattle.fc_model.specs.Calling.{Given, GivenTerm, GivenType, GivenCoercion, Takes, takes_nothing, takes_term, takes_type, takes_coercion, atom_fits, binders_to, is_int}
+use Rattle.fc_model.specs.Calling.{Given, GivenTerm, GivenType, GivenCoercion, Takes, takes_nothing, takes_term, takes_type, takes_coercion, atom_fits, binders_to, is_unlifted}
 use Rattle.fc_model.specs.Calling.{over_binders, type_count}
 use Rattle.fc_model.specs.Coercing.{Ends, ends, shifted_ends}
 use Rattle.fc_model.specs.CoercionLaws.{IsSaturated, substituted_ends}
@@ -18,7 +18,7 @@ use Rattle.fc_model.proofs.CallsKept.{raised_by_more, raised_by_nothing}
 use Rattle.fc_model.proofs.EndsKept.{mapped_inv}
 use Rattle.fc_model.proofs.EndsKinded.{kinded_is_saturated}
 use Rattle.fc_model.proofs.Parts.{ok_ok}
-use Rattle.fc_model.proofs.ReplacedKept.{coercion_itself, join_in_place, lifted_is_not_int, local_itself, replacement_keeps_types}
+use Rattle.fc_model.proofs.ReplacedKept.{coercion_itself, join_in_place, kind_says_lifted, local_itself, replacement_keeps_types}
 use Rattle.fc_model.proofs.Substitutions.{equal_types, shifted_is_kept, substitutions_compose, types_for_renamed, variables_for_themselves}
 
 -- TYPES BEFORE OTHERS
@@ -78,7 +78,7 @@ module _ (ms : Modules) (owes : Bool) where
     where
       values : (i : ℕ) (u : NTy) → at_distance (t ∷ c.values) i ≡ Ok u → IsExpressionOf ms (without_joins d) (value_before e r.values i) (substituted_type r.types u)
       values zero u a =
-          subst (λ x. IsExpressionOf ms (without_joins d) e (substituted_type r.types x)) (ok_ok a) (h, atom_at_int (is_int (substituted_type r.types t)) (is_atom e) fits)
+          subst (λ x. IsExpressionOf ms (without_joins d) e (substituted_type r.types x)) (ok_ok a) (h, atom_at_int (is_unlifted (substituted_type r.types t)) (is_atom e) fits)
       values (suc i) u a = f.values i u a
 
   pub type_fits : (c d : Context) (r : Substitution) → Fits ms c d r → (k : Kind) (u : NTy) → HasKind ms d.kinds u k → is_lifted k ≡ true
@@ -89,8 +89,8 @@ module _ (ms : Modules) (owes : Bool) where
       kinds zero j a = subst (HasKind ms d.kinds u) (ok_ok a) h
       kinds (suc i) j a = f.kinds i j a
 
-      lifted : (i : ℕ) → is_int (type_before u r.types i) ≡ false
-      lifted zero = lifted_is_not_int ms d.kinds k u l h
+      lifted : (i : ℕ) → is_unlifted (type_before u r.types i) ≡ false
+      lifted zero = kind_says_lifted ms d.kinds k u l h
       lifted (suc i) = f.lifted i
 
       saturated : (i : ℕ) → IsSaturated ms (type_before u r.types i)

@@ -6,7 +6,7 @@ use Rattle.fc_syntax.specs.declared.ty.Name.{Name}
 use Rattle.fc_syntax.specs.declared.ty.Role.{Role}
 use Rattle.fc_syntax.specs.Tree.{Kind}
 use Rattle.fc_model.specs.Calling.{Constructor, Given, GivenTerm, GivenType, GivenCoercion, Takes, takes_nothing, takes_term, takes_type, takes_coercion, at_type, at_types}
-use Rattle.fc_model.specs.Calling.{atom_fits, binders_fit, binders_to, constructor_type, data_name, from_some, is_con_type, is_data_of, is_int, over_binders, same_as}
+use Rattle.fc_model.specs.Calling.{atom_fits, binders_fit, binders_to, constructor_type, data_name, from_some, is_con_type, is_data_of, is_int, is_unlifted, over_binders, same_as}
 use Rattle.fc_model.specs.Calling.{type_arguments, type_count, type_head}
 use Rattle.fc_model.specs.Kinding.{Modules}
 use Rattle.fc_model.specs.Nameless.{NTy, NTVar, NTCon, NTInt, NTApp, NTFun, NTForall, NTCoForall, NBinder, NBValue, NBType, NBCo}
@@ -18,34 +18,44 @@ use Rattle.fc_model.proofs.KindsKept.{HaveKinds, have_kinds_below, substitution_
 use Rattle.fc_model.proofs.Sameness.{false_true, same_type_eq, same_type_of}
 use Rattle.fc_model.proofs.Substitutions.{equal_types, instantiated_within, only_values_count, renamed_again, renamed_is_substituted, shifted_below, variables_for_themselves}
 
--- INT
+-- UNLIFTED TYPES
 
--- no type that is put in is `Int#`
+-- no type that is put in is unlifted
 abbrev pub AreLifted : (ℕ → NTy) → Type 0
-AreLifted s = (i : ℕ) → is_int (s i) ≡ false
+AreLifted s = (i : ℕ) → is_unlifted (s i) ≡ false
 
--- so a type is `Int#` where it was
-pub int_kept : (s : ℕ → NTy) → AreLifted s → (t : NTy) → is_int (substituted_type s t) ≡ is_int t
-int_kept s h (NTVar i) = h i
-int_kept s h (NTCon n) = refl
-int_kept s h NTInt = refl
-int_kept s h (NTApp t u) = refl
-int_kept s h (NTFun t u) = refl
-int_kept s h (NTForall k t) = refl
-int_kept s h (NTCoForall r t u v) = refl
+-- so a type is unlifted where it was
+pub unlifted_kept : (s : ℕ → NTy) → AreLifted s → (t : NTy) → is_unlifted (substituted_type s t) ≡ is_unlifted t
+unlifted_kept s h (NTVar i) = h i
+unlifted_kept s h (NTCon n) = refl
+unlifted_kept s h NTInt = refl
+unlifted_kept s h (NTApp t u) = refl
+unlifted_kept s h (NTFun t u) = refl
+unlifted_kept s h (NTForall k t) = refl
+unlifted_kept s h (NTCoForall r t u v) = refl
 
-pub int_renamed : (r : ℕ → ℕ) (t : NTy) → is_int (renamed_type r t) ≡ is_int t
-int_renamed r (NTVar i) = refl
-int_renamed r (NTCon n) = refl
-int_renamed r NTInt = refl
-int_renamed r (NTApp t u) = refl
-int_renamed r (NTFun t u) = refl
-int_renamed r (NTForall k t) = refl
-int_renamed r (NTCoForall o t u v) = refl
+pub unlifted_renamed : (r : ℕ → ℕ) (t : NTy) → is_unlifted (renamed_type r t) ≡ is_unlifted t
+unlifted_renamed r (NTVar i) = refl
+unlifted_renamed r (NTCon n) = refl
+unlifted_renamed r NTInt = refl
+unlifted_renamed r (NTApp t u) = refl
+unlifted_renamed r (NTFun t u) = refl
+unlifted_renamed r (NTForall k t) = refl
+unlifted_renamed r (NTCoForall o t u v) = refl
+
+-- and `Int#` where it was
+pub int_kept : (s : ℕ → NTy) (t : NTy) → is_int t ≡ true → is_int (substituted_type s t) ≡ true
+int_kept s (NTVar i) int = false_true int
+int_kept s (NTCon n) int = int
+int_kept s NTInt int = refl
+int_kept s (NTApp t u) int = int
+int_kept s (NTFun t u) int = int
+int_kept s (NTForall k t) int = int
+int_kept s (NTCoForall r t u v) int = int
 
 pub are_lifted_below : (s : ℕ → NTy) → AreLifted s → AreLifted (types_below s)
 are_lifted_below s h zero = refl
-are_lifted_below s h (suc i) = int_renamed suc (s i) ∙ h i
+are_lifted_below s h (suc i) = unlifted_renamed suc (s i) ∙ h i
 
 -- SCOPE
 

@@ -2,7 +2,7 @@
 use Rattle.std.proofs.Common.{◌≡◌, ℕ, zero, suc, true, List, [], ◌∷◌, map, Ok, refl, sym, ap, ◌∙◌, subst}
 use Rattle.fc_syntax.specs.declared.ty.Role.{Role}
 use Rattle.fc_syntax.specs.Tree.{Kind}
-use Rattle.fc_model.specs.Calling.{is_int}
+use Rattle.fc_model.specs.Calling.{is_unlifted}
 use Rattle.fc_model.specs.Coercing.{Ends, shifted_ends}
 use Rattle.fc_model.specs.CoercingRules.{Proves}
 use Rattle.fc_model.specs.CoercionLaws.{TypesFit, substituted_ends}
@@ -22,12 +22,12 @@ use Rattle.fc_model.proofs.Parts.{err_ok, ok_ok}
 use Rattle.fc_model.proofs.Substitutions.{shifted_below}
 
 -- What judgements of what stands in place of variables have to say. What stands in place of a variable is an expression of its type, an
--- atom where the type is `Int#`; what stands in place of coercion variables lets a coercion prove what it did; both remain so past
+-- atom where the type is unlifted; what stands in place of coercion variables lets a coercion prove what it did; both remain so past
 -- binders, and what a coercion proves does not rest on variables of values and join points.
 pub record Stand {V W : Type 0} (ms : Modules) (how : Standing V) (proofs : StandingCoercion W) (Proof : Context → W → Ends → Type 0)
     (IsOf : Context → V → NTy → Type 0) : Type 0 where
   pub typed : (d : Context) (v : V) (t : NTy) → IsOf (without_joins d) v t → HasType ms d (how.expression v) t
-  pub atom : (d : Context) (v : V) (t : NTy) → IsOf (without_joins d) v t → is_int t ≡ true → is_atom (how.expression v) ≡ true
+  pub atom : (d : Context) (v : V) (t : NTy) → IsOf (without_joins d) v t → is_unlifted t ≡ true → is_atom (how.expression v) ≡ true
   pub innermost : (d : Context) (t : NTy) → IsOf (without_joins (with_value t d)) how.innermost t
   pub past_value : (d : Context) (s : NTy) (v : V) (t : NTy) → IsOf (without_joins d) v t → IsOf (without_joins (with_value s d)) (how.past_value v) t
   pub past_type : (d : Context) (k : Kind) (v : V) (t : NTy) → IsOf (without_joins d) v t → IsOf (without_joins (with_type k d)) (how.past_type v) (shifted_type t)

@@ -49,6 +49,11 @@ judged_variables_are i (k ∷ ks) n h =
     let q = need_inv (is_lifted k) _ (Ok done) p.0 (under_inv i (need (is_lifted k) _ (Ok done)) p.0 p.1) in
     rw q.0 (judged_variables_are (i + 1) ks n p.2)
 
+-- roles hold for needs that are the same
+pub roles_hold : {f g : ℕ → Role} {ps : List NParam} → ((i : ℕ) → f i ≡ g i) → RolesHold f ps → RolesHold g ps
+roles_hold same no_roles = no_roles
+roles_hold same (one_role {r = r} {ps = ps} h more) = one_role (subst (λ s. role_below r s ≡ true) (same (length ps)) h) (roles_hold same more)
+
 roles_are_judged : (needed : ℕ → Role) (i : ℕ) {ps : List NParam} → RolesHold needed ps → roles_judged needed i ps ≡ Ok done
 roles_are_judged needed i no_roles = refl
 roles_are_judged needed i (one_role p rest) = rw p (roles_are_judged needed (i + 1) rest)

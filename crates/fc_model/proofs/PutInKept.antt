@@ -3,7 +3,7 @@ use Rattle.std.proofs.Common.{◌≡◌, ℕ, Bool, true, false, not, ◌&&◌, 
 use Rattle.fc_syntax.specs.declared.ty.Role.{Role}
 use Rattle.fc_syntax.specs.declared.ty.Role.TheVariants.{R}
 use Rattle.fc_syntax.specs.Tree.{Kind, KStar}
-use Rattle.fc_model.specs.Calling.{Given, GivenTerm, GivenType, GivenCoercion, Takes, atom_fits, is_int, over_binder}
+use Rattle.fc_model.specs.Calling.{Given, GivenTerm, GivenType, GivenCoercion, Takes, atom_fits, is_unlifted, over_binder}
 use Rattle.fc_model.specs.Coercing.{Ends}
 use Rattle.fc_model.specs.CoercingRules.{Proves}
 use Rattle.fc_model.specs.Kinding.{Modules}
@@ -20,7 +20,7 @@ use Rattle.fc_model.specs.TypingRules.{ArgIsGiven, given_term, given_type, given
 use Rattle.fc_model.specs.TypingRules.{JoinsHaveType, no_joins, one_join}
 use Rattle.fc_model.specs.TypingRules.{AltsFit, no_alts, default_alt, literal_alt, con_alt}
 use Rattle.fc_model.proofs.CallsKept.{AreLifted, BecomesGiven, term_becomes, type_becomes, coercion_becomes, BecomeGiven, none_become, one_becomes}
-use Rattle.fc_model.proofs.CallsKept.{binder_kept, binders_kept, closed_kept, data_kept, fit_kept, given_length_kept, int_kept, raised_past_replaced, takes_kept}
+use Rattle.fc_model.proofs.CallsKept.{binder_kept, binders_kept, closed_kept, data_kept, fit_kept, given_length_kept, int_kept, unlifted_kept, raised_past_replaced, takes_kept}
 use Rattle.fc_model.proofs.FitsKept.{Stand, fits_binder, fits_binders, fits_binds, fits_joins, fits_value, fits_without_joins, types_fit}
 use Rattle.fc_model.proofs.KindsKept.{HaveKinds, have_kinds_below, substitution_keeps_kinds}
 use Rattle.fc_model.proofs.Sameness.{false_true}
@@ -32,9 +32,9 @@ places_fit true a b keeps fits = keeps refl fits
 places_fit false a b keeps fits = refl
 
 -- a place that took an atom, or none, still does
-fits_still : (s : ℕ → NTy) → AreLifted s → (t : NTy) (a b : Bool) → (is_int t ≡ true → a ≡ true → b ≡ true) → atom_fits t a ≡ true
+fits_still : (s : ℕ → NTy) → AreLifted s → (t : NTy) (a b : Bool) → (is_unlifted t ≡ true → a ≡ true → b ≡ true) → atom_fits t a ≡ true
     → atom_fits (substituted_type s t) b ≡ true
-fits_still s h t a b keeps fits = rw (int_kept s h t) (places_fit (is_int t) a b keeps fits)
+fits_still s h t a b keeps fits = rw (unlifted_kept s h t) (places_fit (is_unlifted t) a b keeps fits)
 
 bound_atoms : (o a b : Bool) → (a ≡ true → b ≡ true) → (not o && a) ≡ true → (not o && b) ≡ true
 bound_atoms true a b keeps h = h
@@ -61,11 +61,11 @@ module _ {V W : Type 0} {ms : Modules} {how : Standing V} {proofs : StandingCoer
       → Proves ms d.kinds d.coercions (put_in_coercion proofs r.types r.coercions g) o (substituted_type r.types t) (substituted_type r.types u)
   proves_kept c d r f g o t u h = stand.proves c d r.types r.coercions (types_fit stand c d r f) f.coercions g o t u h
 
-  -- what is an atom of type `Int#` still is one
-  atoms_kept : (c d : Context) (r : Replacement V W) → FitsBy ms Proof IsOf c d r → (e : NExpr) (t : NTy) → HasType ms c e t → is_int t ≡ true → is_atom e ≡ true
+  -- what is an atom of an unlifted type still is one
+  atoms_kept : (c d : Context) (r : Replacement V W) → FitsBy ms Proof IsOf c d r → (e : NExpr) (t : NTy) → HasType ms c e t → is_unlifted t ≡ true → is_atom e ≡ true
       → is_atom (put_in how proofs r e) ≡ true
   atoms_kept c d r f e t (typed_local {i = i} h) int a =
-      stand.atom d (r.values i) (substituted_type r.types t) (f.values i t h) (int_kept r.types f.lifted t ∙ int)
+      stand.atom d (r.values i) (substituted_type r.types t) (f.values i t h) (unlifted_kept r.types f.lifted t ∙ int)
   atoms_kept c d r f e t (typed_declared h) int a = refl
   atoms_kept c d r f e t typed_literal int a = refl
   atoms_kept c d r f e t typed int a = false_true a
@@ -205,7 +205,7 @@ module _ {V W : Type 0} {ms : Modules} {how : Standing V} {proofs : StandingCoer
         literal_alt (binders_kept ms false c.kinds d.kinds r.types f.kinds bs k)
         (subst (λ x. HasType ms (with_binders (replaced_binders r.types bs) d) (put_in how proofs (below_binders how proofs bs r) e) x) (raised_past_replaced bs r.types rt)
         (type_kept (with_binders bs c) (with_binders (replaced_binders r.types bs) d) (below_binders how proofs bs r) (fits_binders stand bs c d r f) e _ p))
-        (int_kept r.types f.lifted s ∙ int) order (alts_kept c d r f s rt _ rest more)
+        (int_kept r.types s int) order (alts_kept c d r f s rt _ rest more)
     alts_kept c d r f s rt b alts (con_alt {bs = bs} {n = n} {e = e} {rest = rest} m k p found is order fits more) =
         con_alt m (binders_kept ms false c.kinds d.kinds r.types f.kinds bs k)
         (subst (λ x. HasType ms (with_binders (replaced_binders r.types bs) d) (put_in how proofs (below_binders how proofs bs r) e) x) (raised_past_replaced bs r.types rt)

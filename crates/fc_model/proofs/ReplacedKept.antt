@@ -3,7 +3,7 @@
 use Rattle.std.proofs.Common.{◌≡◌, ℕ, zero, suc, true, false, List, [], ◌∷◌, length, map, reverse, Ok, refl, sym, ap, ◌∙◌, subst}
 use Rattle.std.proofs.lemmas.List.{length-reverse}
 use Rattle.fc_syntax.specs.Tree.{Kind, KStar, KHash}
-use Rattle.fc_model.specs.Calling.{is_int}
+use Rattle.fc_model.specs.Calling.{is_unlifted}
 use Rattle.fc_model.specs.Coercing.{Axiom, Ends, shifted_ends}
 use Rattle.fc_model.specs.CoercingRules.{proves_variable}
 use Rattle.fc_model.specs.CoercionLaws.{IsSaturated, substituted_ends}
@@ -19,7 +19,7 @@ use Rattle.fc_model.specs.TypingLaws.{AreDeclaredClosed, Fits, IsCoercionProving
 use Rattle.fc_model.specs.TypingLaws.{KindedAreClosed, RenamingKeepsTypes, ReplacementKeepsTypes, TypesAmongJoins, TypesAtACoercion, TypesAtAType, TypesAtAValue}
 use Rattle.fc_model.specs.TypingLaws.{TypesPastACoercion, TypesPastAJoin, TypesPastAType, TypesPastAValue}
 use Rattle.fc_model.specs.TypingRules.{HasType, typed_local}
-use Rattle.fc_model.proofs.CallsKept.{int_renamed}
+use Rattle.fc_model.proofs.CallsKept.{unlifted_renamed}
 use Rattle.fc_model.proofs.CoercionsKept.{coercion_past_type, coercion_renaming_keeps_ends, coercion_replacement_keeps_ends}
 use Rattle.fc_model.proofs.EndsKept.{mapped, mapped_inv}
 use Rattle.fc_model.proofs.EndsKinded.{kinded_is_saturated}
@@ -153,15 +153,15 @@ types_past_a_type ms closed c k e t h =
 
 -- AT A TYPE
 
--- what has a kind without `#` is not `Int#`
-pub lifted_is_not_int : (ms : Modules) (ks : List Kind) (k : Kind) (u : NTy) → is_lifted k ≡ true → HasKind ms ks u k → is_int u ≡ false
-lifted_is_not_int ms ks k (NTVar i) l h = refl
-lifted_is_not_int ms ks k (NTCon n) l h = refl
-lifted_is_not_int ms ks k NTInt l h = false_true (subst (λ x. is_lifted x ≡ true) (kind_is_one ms ks 0 NTInt k KHash h kind_int) l)
-lifted_is_not_int ms ks k (NTApp t u) l h = refl
-lifted_is_not_int ms ks k (NTFun t u) l h = refl
-lifted_is_not_int ms ks k (NTForall j t) l h = refl
-lifted_is_not_int ms ks k (NTCoForall r t u v) l h = refl
+-- what has a kind without `#` is lifted
+pub kind_says_lifted : (ms : Modules) (ks : List Kind) (k : Kind) (u : NTy) → is_lifted k ≡ true → HasKind ms ks u k → is_unlifted u ≡ false
+kind_says_lifted ms ks k (NTVar i) l h = refl
+kind_says_lifted ms ks k (NTCon n) l h = refl
+kind_says_lifted ms ks k NTInt l h = false_true (subst (λ x. is_lifted x ≡ true) (kind_is_one ms ks 0 NTInt k KHash h kind_int) l)
+kind_says_lifted ms ks k (NTApp t u) l h = refl
+kind_says_lifted ms ks k (NTFun t u) l h = refl
+kind_says_lifted ms ks k (NTForall j t) l h = refl
+kind_says_lifted ms ks k (NTCoForall r t u v) l h = refl
 
 join_at_a_type : (u : NTy) (j : JoinPoint) → substituted_join (type_for_innermost u) (shifted_join j) ≡ j
 join_at_a_type u j = rw (shifted_is_kept u j.type, shifted_is_kept u j.result) refl
@@ -179,8 +179,8 @@ at_a_type_fits ms c k u l h = record {
   joins = joins;
 }
   where
-    lifted : (i : ℕ) → is_int (type_for_innermost u i) ≡ false
-    lifted zero = lifted_is_not_int ms c.kinds k u l h
+    lifted : (i : ℕ) → is_unlifted (type_for_innermost u i) ≡ false
+    lifted zero = kind_says_lifted ms c.kinds k u l h
     lifted (suc i) = refl
 
     saturated : (i : ℕ) → IsSaturated ms (type_for_innermost u i)
@@ -220,7 +220,7 @@ expressions_stand ms closed = record {
   atom = λ d e t h int. h.1 int;
   innermost = λ d t. (typed_local refl, λ int. refl);
   past_value = λ d s e t h. (types_past_a_value ms closed (without_joins d) s e t h.0, λ int. renamed_atom past_a_value e (h.1 int));
-  past_type = λ d k e t h. (types_past_a_type ms closed (without_joins d) k e t h.0, λ int. renamed_atom past_a_type e (h.1 (sym (int_renamed suc t) ∙ int)));
+  past_type = λ d k e t h. (types_past_a_type ms closed (without_joins d) k e t h.0, λ int. renamed_atom past_a_type e (h.1 (sym (unlifted_renamed suc t) ∙ int)));
   past_coercion = λ d p e t h. (types_past_a_coercion ms closed (without_joins d) p e t h.0, λ int. renamed_atom past_a_coercion e (h.1 int));
   past_join = λ d e t h. (past_no_join d e t h.0, λ int. renamed_atom past_a_join e (h.1 int));
   proves = λ c d s r fit. coercion_replacement_keeps_ends ms closed.axioms c.kinds d.kinds c.coercions d.coercions s r fit;
@@ -247,7 +247,7 @@ coercion_itself ms c i e h = proves_variable (h ∙ ap (λ x. Ok x) (sym (ends_t
 pub join_in_place : (c : Context) (i : ℕ) (j : JoinPoint) → at_distance c.joins i ≡ Ok j → at_distance c.joins i ≡ Ok (substituted_join NTVar j)
 join_in_place c i j h = h ∙ ap (λ x. Ok x) (sym (join_itself j))
 
-pub at_a_value_fits : (ms : Modules) (c : Context) (s : NTy) (a : NExpr) → HasType ms (without_joins c) a s → (is_int s ≡ true → is_atom a ≡ true)
+pub at_a_value_fits : (ms : Modules) (c : Context) (s : NTy) (a : NExpr) → HasType ms (without_joins c) a s → (is_unlifted s ≡ true → is_atom a ≡ true)
     → Fits ms (with_value s c) c (value_alone a)
 at_a_value_fits ms c s a h atom = record {
   kinds = λ i k p. kind_variable p;

@@ -24,12 +24,12 @@ use Rattle.fc_model.proofs.UnderHeader.{all_are_in, all_keep, hidden_are_declare
 -- IMPORTS
 
 -- a set with one word more
-plus_in : (p s : WordSet) (v w : Word) (b : Bool) → bytes_eq v w ≡ b → p v ≡ true → (s w ≡ true → p w ≡ true) → (if b then true else s w) ≡ true → p w ≡ true
+pub plus_in : (p s : WordSet) (v w : Word) (b : Bool) → bytes_eq v w ≡ b → p v ≡ true → (s w ≡ true → p w ≡ true) → (if b then true else s w) ≡ true → p w ≡ true
 plus_in p s v w true same here there h = subst (λ x. p x ≡ true) (bytes_eq_eq v w same) here
 plus_in p s v w false same here there h = there h
 
 -- a word of a set holds, where all that were put in do, and all that were there
-in_all : (p s : WordSet) (ws : List Word) → list_all p ws ≡ true → ((w : Word) → s w ≡ true → p w ≡ true) → (w : Word) → plus_all ws s w ≡ true → p w ≡ true
+pub in_all : (p s : WordSet) (ws : List Word) → list_all p ws ≡ true → ((w : Word) → s w ≡ true → p w ≡ true) → (w : Word) → plus_all ws s w ≡ true → p w ≡ true
 in_all p s [] all rest w h = rest w h
 in_all p s (v ∷ ws) all rest w h =
     let a = and_parts (p v) (list_all p ws) all in in_all p (plus v s) ws a.1 (λ u g. plus_in p s v u (bytes_eq v u) refl a.0 (rest u) g) w h
@@ -41,7 +41,7 @@ skipped false true w ws vs h rest = rest
 skipped false false w ws vs h rest = rest
 skipped true false w ws vs h rest = false_true (h refl)
 
-none_chosen : (chosen but : WordSet) (ws : List Word) → ((w : Word) → chosen w ≡ true → but w ≡ true) → words_but chosen but ws ≡ []
+pub none_chosen : (chosen but : WordSet) (ws : List Word) → ((w : Word) → chosen w ≡ true → but w ≡ true) → words_but chosen but ws ≡ []
 none_chosen chosen but [] within = refl
 none_chosen chosen but (w ∷ ws) within = skipped (chosen w) (but w) w (words_but chosen but ws) [] (within w) (none_chosen chosen but ws within)
 

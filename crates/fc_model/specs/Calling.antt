@@ -15,6 +15,17 @@ use Rattle.fc_model.specs.Substituting.{instantiated, raised_type}
 
 -- WHAT A TYPE IS
 
+-- a type whose values are there at once, and none of which is put off
+abbrev pub is_unlifted : NTy → Bool
+is_unlifted (NTVar i) = false
+is_unlifted (NTCon n) = false
+is_unlifted NTInt = true
+is_unlifted (NTApp t u) = false
+is_unlifted (NTFun t u) = false
+is_unlifted (NTForall k t) = false
+is_unlifted (NTCoForall r t u v) = false
+
+-- the type of literals
 abbrev pub is_int : NTy → Bool
 is_int (NTVar i) = false
 is_int (NTCon n) = false
@@ -197,7 +208,7 @@ pub data Given : Type 0 where
 
 -- an unlifted place takes an atom
 abbrev pub atom_fits : NTy → Bool → Bool
-atom_fits t atom = not (is_int t) || atom
+atom_fits t atom = not (is_unlifted t) || atom
 
 abbrev pub applied_to_term : Option (NTy × NTy) → NTy → Bool → Result NTy F
 applied_to_term (Some (s, r)) t atom = need (same_type s t) ArgType (need (atom_fits s atom) UnliftedNotAtom (Ok r))

@@ -1,10 +1,11 @@
 -- Erasure: what is left of an expression when its types are gone. Casts, type lambdas and applications to types vanish. Lambdas
 -- over coercions take an unlifted argument, and a coercion as an argument is the literal 0. A join point becomes a let, or a
 -- recursive group, with a lifted binder; its parameters become lambdas, and a jump becomes applications. A primitive has two operands.
-use Rattle.std.specs.Prelude.{ℕ, zero, suc, pos, true, false, List, [], ◌∷◌}
+use Rattle.std.specs.Prelude.{ℕ, zero, suc, pos, true, false, List, [], ◌∷◌, if◌then◌else◌}
 use Rattle.fc_syntax.specs.declared.expr.Head.{Head}
 use Rattle.fc_syntax.specs.declared.expr.Head.TheVariants as head
-use Rattle.fc_model.specs.Nameless.{NTy, NTVar, NTCon, NTInt, NTApp, NTFun, NTForall, NTCoForall, NBinder, NBValue, NBType, NBCo}
+use Rattle.fc_model.specs.Calling.{is_unlifted}
+use Rattle.fc_model.specs.Nameless.{NTy, NBinder, NBValue, NBType, NBCo}
 use Rattle.fc_model.specs.Nameless.{NExpr, NLocal, NVar, NLit, NApp, NLam, NLet, NCase, NCast, NCon, NPrim, NFail, NJoin, NJump}
 use Rattle.fc_model.specs.Nameless.{NATerm, NAType, NACo, NBound, NJoined, NBranch}
 use Rattle.fc_model.specs.Nameless.{NoNExprs, MoreNExprs, NArgs, NoNArgs, MoreNArgs, NBinds, NoNBinds, MoreNBinds, NJoins, NoNJoins, MoreNJoins, NAlts, NoNAlts, MoreNAlts}
@@ -13,15 +14,9 @@ use Rattle.fc_model.specs.Terms.{Sort, Lifted, Unlifted, Term, Lit, Var, Global,
 
 -- SORTS
 
--- a value's binder is unlifted exactly if its type is `Int#`
+-- a value's binder has the sort of its type
 abbrev pub sort_of_type : NTy → Sort
-sort_of_type (NTVar i) = Lifted
-sort_of_type (NTCon n) = Lifted
-sort_of_type NTInt = Unlifted
-sort_of_type (NTApp t u) = Lifted
-sort_of_type (NTFun t u) = Lifted
-sort_of_type (NTForall k t) = Lifted
-sort_of_type (NTCoForall r t u v) = Lifted
+sort_of_type t = if is_unlifted t then Unlifted else Lifted
 
 -- SCOPES
 

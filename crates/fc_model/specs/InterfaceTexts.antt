@@ -1,9 +1,9 @@
 -- The one printed text of an interface: demands, signatures, unfoldings and values as pieces, and the layout of a module.
 use Rattle.std.specs.Prelude.{ℕ, List, [], ◌∷◌, ◌++◌, Bool, true, false, codes}
 use Rattle.fc_syntax.specs.declared.keyword.Keyword.TheVariants as word
-use Rattle.fc_syntax.specs.Tree.{Word, Ty, Expr, Decl, DData, DNew, DFamily, DAxiom, DDef, DWrap, ModuleOf}
+use Rattle.fc_syntax.specs.Tree.{Word, Ty, Decl, DDef, DWrap, ModuleOf}
 use Rattle.fc_model.specs.Words.{Key, Lower, Upper}
-use Rattle.fc_model.specs.Pieces.{Piece, Leaf, Group, Pieces, NoPieces, MorePieces, piece_text}
+use Rattle.fc_model.specs.Pieces.{Piece, Group, Pieces, NoPieces, piece_text}
 use Rattle.fc_model.specs.Spelling.{Alone, expr_pieces, form, group, leaf, type_pieces, upper_tok}
 use Rattle.fc_model.specs.Canonical.{decl_text, header_text}
 use Rattle.fc_syntax.specs.Demands.{Demand, Bottom, Absent, Product, Strict, Lazy, Demands, NoDemands, MoreDemands, Sig, SigOf}

@@ -3,7 +3,7 @@
 use Rattle.std.specs.Prelude.{◌≡◌, ℕ, All, Bool, true, false, List, [], length, Some, Ok}
 use Rattle.fc_syntax.specs.declared.ty.Name.{Name}
 use Rattle.fc_syntax.specs.Tree.{Kind, KStar, Module}
-use Rattle.fc_model.specs.Calling.{Constructor, data_name, Given, Takes, binders_to, constructor, constructor_type, is_int, type_count}
+use Rattle.fc_model.specs.Calling.{Constructor, data_name, Given, Takes, binders_to, constructor, constructor_type, is_unlifted, type_count}
 use Rattle.fc_model.specs.Coercing.{Ends}
 use Rattle.fc_model.specs.CoercingRules.{Proves}
 use Rattle.fc_model.specs.CoercionLaws.{AreAxiomsClosed, AreAxiomsKinded, AreEndsKinded, IsSaturated, substituted_ends}
@@ -45,12 +45,12 @@ KindedAreClosed = (ms : Modules) → AreDeclaredKinded ms → AreDeclaredClosed 
 abbrev pub substituted_join : (ℕ → NTy) → JoinPoint → JoinPoint
 substituted_join s j = record { arity = j.arity; type = substituted_type s j.type; result = substituted_type s j.result }
 
--- From the one context to the other: each type variable is given a type of its kind, and none `Int#`, the kind of which no variable
--- has, or a family that takes more arguments; each coercion variable what proves the same, each variable what is of its type, both as a
+-- From the one context to the other: each type variable is given a type of its kind, and none that is unlifted, the kind of which no
+-- variable has, or a family that takes more arguments; each coercion variable what proves the same, each variable what is of its type, both as a
 -- judgement has it, and each join point in reach one of its type.
 pub record FitsBy {V W : Type 0} (ms : Modules) (Proof : Context → W → Ends → Type 0) (IsOf : Context → V → NTy → Type 0) (c d : Context) (r : Replacement V W) : Type 0 where
   pub kinds : (i : ℕ) (k : Kind) → at_distance c.kinds i ≡ Ok k → HasKind ms d.kinds (r.types i) k
-  pub lifted : (i : ℕ) → is_int (r.types i) ≡ false
+  pub lifted : (i : ℕ) → is_unlifted (r.types i) ≡ false
   pub saturated : (i : ℕ) → IsSaturated ms (r.types i)
   pub coercions : (i : ℕ) (e : Ends) → at_distance c.coercions i ≡ Ok e → Proof d (r.coercions i) (substituted_ends r.types e)
   pub values : (i : ℕ) (t : NTy) → at_distance c.values i ≡ Ok t → IsOf (without_joins d) (r.values i) (substituted_type r.types t)
@@ -67,9 +67,9 @@ IsVariableProving d i e = at_distance d.coercions i ≡ Ok e
 abbrev pub IsCoercionProving : Modules → Context → NCo → Ends → Type 0
 IsCoercionProving ms d g e = Proves ms d.kinds d.coercions g e.role e.left e.right
 
--- an expression of a type, which is an atom where the type is `Int#`
+-- an expression of a type, which is an atom where the type is unlifted
 abbrev pub IsExpressionOf : Modules → Context → NExpr → NTy → Type 0
-IsExpressionOf ms d e t = HasType ms d e t × (is_int t ≡ true → is_atom e ≡ true)
+IsExpressionOf ms d e t = HasType ms d e t × (is_unlifted t ≡ true → is_atom e ≡ true)
 
 abbrev pub RenamingFits : Modules → Context → Context → Renaming → Type 0
 RenamingFits ms c d r = FitsBy ms IsVariableProving IsVariableOf c d r
@@ -123,7 +123,7 @@ TypesAtACoercion = (ms : Modules) → AreDeclaredClosed ms → (c : Context) (p 
 
 -- an expression in place of the innermost variable
 abbrev pub TypesAtAValue : Type 0
-TypesAtAValue = (ms : Modules) → AreDeclaredClosed ms → (c : Context) (s : NTy) (a : NExpr) → HasType ms (without_joins c) a s → (is_int s ≡ true → is_atom a ≡ true)
+TypesAtAValue = (ms : Modules) → AreDeclaredClosed ms → (c : Context) (s : NTy) (a : NExpr) → HasType ms (without_joins c) a s → (is_unlifted s ≡ true → is_atom a ≡ true)
     → (e : NExpr) (t : NTy) → HasType ms (with_value s c) e t → HasType ms c (replaced (value_alone a) e) t
 
 -- Arguments in place of the variables of binders that stand together: where what takes arguments for the binders takes these, they

@@ -82,23 +82,24 @@ righted_back (righted_later r) = righted_later (righted_back r)
 
 -- AMONG MODULES
 
+-- what is the same of the declarations of two modules of one name is so of the modules in scope, before the same modules
+pub same_among : (m : Word) (imports exports hidden : List Word) {ds es : List NDecl} (rest : List NModule) {X : Type 0} (f : List NDecl → X) → f ds ≡ f es → (o : Option Word)
+    → f (decls_at (NModuleOf m imports exports hidden ds ∷ rest) o) ≡ f (decls_at (NModuleOf m imports exports hidden es ∷ rest) o)
+same_among m imports exports hidden rest f same None = refl
+same_among m imports exports hidden {ds = ds} {es = es} rest f same (Some w) = either (bytes_eq m w)
+  where
+    either : (b : Bool) → f (if b then ds else decls_of_module rest w) ≡ f (if b then es else decls_of_module rest w)
+    either true = same
+    either false = refl
+
 -- a module with another right side, before the same modules
 module _ (m : Word) (imports exports hidden : List Word) {R : NExpr → NExpr → Type 0} {ds es : List NDecl} (rest : List NModule) (r : Righted R ds es) where
-  same_at : {X : Type 0} (f : List NDecl → X) → f ds ≡ f es → (o : Option Word)
-      → f (decls_at (NModuleOf m imports exports hidden ds ∷ rest) o) ≡ f (decls_at (NModuleOf m imports exports hidden es ∷ rest) o)
-  same_at f same None = refl
-  same_at f same (Some w) = either (bytes_eq m w)
-    where
-      either : (b : Bool) → f (if b then ds else decls_of_module rest w) ≡ f (if b then es else decls_of_module rest w)
-      either true = same
-      either false = refl
-
   pub righted_headers : SameHeaders (decls_at (NModuleOf m imports exports hidden ds ∷ rest)) (decls_at (NModuleOf m imports exports hidden es ∷ rest))
   righted_headers = record {
     alike = record {
-      types = λ o w. same_at (λ d. type_decl d w) (types_same r w) o;
-      constructors = λ o w. same_at (λ d. con_decl d w) (constructors_same r w) o;
-      axioms = λ o w. same_at (λ d. axiom_decl o d w) (axioms_same r o w) o;
+      types = λ o w. same_among m imports exports hidden rest (λ d. type_decl d w) (types_same r w) o;
+      constructors = λ o w. same_among m imports exports hidden rest (λ d. con_decl d w) (constructors_same r w) o;
+      axioms = λ o w. same_among m imports exports hidden rest (λ d. axiom_decl o d w) (axioms_same r o w) o;
     };
-    values = λ n. same_at (λ d. def_type d n.text) (defs_same r n.text) n.module;
+    values = λ n. same_among m imports exports hidden rest (λ d. def_type d n.text) (defs_same r n.text) n.module;
   }

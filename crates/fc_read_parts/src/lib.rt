@@ -2,6 +2,7 @@
 #![tactic(auto)]
 
 mod parts;
+mod refusing;
 mod terminal;
 mod words;
 
@@ -10,4 +11,5 @@ pub use parts::{
     read_module_name, read_name, read_number, read_open, read_operator, read_role, read_upper,
     read_upper_name, read_word, takes_co, takes_type,
 };
+pub use refusing::refusal_at;
 pub use terminal::{Terminal, module_text, name_text, terminals};

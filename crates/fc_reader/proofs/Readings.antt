@@ -22,7 +22,8 @@ use Rattle.fc_read_parts.specs.Seen.{seen, seen_all}
 use Rattle.fc_read_parts.specs.declared.terminal.Terminal.{Terminal}
 use Rattle.fc_reader.specs.Halting.{FirstBadWithin, IsDeep, IsMuch, PastLimit}
 use Rattle.fc_reader.specs.Nested.{IsPart}
-use Rattle.fc_reader.specs.Outcomes.{IsRefusalAt, IsRefusalOf}
+use Rattle.fc_read_parts.specs.Refusing.{IsRefusalAt}
+use Rattle.fc_reader.specs.Outcomes.{IsRefusalOf}
 use Rattle.fc_reader.specs.Refusals.{IsReadRefusalOf}
 use Rattle.fc_reader.proofs.Ends.{bad_form, deep_bracket, member_at, part_is_all}
 

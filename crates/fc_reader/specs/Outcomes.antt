@@ -1,17 +1,11 @@
--- What is refused at a byte of a file.
-use Rattle.std.specs.Prelude.{◌≡◌, ⊤, ℕ, List, None}
-use Rattle.fc_syntax.specs.declared.fault.FaultKind.{FaultKind}
+-- What is refused of a file whose bytes are no tokens.
+use Rattle.std.specs.Prelude.{◌≡◌, ℕ, List}
 use Rattle.fc_syntax.specs.declared.fault.FaultKind.TheVariants as kind
-use Rattle.fc_syntax.specs.declared.fault.Place.TheVariants as place
 use Rattle.fc_syntax.specs.declared.fault.Refusal.{Refusal}
 use Rattle.fc_syntax.specs.declared.fault.Refusal.TheVariants as refusal
 use Rattle.fc_lex.specs.declared.LexError.{LexError}
 use Rattle.fc_lex.specs.declared.LexError.TheVariants as error
-
--- a fault of this kind at this byte of this file, in no declaration
-abbrev pub IsRefusalAt : List ℕ → FaultKind → ℕ → Refusal → Type 0
-IsRefusalAt file k at (refusal.Fault f) = f ≡ record { kind = k; «module» = file; def = None; path = place.Byte at }
-IsRefusalAt file k at refusal.Memory = ⊤
+use Rattle.fc_read_parts.specs.Refusing.{IsRefusalAt}
 
 -- the refusal tells the fault of the tokens
 abbrev pub IsRefusalOf : List ℕ → LexError → Refusal → Type 0

@@ -12,14 +12,14 @@ ghost use Rattle.fc_read_parts.specs.Seen.{seen_all};
 ghost use Rattle.fc_reader.specs.Halting.{RefusesFile};
 ghost use Rattle.fc_reader.specs.Nested.{IsPart};
 ghost use Rattle.fc_reader.specs.Refusals.{IsReadRefusal, IsReadRefusalOf};
-ghost use Rattle.fc_reader.specs.Outcomes.{IsRefusalAt, IsRefusalOf};
+ghost use Rattle.fc_reader.specs.Outcomes.{IsRefusalOf};
 
 use crate::header::read_module_form;
 use crate::limits::Halt;
 use crate::nesting::up_to_deep_bracket;
 use fc_lex::LexError;
-use fc_read_parts::{Stop, Terminal, Tokens};
-use fc_syntax::{Fault, FaultKind, Module, Place, Refusal, Text, Token};
+use fc_read_parts::{Stop, Terminal, Tokens, refusal_at};
+use fc_syntax::{FaultKind, Module, Refusal, Token};
 use std::alloc::Global;
 
 /// The module within the limits that all the tokens are a text of, where there is this much room for its declarations.
@@ -117,21 +117,6 @@ fn byte_of_token(bytes: &[u8], tokens: &[Token], number: usize) -> u32
     match &tokens[number..] {
         [] => bytes.len() as u32,
         [token, ..] => token.from,
-    }
-}
-
-/// A fault at a byte of a file; out of memory where the name of the file cannot be copied.
-fn refusal_at(alloc: Global, file: &str, kind: FaultKind, at: u32) -> Refusal
-    ensures { IsRefusalAt file.now kind at result }
-{
-    match Text::from_str(alloc, file) {
-        Err(_) => Refusal::Memory,
-        Ok(module) => Refusal::Fault(Fault {
-            kind,
-            module,
-            def: None,
-            path: Place::Byte(at),
-        }),
     }
 }
 

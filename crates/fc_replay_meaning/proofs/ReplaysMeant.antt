@@ -19,19 +19,19 @@ use Rattle.fc_reaching.specs.Numbering.{word_of}
 use Rattle.fc_meaning.proofs.HeldDeclarations.{modules_are_held}
 use Rattle.fc_meaning.proofs.WrittenExpressions.{AreDeclsWritten, IsDeclWritten}
 use Rattle.fc_counted.specs.CountingLaws.{SeesSame}
-use Rattle.fc_rows.specs.Dropping.{DropsDead}
+use Rattle.fc_rows.specs.Dropping.{DropsDead, is_kept}
 use Rattle.fc_rows.specs.Replaying.{Replays, at_end, past_mark, past_step, Rewrites, at_a_place, of_the_module}
 use Rattle.fc_rows.specs.Rewriting.{without_definitions}
 use Rattle.fc_row_types.proofs.Made.{none_some, some_some}
 use Rattle.fc_rows_written.proofs.RowsWritten.{rows_keep_written}
 use Rattle.fc_kept_meaning.specs.FairImports.{IsToldTruly, TellDeclarations, TellsTruth, TellTruth}
-use Rattle.fc_kept_meaning.specs.MeaningKept.{HoldsModule, IsDead, MayBeAsked, OthersKeepOut, is_kept, takes_dead, with_module}
+use Rattle.fc_kept_meaning.specs.MeaningKept.{HoldsModule, IsDead, MayBeAsked, OthersKeepOut, takes_dead, with_module}
 use Rattle.fc_kept_meaning.proofs.ChangesKeepMeaning.{linted_rights, with_module_sorted}
 use Rattle.fc_kept_meaning.proofs.DeadDefinitions.{dead_keeps_meaning}
 use Rattle.fc_kept_meaning.proofs.ShownFurther.{placed_again, placed_holds}
-use Rattle.fc_replays.specs.ReplaysKept.{Stands, with_declarations}
-use Rattle.fc_replays.proofs.NeededClosed.{Defines, defines_here, wraps_here, defines_later, mention_kept_names, offered_kept}
-use Rattle.fc_replays.proofs.StepsKept.{replayed, step_stands}
+use Rattle.fc_replay_types.specs.ReplaysKept.{Stands, with_declarations}
+use Rattle.fc_replay_types.proofs.NeededClosed.{Defines, defines_here, wraps_here, defines_later, mention_kept_names, offered_kept}
+use Rattle.fc_replay_types.proofs.StepsKept.{replayed, step_stands}
 use Rattle.fc_row_meaning.specs.RowMeaningLaws.{MeansTheSame}
 use Rattle.fc_row_meaning.proofs.RowsMeant.{rows_mean_the_same}
 use Rattle.fc_replay_meaning.specs.ReplaysMeaning.{ReplaysKeepMeaning}
@@ -151,8 +151,8 @@ dropped_meant xs (NModuleOf m imports exports hidden ds) k stands w left drops =
     let dead : IsDead n drops.keep = record {
       offered = λ v o. offered_kept m imports exports hidden ds xs stands drops.keep drops.needed v o;
       closed = λ v t kept found. let r = erased_right ds v t found in
-          subst (Mentions (λ x. is_kept n drops.keep x ≡ true)) r.2
-          (erased_mentions (λ x. is_kept n drops.keep x ≡ true) no_scope r.0 (mention_kept_names m imports exports hidden ds xs stands drops.keep drops.needed v r.0 r.1 kept));
+          subst (Mentions (λ x. is_kept drops.keep (word_of n) x ≡ true)) r.2
+          (erased_mentions (λ x. is_kept drops.keep (word_of n) x ≡ true) no_scope r.0 (mention_kept_names m imports exports hidden ds xs stands drops.keep drops.needed v r.0 r.1 kept));
     } in
     let written = fewer_written drops.keep ds w in
     let there : Stands xs new = subst (Stands xs) drops.left left in

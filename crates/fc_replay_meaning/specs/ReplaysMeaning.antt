@@ -5,7 +5,7 @@ use Rattle.fc_model.specs.Headers.{ndecls_in}
 use Rattle.fc_model.specs.Nameless.{NModule}
 use Rattle.fc_meaning.proofs.WrittenExpressions.{AreDeclsWritten}
 use Rattle.fc_rows.specs.Replaying.{Replays}
-use Rattle.fc_replays.specs.ReplaysKept.{Stands}
+use Rattle.fc_replay_types.specs.ReplaysKept.{Stands}
 use Rattle.fc_row_meaning.specs.RowMeaningLaws.{MeansTheSame}
 
 -- What the steps of a log, one after the other, make of a module that stands among its imports means what the module does, if all right sides are written.

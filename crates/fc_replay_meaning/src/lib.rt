@@ -3,8 +3,8 @@
 
 ghost use Rattle.fc_replay_meaning.specs.ReplaysMeaning.{ReplaysKeepMeaning};
 
-/// What a log of rows that need nothing of their place but types and join points, and of definitions that are taken away, makes of a module shows the same in each
-/// program that holds the module.
+/// What a log makes of a module that stands among its imports shows the same as the module in each program that holds it and of which its imports tell right sides, if all
+/// right sides are written.
 pub fn replays_keep_meaning()
     ensures replays { ReplaysKeepMeaning }
 {}

@@ -36,6 +36,23 @@ pub record Goes (P : Saying) : Type 0 where
   pub coercion_past : (k i : ℕ) → P.coercion_at k i → P.coercion_at (suc k) (suc i)
   pub coercion_back : (k i : ℕ) → P.coercion_at (suc k) (suc i) → P.coercion_at k i
 
+-- what holds of every variable does so everywhere
+pub goes_everywhere : (P : Saying) → ((k i : ℕ) → P.type_at k i) → ((k i : ℕ) → P.value_at k i) → ((k i : ℕ) → P.join_at k i) → ((k i : ℕ) → P.coercion_at k i) → Goes P
+goes_everywhere P types values joins coercions = record {
+  type_here = λ k. types (suc k) zero;
+  type_past = λ k i h. types (suc k) (suc i);
+  type_back = λ k i h. types k i;
+  value_here = λ k. values (suc k) zero;
+  value_past = λ k i h. values (suc k) (suc i);
+  value_back = λ k i h. values k i;
+  join_here = λ k. joins (suc k) zero;
+  join_past = λ k i h. joins (suc k) (suc i);
+  join_back = λ k i h. joins k i;
+  coercion_here = λ k. coercions (suc k) zero;
+  coercion_past = λ k i h. coercions (suc k) (suc i);
+  coercion_back = λ k i h. coercions k i;
+}
+
 -- LOOKING A WORD UP
 
 pub some_some : {X : Type 0} (x y : X) → Some x ≡ Some y → x ≡ y

@@ -2,10 +2,9 @@
 use Rattle.std.proofs.Common.{◌≡◌, Bool, true, false, not, ◌&&◌, ◌||◌, if◌then◌else◌, [], Some, None, refl, sym, ap, ◌∙◌, subst}
 use Rattle.std.proofs.lemmas.Bool.{and_parts}
 use Rattle.fc_syntax.specs.declared.expr.Head.TheVariants as head
-use Rattle.fc_model.specs.Calling.{is_int}
 use Rattle.fc_model.specs.Erasure.{Scope, below_value, erased, sort_of_type}
 use Rattle.fc_model.specs.Kinding.{Modules}
-use Rattle.fc_model.specs.Nameless.{NTy, NTVar, NTCon, NTInt, NTApp, NTFun, NTForall, NTCoForall, NBValue, NBType, NBCo, NBranch, NoNAlts, MoreNAlts, NExpr, NLocal, NVar}
+use Rattle.fc_model.specs.Nameless.{NTy, NTInt, NBValue, NBType, NBCo, NBranch, NoNAlts, MoreNAlts, NExpr, NLocal, NVar}
 use Rattle.fc_model.specs.Nameless.{NLit, NApp, NLam, NLet, NCase, NCast, NCon, NPrim, NFail, NJoin, NJump, NoNArgs}
 use Rattle.fc_model.specs.Replacing.{replaced, value_alone}
 use Rattle.fc_model.specs.Stepping.{Bare, ConKey, Key, LamKey, LitKey, choose, default_of, matches, own}
@@ -17,13 +16,13 @@ use Rattle.fc_model.proofs.Sameness.{false_true}
 use Rattle.fc_model.proofs.TypesKinded.{without_joins_kinded}
 use Rattle.fc_model.proofs.TypesRead.{type_is_read_off}
 use Rattle.fc_rows.specs.Shrinking.{case_evaluated, is_con}
-use Rattle.fc_rows.specs.Shrinking.{is_evaluated, is_evaluated_atom, is_unlifted, let_of}
+use Rattle.fc_rows.specs.Shrinking.{is_evaluated, is_evaluated_atom, is_of_unlifted_type, let_of}
 use Rattle.fc_rows.specs.Surroundings.{Known, Surroundings, is_value}
 use Rattle.fc_row_types.specs.TypesKept.{Holds}
 use Rattle.fc_row_types.proofs.EvaluatedKept.{value_star}
 use Rattle.fc_row_types.proofs.Made.{if_some_inv, none_some, some_some}
 use Rattle.fc_meaning.proofs.HeldDeclarations.{AreHeld}
-use Rattle.fc_meaning.proofs.SortsOfTypes.{lifted_by_kind}
+use Rattle.fc_meaning.proofs.SortsOfTypes.{lifted_by_kind, lifted_is}
 use Rattle.fc_meaning.proofs.WrittenExpressions.{IsWritten}
 use Rattle.fc_term_rows.specs.TermRows.{HasKey, key_of_constructor, key_of_lambda}
 use Rattle.fc_row_places.specs.KnowingRows.{NChosen, nchosen_default}
@@ -100,16 +99,6 @@ module _ (G : NKnown) where
       let g = known refl in
       place_known v w g.1 (subst (λ o. NChosen (below_value (sort_of_type xt) (scope_at c)) o g.0 (MoreNAlts (NBranch head.Default [] b) NoNAlts) [] b NoNArgs) (sym l) nchosen_default) tt
 
-  -- what is lifted is no `Int#`
-  lifted_no_int : (t : NTy) → sort_of_type t ≡ Lifted → is_int t ≡ false
-  lifted_no_int (NTVar i) h = refl
-  lifted_no_int (NTCon n) h = refl
-  lifted_no_int NTInt h = absurd cc
-  lifted_no_int (NTApp t u) h = refl
-  lifted_no_int (NTFun t u) h = refl
-  lifted_no_int (NTForall k t) h = refl
-  lifted_no_int (NTCoForall r t u v) h = refl
-
   first_of_two : (a b : Bool) → a || b ≡ true → b ≡ false → a ≡ true
   first_of_two true b h n = refl
   first_of_two false b h n = false_true (sym n ∙ h)
@@ -121,11 +110,11 @@ module _ (G : NKnown) where
     evaluated_placed s g c told (NLit z) xt rt b f wb h t (typed_case j k typed_literal sk rk fit w) =
         subst (PlaceRow G c (NCase (NLit z) NTInt rt (MoreNAlts (NBranch head.Default [] b) NoNAlts))) (some_some h) (place_atom refl refl)
     evaluated_placed s g c told (NLocal i) xt rt b f wb h t (typed_case j k p sk rk fit w) =
-        let m = if_some_inv (is_evaluated (s.locals i) || is_unlifted (type_read_off ms s.context (NLocal i))) (Some (replaced (value_alone (NLocal i)) b)) f h in
+        let m = if_some_inv (is_evaluated (s.locals i) || is_of_unlifted_type (type_read_off ms s.context (NLocal i))) (Some (replaced (value_alone (NLocal i)) b)) f h in
         subst (PlaceRow G c (NCase (NLocal i) xt rt (MoreNAlts (NBranch head.Default [] b) NoNAlts))) (some_some m.1)
         (atom_placed c (NLocal i) xt rt b refl wb (sort_of_type xt) refl
         (λ l. told_fact (NKnows G c) (NLocal i) (s.locals i) (told.locals i)
-        (first_of_two (is_evaluated (s.locals i)) (is_unlifted (type_read_off ms s.context (NLocal i))) m.0 (ap is_unlifted (type_is_read_off ms p) ∙ lifted_no_int xt l))))
+        (first_of_two (is_evaluated (s.locals i)) (is_of_unlifted_type (type_read_off ms s.context (NLocal i))) m.0 (ap is_of_unlifted_type (type_is_read_off ms p) ∙ lifted_is xt l))))
     evaluated_placed s g c told (NVar n) xt rt b f wb h t (typed_case j k p sk rk fit w) =
         let m = if_some_inv (is_evaluated (s.names n)) (Some (replaced (value_alone (NVar n)) b)) f h in
         subst (PlaceRow G c (NCase (NVar n) xt rt (MoreNAlts (NBranch head.Default [] b) NoNAlts))) (some_some m.1)

@@ -37,8 +37,9 @@ use Rattle.fc_kept_meaning.specs.PlaceRows.{place_constructor, place_head, place
 use Rattle.fc_row_meaning.specs.LocalsTold.{Told, told_constructor, told_head, told_literal}
 use Rattle.fc_row_meaning.proofs.PlacedWhereTold.{IsPlacedWhereTold}
 use Rattle.fc_row_meaning.proofs.ChosenAlternatives.{constructor_chosen, found_written, literal_chosen, other_chosen}
-use Rattle.fc_row_meaning.proofs.KnownParts.{constructed_parts, lets_stand, pair_named}
+use Rattle.fc_row_meaning.proofs.KnownParts.{constructed_parts, lets_stand}
 use Rattle.fc_row_meaning.proofs.ScopesAround.{scope_fits}
+use Rattle.fc_row_types.proofs.JoinRowsKept.{pair_named}
 
 -- an alternative as it is found
 abbrev Found : Type 0

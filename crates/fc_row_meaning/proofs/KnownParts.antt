@@ -1,10 +1,10 @@
 -- What typing tells of the arguments of a constructor: types for its parameters, parts of the sorts of the binders of its alternative, and lets of the
 -- sorts of its terms.
-use Rattle.std.proofs.Common.{◌≡◌, ℕ, zero, suc, Bool, true, List, [], ◌∷◌, length, Some, refl, sym, ap, ◌∙◌, subst}
+use Rattle.std.proofs.Common.{◌≡◌, ℕ, zero, suc, Bool, true, List, [], ◌∷◌, length, Some, refl, sym, ◌∙◌, subst}
 use Rattle.fc_syntax.specs.declared.ty.Name.{Name}
 use Rattle.fc_syntax.specs.Tree.{Kind}
-use Rattle.fc_model.specs.Calling.{Constructor, Given, Takes, takes_nothing, takes_term, takes_type, takes_coercion, at_types, binders_to, constructor, constructor_binders, constructor_type, over_binders}
-use Rattle.fc_model.specs.Calling.{data_name, type_arguments}
+use Rattle.fc_model.specs.Calling.{Constructor, Given, Takes, takes_nothing, takes_term, takes_type, takes_coercion, binders_to, constructor, constructor_binders, constructor_type, over_binders}
+use Rattle.fc_model.specs.Calling.{data_name}
 use Rattle.fc_model.specs.Erasure.{Scope, sort_of_type}
 use Rattle.fc_model.specs.Kinding.{Modules, is_lifted}
 use Rattle.fc_model.specs.Nameless.{NTy, NTVar, NTCon, NTApp, NParam, NBinder, NBValue, NBType, NBCo, NATerm, NAType, NACo, NArgs, NoNArgs, MoreNArgs, NExpr}
@@ -14,7 +14,6 @@ use Rattle.fc_model.specs.Terms.{Lifted}
 use Rattle.fc_model.specs.Typing.{Context, applied_to_types}
 use Rattle.fc_model.specs.TypingRules.{HasType, ArgsAreGiven, no_args, one_arg, given_term, given_type, given_coercion, BindersAreKinded, one_binder, type_binder}
 use Rattle.fc_model.proofs.ArgumentsFit.{coercion_taken, instantiated_before, term_taken, type_taken}
-use Rattle.fc_model.proofs.CallsKept.{same_as_inv}
 use Rattle.fc_model.proofs.ConstructorsRead.{constructed_is_read}
 use Rattle.fc_model.proofs.Sameness.{false_true}
 use Rattle.fc_model.proofs.Substitutions.{variables_for_themselves}
@@ -22,7 +21,7 @@ use Rattle.fc_rows.specs.Shrinking.{behind_lets, let_of, named_arguments, pair_w
 use Rattle.fc_rows.specs.Surroundings.{past_values}
 use Rattle.fc_row_types.proofs.AlternativesTaken.{ConBody}
 use Rattle.fc_row_types.proofs.CaseKnownKept.{same_found}
-use Rattle.fc_row_types.proofs.ConstructorParts.{constructed_arguments, constructor_parts}
+use Rattle.fc_row_types.proofs.ConstructorParts.{constructor_parts, taken_for_binders}
 use Rattle.fc_row_types.proofs.Made.{made_inv, none_some, some_some}
 use Rattle.fc_meaning.specs.Laws.{Agrees}
 use Rattle.fc_meaning.proofs.ArgSorts.{sort_is}
@@ -40,22 +39,6 @@ first_types_gone (p ∷ ps) NoNArgs t u h = none_some h
 first_types_gone (p ∷ ps) (MoreNArgs (NAType x) rest) t u h = let q = first_types_gone ps rest (NTApp t x) u h in (behind_one q.0, q.1)
 first_types_gone (p ∷ ps) (MoreNArgs (NATerm e) rest) t u h = none_some h
 first_types_gone (p ∷ ps) (MoreNArgs (NACo g) rest) t u h = none_some h
-
-pub pair_named : (bs : List NBinder) (args : NArgs) → pair_with bs (named_arguments args) ≡ pair_with bs args
-pair_named [] NoNArgs = refl
-pair_named [] (MoreNArgs (NATerm e) rest) = refl
-pair_named [] (MoreNArgs (NAType u) rest) = refl
-pair_named [] (MoreNArgs (NACo g) rest) = refl
-pair_named (b ∷ bs) NoNArgs = refl
-pair_named (NBValue t ∷ bs) (MoreNArgs (NATerm e) rest) = pair_named bs rest
-pair_named (NBValue t ∷ bs) (MoreNArgs (NAType u) rest) = refl
-pair_named (NBValue t ∷ bs) (MoreNArgs (NACo g) rest) = refl
-pair_named (NBType k ∷ bs) (MoreNArgs (NATerm e) rest) = refl
-pair_named (NBType k ∷ bs) (MoreNArgs (NAType u) rest) = pair_named bs rest
-pair_named (NBType k ∷ bs) (MoreNArgs (NACo g) rest) = refl
-pair_named (NBCo o t u ∷ bs) (MoreNArgs (NATerm e) rest) = refl
-pair_named (NBCo o t u ∷ bs) (MoreNArgs (NAType w) rest) = refl
-pair_named (NBCo o t u ∷ bs) (MoreNArgs (NACo g) rest) = pair_named bs rest
 
 -- SORTS
 
@@ -106,15 +89,10 @@ module _ (ms : Modules) (held : AreHeld ms) where
   constructed_parts d agree n k args x rt bs e found takes given long con =
       let gone = first_types_gone k.params args (NTCon (data_name n k.data_word)) x (constructed_is_read ms n k takes given long) in
       let p = constructor_parts ms n k x takes given long in
-      let read = constructed_arguments ms n k x takes given long in
-      let there : at_types (constructor_type n k) (type_arguments x) ≡ Some (binders_to bs x) =
-      subst (λ l. at_types (constructor_type n l) (type_arguments x) ≡ Some (binders_to bs x)) (same_found (constructor ms n) con.found found)
-      (same_as_inv (at_types (constructor_type n con.constructor_of) (type_arguments x)) (binders_to bs x) con.fits) in
-      let reached : at_types (constructor_type n k) (type_arguments x) ≡ Some p.type = ap (at_types (constructor_type n k)) read.0 ∙ p.reached in
-      let whole : p.type ≡ binders_to bs x = some_some (sym reached ∙ there) in
+      let taken = taken_for_binders ms n k con.constructor_of x bs takes given long (same_found (constructor ms n) con.found found) con.fits in
       record {
         behind = gone.0;
         named = gone.1;
         fit = λ h. parts_fit bs NTVar (λ i. refl) _ (without_first k.params args) d agree con.body.kinds p.are_given
-            (subst (λ t. Takes t p.given x) (whole ∙ sym (variables_for_themselves (binders_to bs x))) p.takes) h;
+            (subst (λ t. Takes t p.given x) (sym (variables_for_themselves (binders_to bs x))) taken) h;
       }

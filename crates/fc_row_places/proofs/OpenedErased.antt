@@ -3,7 +3,6 @@ use Rattle.std.proofs.Common.{◌≡◌, ℕ, zero, suc, List, [], ◌∷◌, le
 use Rattle.fc_model.specs.Erasure.{Scope, arg_sorts, below_all, below_unnamed, below_value, binder_sorts, erased, erased_args, sort_of, sort_of_type}
 use Rattle.fc_model.specs.Nameless.{NTy, NBinder, NBValue, NBType, NBCo, NExpr, NATerm, NAType, NACo, NArgs, NoNArgs, MoreNArgs}
 use Rattle.fc_model.specs.Replacing.{Substitution, expressions, past_a_value, with_argument, with_arguments}
-use Rattle.fc_model.specs.Stepping.{next}
 use Rattle.fc_model.specs.Substituting.{substituted_type}
 use Rattle.fc_model.specs.Terms.{Sort, Lifted, Unlifted, Term, Var, Terms, count, push, pushes, upr}
 use Rattle.fc_rows.specs.Shrinking.{moved_args}
@@ -11,7 +10,6 @@ use Rattle.fc_meaning.proofs.SortsOfTypes.{sort_of_substituted}
 use Rattle.fc_meaning.proofs.WrittenExpressions.{AreArgsWritten, IsWritten}
 use Rattle.fc_erased.specs.Erasing.{Erases}
 use Rattle.fc_erased.proofs.ErasedReplacements.{past_value_erases, sort_renamed}
-use Rattle.fc_term_rows.proofs.SameHeads as same
 use Rattle.fc_row_places.specs.KnowingRows.{PartsFit}
 use Rattle.fc_row_places.specs.NamelessFacts.{BehindTypes, behind_none, behind_one}
 use Rattle.fc_row_places.proofs.MovedFacts.{PartsBecome, no_parts_erase, term_part, type_part, coercion_part}

@@ -3,7 +3,7 @@ use Rattle.std.proofs.Common.{◌≡◌, ℕ, ◌+◌, Bool, true, false, not, �
 use Rattle.fc_syntax.specs.declared.ty.Name.{Name}
 use Rattle.fc_syntax.specs.declared.expr.Head.TheVariants as head
 use Rattle.fc_syntax.specs.Tree.{Kind, KStar, KHash}
-use Rattle.fc_model.specs.Calling.{Constructor, Given, GivenTerm, Takes, at_types, binders_to, constructor, constructor_binders, constructor_type, first_of, from_some, is_int, takes_nothing, takes_term, type_arguments}
+use Rattle.fc_model.specs.Calling.{Constructor, Given, GivenTerm, Takes, binders_to, constructor, constructor_binders, constructor_type, first_of, from_some, is_unlifted, takes_nothing, takes_term}
 use Rattle.fc_model.specs.Calling.{type_count}
 use Rattle.fc_model.specs.Faulting.{at_distance}
 use Rattle.fc_model.specs.Kinding.{Modules, HasKind, kind_int}
@@ -14,7 +14,7 @@ use Rattle.fc_model.specs.Substituting.{raised_type, substituted_type}
 use Rattle.fc_model.specs.Typing.{Start, Context, is_atom, with_binders, with_value, without_joins}
 use Rattle.fc_model.specs.TypingLaws.{AreDeclaredKinded, IsContextKinded, IsValueType, RenamingFits}
 use Rattle.fc_model.specs.TypingRules.{AltsFit, ArgsAreGiven, no_args, one_arg, given_term, BindersAreKinded, one_binder, value_binder, HasType, typed_local, typed_declared, typed_literal, typed_case, typed_con}
-use Rattle.fc_model.proofs.CallsKept.{from_some_inv, raised_by_nothing, same_as_inv, takes_kept}
+use Rattle.fc_model.proofs.CallsKept.{from_some_inv, raised_by_nothing, takes_kept}
 use Rattle.fc_model.proofs.FitsKept.{fits_binders, fits_value, fits_without_joins}
 use Rattle.fc_model.proofs.PutInKept.{args_kept, type_kept}
 use Rattle.fc_model.proofs.RenamedItself.{all_types_themselves, binders_themselves, each_type}
@@ -28,7 +28,7 @@ use Rattle.fc_rows.specs.Shrinking.{alternative_of, are_trivial, at_constructor,
 use Rattle.fc_rows.specs.Shrinking.{pair_with, term_count, without_first}
 use Rattle.fc_rows.specs.Surroundings.{Known, Is, past_values}
 use Rattle.fc_row_types.proofs.AlternativesTaken.{Body, ConBody, alternative_fits, at_binders, constructor_fits, pair_moved}
-use Rattle.fc_row_types.proofs.ConstructorParts.{constructed_arguments, constructor_parts, first_types_named}
+use Rattle.fc_row_types.proofs.ConstructorParts.{constructed_arguments, constructor_parts, taken_for_binders}
 use Rattle.fc_row_types.proofs.Contexts.{with_all_values}
 use Rattle.fc_row_types.proofs.Holding.{closed, past_a_value_fits}
 use Rattle.fc_row_types.proofs.LetsKept.{let_types, lets_typed, named_are_given, named_given, named_length, named_taken, past_lets}
@@ -102,7 +102,7 @@ module _ (ms : Modules) (declared : AreDeclaredKinded ms) where
 
   -- an alternative for a value that has these parts
   for_value : (d : Context) (x t : NTy) (j : Kind) → HasKind ms d.kinds x j → (bs : List NBinder) (e : NExpr) → Body ms (with_value x d) t bs e → (y : NExpr)
-      → HasType ms (without_joins d) y x → not (is_int x) || is_atom y ≡ true → (parts : NArgs) (gs : List Given) → ArgsAreGiven ms (without_joins d) parts gs
+      → HasType ms (without_joins d) y x → not (is_unlifted x) || is_atom y ≡ true → (parts : NArgs) (gs : List Given) → ArgsAreGiven ms (without_joins d) parts gs
       → (s u : NTy) → Takes (binders_to bs s) gs u → pair_with bs parts ≡ true → HasType ms d (replaced (with_arguments (MoreNArgs (NATerm y) parts) unchanged) e) t
   for_value d x t j kind bs e body y typed atom parts gs given s u takes pairs =
       at_binders ms declared false (NBValue x ∷ bs) d (with_case_binder d.kinds x j bs kind body.kinds) (MoreNArgs (NATerm y) parts) (GivenTerm x (is_atom y) ∷ gs)
@@ -130,26 +130,22 @@ module _ (ms : Modules) (declared : AreDeclaredKinded ms) where
       let whole : HasType ms (without_joins d) (NCon n named) x = typed_con k (named_given gs) found named_are (named_length gs ∙ long) taken in
       let read = constructed_arguments ms n k x takes given long in
       let p = constructor_parts ms n k x taken named_are (named_length gs ∙ long) in
-      let there : at_types (constructor_type n k) (type_arguments x) ≡ Some (binders_to bs x) =
-      subst (λ l. at_types (constructor_type n l) (type_arguments x) ≡ Some (binders_to bs x)) (same_found (constructor ms n) con.found found)
-      (same_as_inv (at_types (constructor_type n con.constructor_of) (type_arguments x)) (binders_to bs x) con.fits) in
-      let reached : at_types (constructor_type n k) (type_arguments x) ≡ Some p.type = ap (at_types (constructor_type n k)) (read.0 ∙ sym (first_types_named k.params args)) ∙ p.reached in
-      let taken_parts : Takes (binders_to bs x) p.given x = subst (λ y. Takes y p.given x) (some_some (sym reached ∙ there)) p.takes in
+      let taken_parts = taken_for_binders ms n k con.constructor_of x bs taken named_are (named_length gs ∙ long) (same_found (constructor ms n) con.found found) con.fits in
       let fits = past_lets_fits c given in
       let typed : HasType ms (with_binders bs (with_value x d)) body (raised_type (type_count bs) t) =
       moved_behind (with_value x c) (with_value x d) (below_values variables coercion_variables 1 r) refl (value_past c d r refl fits x) bs b t con.body.typed in
       let inner : Body ms (with_value x d) t bs body = record { kinds = con.body.kinds; typed = typed } in
-      let unused = for_value d x t value.0 value.1 bs body inner (NCon n named) whole (fits_lifted (is_int x) read.1) parts p.given p.are_given x x taken_parts m.0 in
+      let unused = for_value d x t value.0 value.1 bs body inner (NCon n named) whole (fits_lifted (is_unlifted x) read.1) parts p.given p.are_given x x taken_parts m.0 in
       let past = parts_past d x bs parts p.given p.are_given taken_parts in
       let used_body = at_binders ms declared false bs (with_value x d) con.body.kinds (moved_args past_a_value parts) past.0 past.1 x x past.2
       (pair_moved past_a_value bs parts ∙ m.0) body t typed in
-      let used = let_typed ms declared d x (NCon n named) _ t value whole (fits_lifted (is_int x) read.1) used_body in
+      let used = let_typed ms declared d x (NCon n named) _ t value whole (fits_lifted (is_unlifted x) read.1) used_body in
       let start : (i : ℕ) → at_distance c.values (i + 0) ≡ at_distance c.values i = λ i. let e : i + 0 ≡ i = omega arith in ap (at_distance c.values) e in
       lets_typed ms declared c given (constructor_type n k) takes context 0 c.values start _ f t (either_typed d t (is_dead (occurrences (innermost_values 1) (replaced (with_arguments (moved_args past_a_value parts) unchanged) body)))
       (replaced (with_arguments (MoreNArgs (NATerm (NCon n named)) parts) unchanged) body) (let_of x (NCon n named) (replaced (with_arguments (moved_args past_a_value parts) unchanged) body)) unused used) m.1
 
   -- an alternative without binders, behind a let
-  let_scrutinee : (c : Context) (x t : NTy) (e : NExpr) → HasType ms (without_joins c) e x → IsValueType ms c.kinds x → not (is_int x) || is_atom e ≡ true
+  let_scrutinee : (c : Context) (x t : NTy) (e : NExpr) → HasType ms (without_joins c) e x → IsValueType ms c.kinds x → not (is_unlifted x) || is_atom e ≡ true
       → (bs : List NBinder) (b : NExpr) → Body ms (with_value x c) t bs b → (f : NExpr) → at_scrutinee x e (bs, b) ≡ Some f → HasType ms c f t
   let_scrutinee c x t e typed value atom [] b body f h =
       subst (λ y. HasType ms c y t) (some_some h) (let_typed ms declared c x e b t value typed atom (subst (λ y. HasType ms (with_value x c) b y) (raised_by_nothing t) body.typed))
@@ -158,7 +154,7 @@ module _ (ms : Modules) (declared : AreDeclaredKinded ms) where
   abbrev Found : Context → NTy → NTy → Option (List NBinder × NExpr) → Type 0
   Found c x t o = (bs : List NBinder) (b : NExpr) → o ≡ Some (bs, b) → Body ms (with_value x c) t bs b
 
-  from_scrutinee : (c : Context) (x t : NTy) (e : NExpr) → HasType ms (without_joins c) e x → IsValueType ms c.kinds x → not (is_int x) || is_atom e ≡ true
+  from_scrutinee : (c : Context) (x t : NTy) (e : NExpr) → HasType ms (without_joins c) e x → IsValueType ms c.kinds x → not (is_unlifted x) || is_atom e ≡ true
       → (o : Option (List NBinder × NExpr)) → Found c x t o → (f : NExpr) → from_some (at_scrutinee x e) o ≡ Some f → HasType ms c f t
   from_scrutinee c x t e typed value atom (Some (bs, b)) found f h = let_scrutinee c x t e typed value atom bs b (found bs b refl) f h
   from_scrutinee c x t e typed value atom None found f h = none_some h
@@ -173,7 +169,7 @@ module _ (ms : Modules) (declared : AreDeclaredKinded ms) where
       no_parts : (bs : List NBinder) (b : NExpr) → Body ms (with_value x c) t bs b → pair_with bs NoNArgs ≡ true
           → HasType ms c (replaced (with_arguments (MoreNArgs (NATerm y) NoNArgs) unchanged) b) t
       no_parts [] b body pairs =
-          for_value c x t j kind [] b body y typed (rw atom (fits_atom (is_int x))) NoNArgs [] no_args x (raised_type 0 x) takes_nothing refl
+          for_value c x t j kind [] b body y typed (rw atom (fits_atom (is_unlifted x))) NoNArgs [] no_args x (raised_type 0 x) takes_nothing refl
       no_parts (z ∷ bs) b body pairs = false_true pairs
   from_variable c x t j kind y typed atom None found f h = none_some h
 
@@ -194,7 +190,7 @@ module _ (ms : Modules) (declared : AreDeclaredKinded ms) where
   on_constructor c context x t n args alts (typed_con k gs found given long takes) fit None same f h =
       let read = constructed_arguments ms n k x takes given long in
       from_scrutinee c x t (NCon n args) (typed_con k gs found given long takes) (called_kinded ms c.kinds takes (all_given_kinded ms given) (constructor_kinded c.kinds n k found))
-      (fits_lifted (is_int x) read.1) (alternative_of head.Default alts) (λ bs b q. alternative_fits ms fit head.Default bs b q) f h
+      (fits_lifted (is_unlifted x) read.1) (alternative_of head.Default alts) (λ bs b q. alternative_fits ms fit head.Default bs b q) f h
 
   -- a variable that is known as a constructor
   variable_constructed : (c : Context) (x t : NTy) (j : Kind) → HasKind ms c.kinds x j → (y : NExpr) → HasType ms (without_joins c) y x → is_atom y ≡ true
@@ -206,14 +202,9 @@ module _ (ms : Modules) (declared : AreDeclaredKinded ms) where
       let con = constructor_fits ms fit n bs b (sym same) in
       let m = if_some_inv (pair_with bs (without_first k.params args)) _ f (subst (λ l. at_variable y (without_first l.params args) (bs, b) ≡ Some f) (same_found (constructor ms n) l.1 found) l.2) in
       let p = constructor_parts ms n k x takes given long in
-      let read = constructed_arguments ms n k x takes given long in
-      let there : at_types (constructor_type n k) (type_arguments x) ≡ Some (binders_to bs x) =
-      subst (λ l. at_types (constructor_type n l) (type_arguments x) ≡ Some (binders_to bs x)) (same_found (constructor ms n) con.found found)
-      (same_as_inv (at_types (constructor_type n con.constructor_of) (type_arguments x)) (binders_to bs x) con.fits) in
-      let reached : at_types (constructor_type n k) (type_arguments x) ≡ Some p.type = ap (at_types (constructor_type n k)) read.0 ∙ p.reached in
-      let taken : Takes (binders_to bs x) p.given x = subst (λ z. Takes z p.given x) (some_some (sym reached ∙ there)) p.takes in
+      let taken = taken_for_binders ms n k con.constructor_of x bs takes given long (same_found (constructor ms n) con.found found) con.fits in
       subst (λ z. HasType ms c z t) (some_some m.1)
-      (for_value c x t j kind bs b con.body y typed (rw atom (fits_atom (is_int x))) (without_first k.params args) p.given p.are_given x x taken m.0)
+      (for_value c x t j kind bs b con.body y typed (rw atom (fits_atom (is_unlifted x))) (without_first k.params args) p.given p.are_given x x taken m.0)
   variable_constructed c x t j kind y typed atom n args alts known fit None same f h =
       from_variable c x t j kind y typed atom (alternative_of head.Default alts) (λ bs b q. alternative_fits ms fit head.Default bs b q) f h
 

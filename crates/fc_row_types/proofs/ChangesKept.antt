@@ -4,7 +4,7 @@ use Rattle.fc_syntax.specs.declared.expr.Head.{Head}
 use Rattle.fc_syntax.specs.declared.expr.Head.TheVariants as head
 use Rattle.fc_syntax.specs.Tree.{Kind}
 use Rattle.fc_model.specs.Calling.{Given, GivenTerm, GivenCoercion, Takes, takes_term, takes_type, takes_coercion, atom_fits}
-use Rattle.fc_model.specs.Calling.{is_int, over_binder, type_count}
+use Rattle.fc_model.specs.Calling.{is_unlifted, over_binder, type_count}
 use Rattle.fc_model.specs.Kinding.{Modules, HasKind}
 use Rattle.fc_model.specs.Nameless.{NCo, NTy, NBinder, NBValue, NBType, NBCo, NArg, NATerm, NAType, NACo, NBound, NJoined, NAlt, NBranch, NTInt}
 use Rattle.fc_model.specs.Nameless.{NExpr, NLocal, NVar, NLit, NApp, NLam, NLet, NCase, NCast, NCon, NPrim, NFail, NJoin, NJump}
@@ -48,7 +48,7 @@ atom_still false a b keeps h = refl
 
 pub taken_still : {t u : NTy} {gs hs : List Given} → Takes t gs u → AsGiven gs hs → Takes t hs u
 taken_still h none_given = h
-taken_still (takes_term {s = s} fits rest) (as_term {a = a} {b = b} keeps more) = takes_term (atom_still (is_int s) a b keeps fits) (taken_still rest more)
+taken_still (takes_term {s = s} fits rest) (as_term {a = a} {b = b} keeps more) = takes_term (atom_still (is_unlifted s) a b keeps fits) (taken_still rest more)
 taken_still (takes_type rest) (as_itself more) = takes_type (taken_still rest more)
 taken_still (takes_term fits rest) (as_itself more) = takes_term fits (taken_still rest more)
 taken_still (takes_coercion rest) (as_itself more) = takes_coercion (taken_still rest more)
@@ -63,7 +63,7 @@ bound_atom true a b keeps h = h
 bound_atom false a b keeps h = keeps h
 
 bind_atom : (t : NTy) (r a b : Bool) → (a ≡ true → b ≡ true) → atom_fits t (not r && a) ≡ true → atom_fits t (not r && b) ≡ true
-bind_atom t r a b keeps h = atom_still (is_int t) (not r && a) (not r && b) (bound_atom r a b keeps) h
+bind_atom t r a b keeps h = atom_still (is_unlifted t) (not r && a) (not r && b) (bound_atom r a b keeps) h
 
 -- CONTEXTS
 

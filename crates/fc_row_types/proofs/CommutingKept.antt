@@ -2,7 +2,7 @@
 use Rattle.std.proofs.Common.{◌≡◌, Bool, true, false, not, ◌||◌, if◌then◌else◌, [], ◌∷◌, refl, sym, ap, subst}
 use Rattle.fc_syntax.specs.declared.ty.Role.TheVariants.{R}
 use Rattle.fc_syntax.specs.Tree.{Kind}
-use Rattle.fc_model.specs.Calling.{Given, Takes, is_int}
+use Rattle.fc_model.specs.Calling.{Given, Takes, is_unlifted}
 use Rattle.fc_model.specs.CoercingRules.{Proves}
 use Rattle.fc_model.specs.Kinding.{Modules, HasKind}
 use Rattle.fc_model.specs.Nameless.{NTy, NTVar, NArg, NBound}
@@ -114,7 +114,7 @@ module _ (ms : Modules) (declared : AreDeclaredKinded ms) where
   let_of_let_keeps s g (NLet false (MoreNBinds (NBound x (NLet r bs e)) NoNBinds) b) f h t (typed_let (one_bind k kind v (typed_let p q) fits no_binds) w) =
       let c = s.context in
       let m = if_some_inv (is_value_behind_lets e) _ f h in
-      let lifted = fits_any (is_int x) (is_atom e) (lifted_let (is_int x) fits) in
+      let lifted = fits_any (is_unlifted x) (is_atom e) (lifted_let (is_unlifted x) fits) in
       subst (λ y. HasType ms c y t) (some_some m.1)
       (typed_let (outer_binds r bs c p)
       (let_typed ms declared (with_binds bs c) x e _ t (k, kind_behind bs c x k kind, v) (outer_body bs c e x q) lifted (body_behind bs c x t b w)))

@@ -1,18 +1,19 @@
 -- The arguments of a constructor: types for the parameters of its data type, and what stands for the binders of its alternative.
-use Rattle.std.proofs.Common.{◌≡◌, ℕ, false, List, [], ◌∷◌, ◌++◌, length, map, Some, refl, sym, ap, ◌∙◌, arith}
+use Rattle.std.proofs.Common.{◌≡◌, ℕ, true, false, List, [], ◌∷◌, ◌++◌, length, map, Some, refl, sym, ap, ◌∙◌, subst, arith}
 use Rattle.fc_syntax.specs.declared.ty.Name.{Name}
 use Rattle.fc_syntax.specs.Tree.{Kind}
-use Rattle.fc_model.specs.Calling.{Constructor, Given, GivenType, Takes, takes_nothing, takes_term, takes_type, takes_coercion, at_types, constructor_binders, constructor_type}
-use Rattle.fc_model.specs.Calling.{constructed_type, data_name, is_int, over_binders, type_arguments}
+use Rattle.fc_model.specs.Calling.{Constructor, Given, GivenType, Takes, takes_nothing, takes_term, takes_type, takes_coercion, at_types, binders_fit, binders_to, constructor_binders, constructor_type}
+use Rattle.fc_model.specs.Calling.{constructed_type, data_name, is_unlifted, over_binders, type_arguments}
 use Rattle.fc_model.specs.Kinding.{Modules, param_kinds}
 use Rattle.fc_model.specs.Nameless.{NTy, NTVar, NTCon, NTApp, NTForall, NParam, NParamOf, NBinder, NBValue, NBType, NATerm, NAType, NACo, NArgs, NoNArgs, MoreNArgs}
 use Rattle.fc_model.specs.Substituting.{instantiated, substituted_type, type_before, types_below}
 use Rattle.fc_model.specs.Typing.{Context, applied_to_types}
 use Rattle.fc_model.specs.TypingRules.{ArgsAreGiven, no_args, one_arg, given_type}
 use Rattle.fc_model.proofs.ArgumentsFit.{instantiated_before}
+use Rattle.fc_model.proofs.CallsKept.{same_as_inv}
 use Rattle.fc_model.proofs.ConstructorsRead.{constructed_is_read}
 use Rattle.fc_model.proofs.Substitutions.{variables_for_themselves}
-use Rattle.fc_rows.specs.Shrinking.{named_arguments, without_first}
+use Rattle.fc_rows.specs.Shrinking.{without_first}
 use Rattle.fc_row_types.proofs.Made.{none_some, some_some}
 
 -- the types that stand for parameters
@@ -22,13 +23,6 @@ first_types (p ∷ ps) NoNArgs = []
 first_types (p ∷ ps) (MoreNArgs (NAType t) rest) = t ∷ first_types ps rest
 first_types (p ∷ ps) (MoreNArgs (NATerm e) rest) = first_types ps rest
 first_types (p ∷ ps) (MoreNArgs (NACo g) rest) = first_types ps rest
-
-pub first_types_named : (ps : List NParam) (args : NArgs) → first_types ps (named_arguments args) ≡ first_types ps args
-first_types_named [] args = refl
-first_types_named (p ∷ ps) NoNArgs = refl
-first_types_named (p ∷ ps) (MoreNArgs (NAType t) rest) = ap (λ ts. t ∷ ts) (first_types_named ps rest)
-first_types_named (p ∷ ps) (MoreNArgs (NATerm e) rest) = first_types_named ps rest
-first_types_named (p ∷ ps) (MoreNArgs (NACo g) rest) = first_types_named ps rest
 
 -- what is left of arguments behind those for parameters
 pub record Parts (ms : Modules) (c : Context) (ps : List NParam) (bs : List NBinder) (t u : NTy) (args : NArgs) : Type 0 where
@@ -55,13 +49,13 @@ arguments_read (p ∷ ps) (MoreNArgs (NAType x) rest) t u h = arguments_read ps 
 arguments_read (p ∷ ps) (MoreNArgs (NATerm e) rest) t u h = none_some h
 arguments_read (p ∷ ps) (MoreNArgs (NACo g) rest) t u h = none_some h
 
--- such a type is not `Int#`
-int_read : (ps : List NParam) (args : NArgs) (t u : NTy) → applied_to_types t ps args ≡ Some u → is_int t ≡ false → is_int u ≡ false
-int_read [] args t u h i = ap is_int (sym (some_some h)) ∙ i
-int_read (p ∷ ps) NoNArgs t u h i = none_some h
-int_read (p ∷ ps) (MoreNArgs (NAType x) rest) t u h i = int_read ps rest (NTApp t x) u h refl
-int_read (p ∷ ps) (MoreNArgs (NATerm e) rest) t u h i = none_some h
-int_read (p ∷ ps) (MoreNArgs (NACo g) rest) t u h i = none_some h
+-- such a type is not unlifted
+lifted_read : (ps : List NParam) (args : NArgs) (t u : NTy) → applied_to_types t ps args ≡ Some u → is_unlifted t ≡ false → is_unlifted u ≡ false
+lifted_read [] args t u h i = ap is_unlifted (sym (some_some h)) ∙ i
+lifted_read (p ∷ ps) NoNArgs t u h i = none_some h
+lifted_read (p ∷ ps) (MoreNArgs (NAType x) rest) t u h i = lifted_read ps rest (NTApp t x) u h refl
+lifted_read (p ∷ ps) (MoreNArgs (NATerm e) rest) t u h i = none_some h
+lifted_read (p ∷ ps) (MoreNArgs (NACo g) rest) t u h i = none_some h
 
 abbrev forall_of : Kind → NTy → NTy
 forall_of k t = NTForall k t
@@ -92,7 +86,18 @@ module _ (ms : Modules) where
       split k.params (k.binders ++ map NBValue k.fields) NTVar (constructed_type n k) (constructor_type n k) u (sym (variables_for_themselves (constructor_type n k))) takes given long
 
   pub constructed_arguments : (n : Name) (k : Constructor) {gs : List Given} {c : Context} {args : NArgs} (u : NTy) → Takes (constructor_type n k) gs u → ArgsAreGiven ms c args gs
-      → length gs ≡ length (constructor_binders k) → (type_arguments u ≡ first_types k.params args) × (is_int u ≡ false)
+      → length gs ≡ length (constructor_binders k) → (type_arguments u ≡ first_types k.params args) × (is_unlifted u ≡ false)
   constructed_arguments n k {args = args} u takes given long =
       let read = constructed_is_read ms n k takes given long in
-      (arguments_read k.params args (NTCon (data_name n k.data_word)) u read, int_read k.params args (NTCon (data_name n k.data_word)) u read refl)
+      (arguments_read k.params args (NTCon (data_name n k.data_word)) u read, lifted_read k.params args (NTCon (data_name n k.data_word)) u read refl)
+
+  -- where the binders of an alternative fit the whole, what stands behind the types is taken for them
+  pub taken_for_binders : (n : Name) (k l : Constructor) {gs : List Given} {c : Context} {args : NArgs} (u : NTy) (bs : List NBinder) (takes : Takes (constructor_type n k) gs u)
+      (given : ArgsAreGiven ms c args gs) (long : length gs ≡ length (constructor_binders k)) → l ≡ k → binders_fit n l u bs ≡ true
+      → Takes (binders_to bs u) (constructor_parts n k u takes given long).given u
+  taken_for_binders n k l u bs takes given long same fits =
+      let p = constructor_parts n k u takes given long in
+      let there : at_types (constructor_type n k) (type_arguments u) ≡ Some (binders_to bs u) =
+      subst (λ m. at_types (constructor_type n m) (type_arguments u) ≡ Some (binders_to bs u)) same (same_as_inv (at_types (constructor_type n l) (type_arguments u)) (binders_to bs u) fits) in
+      let reached : at_types (constructor_type n k) (type_arguments u) ≡ Some p.type = ap (at_types (constructor_type n k)) (constructed_arguments n k u takes given long).0 ∙ p.reached in
+      subst (λ t. Takes t p.given u) (some_some (sym reached ∙ there)) p.takes

@@ -1,19 +1,19 @@
 -- Declarations that hold against modules hold against modules that declare alike.
-use Rattle.std.proofs.Common.{◌≡◌, ℕ, suc, true, List, [], ◌∷◌, length, refl, sym, ap, ap₂, ◌∙◌, subst}
+use Rattle.std.proofs.Common.{◌≡◌, ℕ, suc, List, [], ◌∷◌, refl, sym, ap, ap₂, ◌∙◌}
 use Rattle.fc_syntax.specs.declared.ty.Role.{Role}
 use Rattle.fc_syntax.specs.declared.ty.Role.TheVariants.{R}
-use Rattle.fc_syntax.specs.Roles.{role_below}
 use Rattle.fc_syntax.specs.Tree.{Kind}
 use Rattle.fc_model.specs.Kinding.{Modules}
-use Rattle.fc_model.specs.LintingRules.{AreValueTypes, no_types, one_type, ConHolds, holds_fields, holds_type, holds_coercion, ConsHold, no_cons, one_con, RolesHold, no_roles, one_role}
+use Rattle.fc_model.specs.LintingRules.{AreValueTypes, no_types, one_type, ConHolds, holds_fields, holds_type, holds_coercion, ConsHold, no_cons, one_con}
 use Rattle.fc_model.specs.LintingRules.{TypeDeclHolds, data_holds, newtype_holds, family_holds, axiom_holds, def_declares_no_type, wrap_declares_no_type, TypeDeclsHold, no_type_decls, one_type_decl}
 use Rattle.fc_model.specs.LintingRules.{DefinitionHolds, def_holds, wrap_holds, data_defines_nothing, newtype_defines_nothing, family_defines_nothing, axiom_defines_nothing}
 use Rattle.fc_model.specs.LintingRules.{DefinitionsHold, no_definitions, one_definition}
-use Rattle.fc_model.specs.Nameless.{NTy, NTVar, NTCon, NTInt, NTApp, NTFun, NTForall, NTCoForall, NBinder, NBValue, NBType, NBCo, NParam, NConDecl, NConOf, NDecl, NData, NNew, NFamily, NAxiom, NDef, NWrap}
+use Rattle.fc_model.specs.Nameless.{NTy, NTVar, NTCon, NTInt, NTApp, NTFun, NTForall, NTCoForall, NBinder, NBValue, NBType, NBCo, NConDecl, NConOf, NDecl, NData, NNew, NFamily, NAxiom, NDef, NWrap}
 use Rattle.fc_model.specs.Needs.{argument_roles, later_roles, least, need_in, need_in_con, need_in_cons, need_in_fields, next_role, role_within}
 use Rattle.fc_reaching.specs.Reaching.{names_in}
 use Rattle.fc_outlines.specs.Headers.{DeclareAlike}
 use Rattle.fc_outlines.proofs.Alike.{HaveTypes, families_alike, kind_alike, roles_alike, type_alike}
+use Rattle.fc_model.proofs.LintedIs.{roles_hold}
 
 module _ (ms ns : Modules) (alike : DeclareAlike ms ns) where
   -- NEEDS
@@ -50,10 +50,6 @@ module _ (ms ns : Modules) (alike : DeclareAlike ms ns) where
   cons_alike : (i : ℕ) (cs : List NConDecl) → need_in_cons ms i cs ≡ need_in_cons ns i cs
   cons_alike i [] = refl
   cons_alike i (NConOf n bs ts ∷ cs) = ap₂ least (con_alike i bs ts) (cons_alike i cs)
-
-  roles_hold : {f g : ℕ → Role} {ps : List NParam} → ((i : ℕ) → f i ≡ g i) → RolesHold f ps → RolesHold g ps
-  roles_hold same no_roles = no_roles
-  roles_hold same (one_role {r = r} {ps = ps} h more) = one_role (subst (λ s. role_below r s ≡ true) (same (length ps)) h) (roles_hold same more)
 
   -- TYPE DECLARATIONS
 

@@ -18,7 +18,7 @@ use Rattle.fc_model.specs.Typing.{def_type}
 use Rattle.fc_model.specs.TypingLaws.{HasDistinctTypes}
 use Rattle.fc_model.proofs.UnderHeader.{both}
 use Rattle.fc_model.proofs.Sameness.{bytes_eq_eq, bytes_eq_refl, false_true}
-use Rattle.fc_row_types.specs.DefinitionsDropped.{DroppedDefinitionsKeepLint, StaysClosed, is_kept, mention_kept, stay_closed}
+use Rattle.fc_row_types.specs.DefinitionsDropped.{DroppedDefinitionsKeepLint, StaysClosed, mention_kept, stay_closed}
 use Rattle.fc_row_types.specs.LintKept.{LintsWith}
 use Rattle.fc_model.specs.Headers.{ndecls_in}
 use Rattle.fc_reaching.specs.Reaching.{names_in}
@@ -26,6 +26,7 @@ use Rattle.fc_rows.specs.Rewriting.{without_definitions}
 use Rattle.fc_outlines.specs.Headers.{DeclareAlike}
 use Rattle.fc_outlines.proofs.Alike.{first_among, later_among, HaveTypes}
 use Rattle.fc_row_types.proofs.DeclarationsAlike.{MentionAlike, MentionsAlike, none_mention, one_mentions, definitions_hold_alike, type_decls_hold_alike}
+use Rattle.fc_rows.specs.Dropping.{is_kept}
 
 module _ (keep : Word → Bool) where
   -- what does not look at definitions

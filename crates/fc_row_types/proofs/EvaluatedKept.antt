@@ -5,9 +5,9 @@ use Rattle.fc_syntax.specs.declared.ty.Role.{Role}
 use Rattle.fc_syntax.specs.declared.ty.Role.TheVariants.{R}
 use Rattle.fc_syntax.specs.declared.expr.Head.TheVariants as head
 use Rattle.fc_syntax.specs.Tree.{Kind, KStar}
-use Rattle.fc_model.specs.Calling.{is_int}
+use Rattle.fc_model.specs.Calling.{is_unlifted}
 use Rattle.fc_model.specs.Kinding.{Modules, HasKind, kind_coforall, kind_forall, kind_function}
-use Rattle.fc_model.specs.Nameless.{NTy, NTVar, NTCon, NTInt, NTApp, NTFun, NTForall, NTCoForall, NBValue, NBType, NBCo, NBranch, NoNAlts, MoreNAlts}
+use Rattle.fc_model.specs.Nameless.{NTy, NTFun, NTForall, NTCoForall, NBValue, NBType, NBCo, NBranch, NoNAlts, MoreNAlts}
 use Rattle.fc_model.specs.Nameless.{NExpr, NLocal, NVar, NLit, NLam, NCase, NCast, NCon}
 use Rattle.fc_model.specs.Replacing.{replaced, value_alone}
 use Rattle.fc_model.specs.Typing.{Start, Context, is_atom, with_value, without_joins}
@@ -16,7 +16,7 @@ use Rattle.fc_model.specs.TypingRules.{AltsFit, default_alt, HasType, typed_lamb
 use Rattle.fc_model.proofs.CallsKept.{raised_by_nothing}
 use Rattle.fc_model.proofs.EndsKinded.{ends_have_one_kind}
 use Rattle.fc_model.proofs.KindedIs.{kind_is_one}
-use Rattle.fc_model.proofs.ReplacedKept.{types_at_a_value}
+use Rattle.fc_model.proofs.ReplacedKept.{types_at_a_value, kind_says_lifted}
 use Rattle.fc_model.proofs.Sameness.{false_true}
 use Rattle.fc_model.proofs.TypesKinded.{types_have_kinds, without_joins_kinded}
 use Rattle.fc_row_types.specs.TypesKept.{KeepsTypes}
@@ -58,15 +58,6 @@ module _ (ms : Modules) (declared : AreDeclaredKinded ms) where
       constructed_star ms declared c.kinds t w.0 w.1 n k found given long takes
   value_star c f e t v typed = false_true v
 
-  lifted_is_no_int : (ks : List Kind) (t : NTy) → HasKind ms ks t KStar → is_int t ≡ false
-  lifted_is_no_int ks (NTVar i) h = refl
-  lifted_is_no_int ks (NTCon n) h = refl
-  lifted_is_no_int ks NTInt h = elim h [ ]
-  lifted_is_no_int ks (NTApp t u) h = refl
-  lifted_is_no_int ks (NTFun t u) h = refl
-  lifted_is_no_int ks (NTForall k t) h = refl
-  lifted_is_no_int ks (NTCoForall r t u v) h = refl
-
   default_body : (c : Context) (x t : NTy) (b : NExpr) → AltsFit ms (with_value x c) x t Start (MoreNAlts (NBranch head.Default [] b) NoNAlts) → HasType ms (with_value x c) b t
   default_body c x t b (default_alt k p order more) = subst (λ y. HasType ms (with_value x c) b y) (raised_by_nothing t) p
 
@@ -89,5 +80,5 @@ module _ (ms : Modules) (declared : AreDeclaredKinded ms) where
           let m = if_some_inv (is_value e && not (is_con e)) _ f h in
           let star = value_star (without_joins s.context) (without_joins_kinded ms s.context g.kinded) e x (and_parts (is_value e) (not (is_con e)) m.0).0 p in
           subst (λ y. HasType ms s.context y rt) (some_some m.1)
-          (let_typed ms declared s.context x e b rt (KStar, star, refl) p (any_fits (is_int x) (lifted_is_no_int s.context.kinds x star) (is_atom e)) (default_body s.context x rt b fit))
+          (let_typed ms declared s.context x e b rt (KStar, star, refl) p (any_fits (is_unlifted x) (kind_says_lifted ms s.context.kinds KStar x refl star) (is_atom e)) (default_body s.context x rt b fit))
   case_evaluated_keeps s g e f h t typed = none_some h

@@ -29,7 +29,7 @@ use Rattle.fc_row_types.proofs.LetsKept.{let_types, lets_typed, named_are_given,
 use Rattle.fc_row_types.proofs.Made.{if_some_inv, none_some}
 use Rattle.fc_model.proofs.CallsKept.{from_some_inv}
 
-pair_named : (bs : List NBinder) (args : NArgs) → pair_with bs (named_arguments args) ≡ pair_with bs args
+pub pair_named : (bs : List NBinder) (args : NArgs) → pair_with bs (named_arguments args) ≡ pair_with bs args
 pair_named [] NoNArgs = refl
 pair_named [] (MoreNArgs (NATerm e) rest) = refl
 pair_named [] (MoreNArgs (NAType t) rest) = refl

@@ -1,6 +1,6 @@
 -- Lets for the terms among arguments, and what stands behind them.
 use Rattle.std.proofs.Common.{◌≡◌, ℕ, suc, ◌+◌, Bool, true, false, not, ◌||◌, List, [], ◌∷◌, length, Some, refl, sym, ap, ◌∙◌, subst, arith}
-use Rattle.fc_model.specs.Calling.{Given, GivenTerm, GivenType, GivenCoercion, Takes, takes_nothing, takes_term, takes_type, takes_coercion, atom_fits, is_int}
+use Rattle.fc_model.specs.Calling.{Given, GivenTerm, GivenType, GivenCoercion, Takes, takes_nothing, takes_term, takes_type, takes_coercion, atom_fits, is_unlifted}
 use Rattle.fc_model.specs.Faulting.{at_distance}
 use Rattle.fc_model.specs.Kinding.{Modules}
 use Rattle.fc_model.specs.Nameless.{NTy, NExpr, NArgs}
@@ -44,7 +44,7 @@ fits_true false = refl
 
 pub named_taken : {t u : NTy} {gs : List Given} → Takes t gs u → Takes t (named_given gs) u
 named_taken takes_nothing = takes_nothing
-named_taken (takes_term {s = s} fits rest) = takes_term (fits_true (is_int s)) (named_taken rest)
+named_taken (takes_term {s = s} fits rest) = takes_term (fits_true (is_unlifted s)) (named_taken rest)
 named_taken (takes_type rest) = takes_type (named_taken rest)
 named_taken (takes_coercion rest) = takes_coercion (named_taken rest)
 

@@ -1,7 +1,7 @@
 -- A field of a constructor that gets a let keeps types.
 use Rattle.std.proofs.Common.{◌≡◌, Bool, true, false, not, ◌||◌, if◌then◌else◌, List, ◌∷◌, Option, Some, refl, sym, ap, ◌∙◌, subst}
 use Rattle.fc_model.specs.Calling.{Given, GivenTerm, Takes, takes_term, takes_type, takes_coercion, constructor, constructor_type}
-use Rattle.fc_model.specs.Calling.{atom_fits, is_int}
+use Rattle.fc_model.specs.Calling.{atom_fits, is_unlifted}
 use Rattle.fc_model.specs.Kinding.{Modules}
 use Rattle.fc_model.specs.Nameless.{NTy, NTVar, NArg, NATerm, NAType, NACo, NArgs, MoreNArgs, NBound, NoNBinds, MoreNBinds}
 use Rattle.fc_model.specs.Nameless.{NExpr, NLocal, NLet, NCon}
@@ -90,7 +90,7 @@ module _ (ms : Modules) (declared : AreDeclaredKinded ms) where
           let same : s ≡ x = pair_first q in
           let here : HasType ms (without_joins (with_value x c)) (NLocal 0) x = typed_local refl in
           let args = ap (λ b. if b then MoreNArgs (NATerm (renamed past_a_value e)) (with_first_named rest) else MoreNArgs (NATerm (NLocal 0)) (moved_args past_a_value rest)) trivial in
-          let one : BecomesGiven NTVar (GivenTerm s (is_atom e)) (GivenTerm (substituted_type NTVar s) true) = term_becomes (λ k. any_atom (is_int (substituted_type NTVar s))) in
+          let one : BecomesGiven NTVar (GivenTerm s (is_atom e)) (GivenTerm (substituted_type NTVar s) true) = term_becomes (λ k. any_atom (is_unlifted (substituted_type NTVar s))) in
           let is_x : substituted_type NTVar s ≡ x = variables_for_themselves s ∙ same in
           record {
             typed = subst (λ y. HasType ms (without_joins c) y x) (pair_second q) (subst (λ y. HasType ms (without_joins c) e y) same p);

@@ -2,7 +2,7 @@
 use Rattle.std.proofs.Common.{◌≡◌, Bool, true, false, not, ◌||◌, List, [], ◌∷◌, Some, sym, subst}
 use Rattle.fc_syntax.specs.declared.ty.Role.{Role}
 use Rattle.fc_syntax.specs.Tree.{Kind}
-use Rattle.fc_model.specs.Calling.{Given, Takes, atom_fits, function_ends, is_int}
+use Rattle.fc_model.specs.Calling.{Given, Takes, atom_fits, function_ends, is_unlifted}
 use Rattle.fc_model.specs.Coercing.{ends}
 use Rattle.fc_model.specs.CoercingRules.{Proves, proves_trans}
 use Rattle.fc_model.specs.Kinding.{Modules, HasKind, same_type}
@@ -27,9 +27,9 @@ use Rattle.fc_rows.specs.Surroundings.{Surroundings}
 use Rattle.fc_row_types.proofs.Holding.{closed}
 use Rattle.fc_row_types.proofs.Made.{if_some_inv, none_some, some_some}
 
-pub atom_if_int : (i a : Bool) → not i || a ≡ true → i ≡ true → a ≡ true
-atom_if_int true a h e = h
-atom_if_int false a h e = absurd cc
+pub atom_if_unlifted : (i a : Bool) → not i || a ≡ true → i ≡ true → a ≡ true
+atom_if_unlifted true a h e = h
+atom_if_unlifted false a h e = absurd cc
 
 module _ (ms : Modules) (declared : AreDeclaredKinded ms) where
   -- a let of one binder that is not recursive
@@ -82,7 +82,7 @@ module _ (ms : Modules) (declared : AreDeclaredKinded ms) where
 
   put_for : (c : Context) (x : NTy) (a b : NExpr) (t : NTy) → HasType ms c (let_of x a b) t → HasType ms c (replaced (value_alone a) b) t
   put_for c x a b t (typed_let (one_bind k kind v p fits no_binds) q) =
-      types_at_a_value ms (closed ms declared) c x a p (atom_if_int (is_int x) (is_atom a) fits) b t q
+      types_at_a_value ms (closed ms declared) c x a p (atom_if_unlifted (is_unlifted x) (is_atom a) fits) b t q
 
   pub let_atom_keeps : KeepsTypes ms (λ s e. let_atom e)
   let_atom_keeps s g (NLet false (MoreNBinds (NBound x a) NoNBinds) b) f h t typed =

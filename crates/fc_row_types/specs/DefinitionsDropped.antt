@@ -1,21 +1,16 @@
 -- Definitions that nothing mentions may go: what is left of a module that lints does too.
-use Rattle.std.specs.Prelude.{◌≡◌, All, Bool, true, ◌&&◌, if◌then◌else◌, List, [], ◌∷◌, Some}
+use Rattle.std.specs.Prelude.{◌≡◌, All, Bool, true, ◌&&◌, if◌then◌else◌, List, [], ◌∷◌}
 use Rattle.std.specs.List.{list_all}
-use Rattle.fc_syntax.specs.declared.ty.Name.{Name}
 use Rattle.fc_syntax.specs.Tree.{Word}
 use Rattle.fc_model.specs.Headers.{ndecls_in}
-use Rattle.fc_model.specs.Kinding.{same_word}
 use Rattle.fc_model.specs.Nameless.{NDecl, NData, NNew, NFamily, NAxiom, NDef, NWrap, NModule, NModuleOf}
 use Rattle.fc_model.specs.Typing.{def_type}
 use Rattle.fc_reaching.specs.Reaching.{names_in}
 use Rattle.fc_rows.specs.Rewriting.{without_definitions}
 use Rattle.fc_row_types.specs.LintKept.{LintsWith}
+use Rattle.fc_rows.specs.Dropping.{is_kept}
 
--- a name of the own module is of a definition that stays
-abbrev pub is_kept : (Word → Bool) → Word → Name → Bool
-is_kept keep m n = if same_word n.module (Some m) then keep n.text else true
-
--- the definitions that stay mention only such names
+-- the definitions that stay mention only names of the module that stay
 abbrev pub stay_closed : (Word → Bool) → Word → List NDecl → Bool
 stay_closed keep m [] = true
 stay_closed keep m (NDef n t e ∷ ds) = (if keep n then list_all (is_kept keep m) (names_in e) else true) && stay_closed keep m ds

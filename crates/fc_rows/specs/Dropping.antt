@@ -1,7 +1,9 @@
 -- Definitions that nothing needs go from a module.
-use Rattle.std.specs.Prelude.{◌≡◌, ◌↔◌, Bool, true, false, ◌||◌}
+use Rattle.std.specs.Prelude.{◌≡◌, ◌↔◌, Bool, true, false, ◌||◌, if◌then◌else◌, Some}
 use Rattle.std.specs.List.{list_all}
 use Rattle.fc_syntax.specs.Tree.{Word}
+use Rattle.fc_syntax.specs.declared.ty.Name.{Name}
+use Rattle.fc_model.specs.Kinding.{same_word}
 use Rattle.fc_model.specs.Nameless.{NModule, NModuleOf}
 use Rattle.fc_model.specs.Planning.{is_among}
 use Rattle.fc_reaching.specs.Reaching.{ReachesDefinition, decls_in, defined_words}
@@ -18,6 +20,10 @@ pub data IsNeeded (n : NModule) : Word → Type 0 where
 
 abbrev pub with_needed : (Word → Bool) → NModule → NModule
 with_needed keep (NModuleOf m imports exports hidden ds) = NModuleOf m imports exports hidden (without_definitions keep ds)
+
+-- a name of the own module is of a definition that stays
+abbrev pub is_kept : (Word → Bool) → Word → Name → Bool
+is_kept keep m n = if same_word n.module (Some m) then keep n.text else true
 
 -- all definitions go that are not needed, and there is one at least
 pub record DropsDead (n k : NModule) : Type 0 where

@@ -2,6 +2,7 @@ pub mod Changing
 pub mod ChangingCoercions
 pub mod Commuting
 pub mod Dropping
+pub mod NormalForms
 pub mod Occurrences
 pub mod Replaying
 pub mod ResultLimits

@@ -4,7 +4,7 @@ use Rattle.std.specs.List.{list_any}
 use Rattle.fc_syntax.specs.declared.ty.Name.{Name}
 use Rattle.fc_syntax.specs.declared.expr.Head.{Head}
 use Rattle.fc_syntax.specs.declared.expr.Head.TheVariants as head
-use Rattle.fc_model.specs.Calling.{Constructor, at_type, coercion_asked, constructor, constructor_type, first_of, from_some, function_ends, is_int}
+use Rattle.fc_model.specs.Calling.{Constructor, at_type, coercion_asked, constructor, constructor_type, first_of, from_some, function_ends, is_unlifted}
 use Rattle.fc_model.specs.Coercing.{Ends, ends_or_fault}
 use Rattle.fc_model.specs.Faulting.{F, at_distance}
 use Rattle.fc_model.specs.Kinding.{Modules, same_name, same_type}
@@ -133,7 +133,7 @@ is_once Many = false
 
 -- the binder is lifted and occurs once, neither inside a lambda nor as an argument of a constructor
 abbrev pub let_once : NExpr → Option NExpr
-let_once (NLet false (MoreNBinds (NBound t e) NoNBinds) b) = if not (is_int t) && is_once (occurrences (innermost_values 1) b) then Some (replaced (value_alone e) b) else None
+let_once (NLet false (MoreNBinds (NBound t e) NoNBinds) b) = if not (is_unlifted t) && is_once (occurrences (innermost_values 1) b) then Some (replaced (value_alone e) b) else None
 let_once e = None
 
 -- CASES
@@ -333,14 +333,14 @@ abbrev pub is_con : NExpr → Bool
 is_con (NCon n args) = true
 is_con e = false
 
-abbrev pub is_unlifted : Option NTy → Bool
-is_unlifted (Some t) = is_int t
-is_unlifted None = false
+abbrev pub is_of_unlifted_type : Option NTy → Bool
+is_of_unlifted_type (Some t) = is_unlifted t
+is_of_unlifted_type None = false
 
 -- a literal, an unlifted variable, or a variable that is known to be evaluated
 abbrev pub is_evaluated_atom : Modules → Surroundings → NExpr → Bool
 is_evaluated_atom ms s (NLit n) = true
-is_evaluated_atom ms s (NLocal i) = is_evaluated (s.locals i) || is_unlifted (type_read_off ms s.context (NLocal i))
+is_evaluated_atom ms s (NLocal i) = is_evaluated (s.locals i) || is_of_unlifted_type (type_read_off ms s.context (NLocal i))
 is_evaluated_atom ms s (NVar n) = is_evaluated (s.names n)
 is_evaluated_atom ms s e = false
 

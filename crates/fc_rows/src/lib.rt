@@ -1,4 +1,4 @@
-//! The rewriting of expressions: what its definitions speak of. So far how often variables and join points occur.
+//! The rewriting of expressions: what its definitions speak of, which stand in `specs`. In code how often variables and join points occur.
 #![tactic(auto)]
 
 mod occurrence;

@@ -4,7 +4,7 @@ use Rattle.std.specs.List.{list_any}
 use Rattle.fc_syntax.specs.declared.expr.Head.{Head}
 use Rattle.fc_syntax.specs.declared.expr.Head.TheVariants as head
 use Rattle.fc_syntax.specs.declared.ty.Name.{Name}
-use Rattle.fc_model.specs.Calling.{Constructor, at_type, coercion_asked, constructor, constructor_type, first_of, from_some, function_ends, is_int}
+use Rattle.fc_model.specs.Calling.{Constructor, at_type, coercion_asked, constructor, constructor_type, first_of, from_some, function_ends, is_unlifted}
 use Rattle.fc_model.specs.Coercing.{Ends, ends_or_fault}
 use Rattle.fc_model.specs.Faulting.{F, at_distance}
 use Rattle.fc_model.specs.Kinding.{Modules, same_type}
@@ -94,7 +94,7 @@ let_atom_written s g e f h w = none_some h
 
 pub let_once_written : KeepsWritten (λ s e. let_once e)
 let_once_written s g (NLet false (MoreNBinds (NBound t a) NoNBinds) b) f h w =
-    let m = if_some_inv (not (is_int t) && is_once (occurrences (innermost_values 1) b)) _ f h in subst IsWritten (some_some m.1) (value_put a b w.1.0 w.2)
+    let m = if_some_inv (not (is_unlifted t) && is_once (occurrences (innermost_values 1) b)) _ f h in subst IsWritten (some_some m.1) (value_put a b w.1.0 w.2)
 let_once_written s g e f h w = none_some h
 
 -- CASES

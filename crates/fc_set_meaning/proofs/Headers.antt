@@ -7,8 +7,8 @@ use Rattle.fc_model.specs.Stepping.{Program}
 use Rattle.fc_reaching.specs.Numbering.{word_of}
 use Rattle.fc_rows.specs.Telling.{told_module}
 use Rattle.fc_kept_meaning.specs.MeaningKept.{with_module}
-use Rattle.fc_replays.specs.ReplaysKept.{with_declarations}
-use Rattle.fc_sets.specs.SetsReplayed.{IsHeadedFrom, headed}
+use Rattle.fc_replay_types.specs.ReplaysKept.{with_declarations}
+use Rattle.fc_set_types.specs.SetsReplayed.{IsHeadedFrom, headed}
 
 abbrev pub exports_in : NModule → List Word
 exports_in (NModuleOf m imports exports hidden ds) = exports

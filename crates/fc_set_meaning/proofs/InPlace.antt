@@ -10,7 +10,7 @@ use Rattle.fc_model.specs.Programs.{program_of, right_side}
 use Rattle.fc_model.proofs.Sameness.{bytes_eq_eq, bytes_eq_refl, false_true}
 use Rattle.fc_reaching.specs.Numbering.{word_of}
 use Rattle.fc_kept_meaning.specs.MeaningKept.{with_module}
-use Rattle.fc_sets.specs.SetsReplayed.{is_one_of}
+use Rattle.fc_set_types.specs.SetsReplayed.{is_one_of}
 
 -- two words are the same or not in both directions
 swapped : (v w : Word) → bytes_eq v w ≡ bytes_eq w v

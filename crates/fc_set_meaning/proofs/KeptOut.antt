@@ -25,8 +25,8 @@ use Rattle.fc_replay_meaning.proofs.ErasedMentions.{erased_mentions}
 use Rattle.fc_views.specs.Views.{AreInView, IsModuleInView, IsNameInView, names_in_decls}
 use Rattle.fc_views.proofs.NamesInView.{names_are_in_view}
 use Rattle.fc_views.proofs.TypesInView.{each_apart}
-use Rattle.fc_sets.specs.SetsReplayed.{LintInOrder, none_lint, one_lints, is_offered_by, is_one_of, may_use, may_use_of}
-use Rattle.fc_sets.proofs.Reached.{by_or, other_name}
+use Rattle.fc_set_types.specs.SetsReplayed.{LintInOrder, none_lint, one_lints, is_offered_by, is_one_of, may_use, may_use_of}
+use Rattle.fc_set_types.proofs.Reached.{by_or, other_name}
 
 -- RIGHT SIDES
 

@@ -18,8 +18,8 @@ use Rattle.fc_reaching.specs.Numbering.{word_of}
 use Rattle.fc_rows.specs.Dropping.{is_offered}
 use Rattle.fc_meaning.proofs.Optional.{none_some}
 use Rattle.fc_meaning.proofs.WrittenMeans.{mentions_more}
-use Rattle.fc_sets.specs.SetsReplayed.{AreKept, IsHeadedFrom, IsKept, ReplayedInOrder, none_replayed, one_replayed, is_offered_by}
-use Rattle.fc_sets.proofs.SetsKept.{replayed_sets_keep_lint}
+use Rattle.fc_set_types.specs.SetsReplayed.{AreKept, IsHeadedFrom, IsKept, ReplayedInOrder, none_replayed, one_replayed, is_offered_by}
+use Rattle.fc_set_types.proofs.SetsKept.{replayed_sets_keep_lint}
 use Rattle.fc_set_meaning.specs.SetMeaning.{MainExpressionsShowTheSame, MayBeAskedOf, is_asked_of}
 use Rattle.fc_set_meaning.proofs.Headers.{exports_in, header_exports, header_word, headed_decls, headed_exports, headed_word}
 use Rattle.fc_set_meaning.proofs.SetsMeant.{replayed_sets_keep_meaning}

@@ -31,17 +31,18 @@ use Rattle.fc_meaning.proofs.WrittenMeans.{mentions_more}
 use Rattle.fc_counted.specs.CountingLaws.{SeesSame}
 use Rattle.fc_kept_meaning.specs.FairImports.{TellsTruth}
 use Rattle.fc_kept_meaning.specs.MeaningKept.{HoldsModule, MayBeAsked, OthersKeepOut, with_module}
-use Rattle.fc_kept_meaning.proofs.ChangesKeepMeaning.{AreRightsSorted, linted_rights, rights_sorted, with_module_sorted}
+use Rattle.fc_meaning.proofs.SortedErasure.{AreRightsSorted, rights_sorted}
+use Rattle.fc_kept_meaning.proofs.ChangesKeepMeaning.{linted_rights, with_module_sorted}
 use Rattle.fc_kept_meaning.proofs.ShownFurther.{placed_again, placed_holds}
 use Rattle.fc_rows_written.proofs.RowsWritten.{IsModuleWritten}
 use Rattle.fc_replay_meaning.proofs.ReplaysMeant.{replays_keep_meaning}
 use Rattle.fc_views.specs.Views.{AreInView}
 use Rattle.fc_views.proofs.TypesInView.{each_in_both}
-use Rattle.fc_sets.specs.SetsReplayed.{AreKept, IsHeadedFrom, IsKept, LintInOrder, none_lint, one_lints, LintsBehind, ReplayedInOrder, none_replayed, one_replayed, is_offered_by, is_one_of}
-use Rattle.fc_sets.proofs.InOrder.{names_see}
-use Rattle.fc_sets.proofs.Mentions.{module_mentions}
-use Rattle.fc_sets.proofs.Reached.{all_weaker, by_or, each_reached, names_differ, reached_only}
-use Rattle.fc_sets.proofs.SetsKept.{replayed_sets_keep_lint}
+use Rattle.fc_set_types.specs.SetsReplayed.{AreKept, IsHeadedFrom, IsKept, LintInOrder, none_lint, one_lints, LintsBehind, ReplayedInOrder, none_replayed, one_replayed, is_offered_by, is_one_of}
+use Rattle.fc_set_types.proofs.InOrder.{names_see}
+use Rattle.fc_set_types.proofs.Mentions.{module_mentions}
+use Rattle.fc_set_types.proofs.Reached.{all_weaker, by_or, each_reached, names_differ, reached_only}
+use Rattle.fc_set_types.proofs.SetsKept.{replayed_sets_keep_lint}
 use Rattle.fc_set_meaning.specs.SetMeaning.{MayBeAskedOf, ReplayedSetsKeepMeaning, is_asked_of}
 use Rattle.fc_set_meaning.proofs.Headers.{header_word, headed_decls, headed_program, headed_word, told_word}
 use Rattle.fc_set_meaning.proofs.InPlace.{first_placed, moved, same_programs}

@@ -10,7 +10,7 @@ use Rattle.fc_model.specs.Terms.{Term, IsSorted}
 use Rattle.fc_meaning.specs.Laws.{ShowsTheSame}
 use Rattle.fc_meaning.proofs.WrittenExpressions.{AreDeclsWritten}
 use Rattle.fc_counted.specs.CountingLaws.{SeesSame}
-use Rattle.fc_sets.specs.SetsReplayed.{LintInOrder, ReplayedInOrder, is_offered_by}
+use Rattle.fc_set_types.specs.SetsReplayed.{LintInOrder, ReplayedInOrder, is_offered_by}
 
 -- a name that may be asked of a set: one that the first module of its name offers
 abbrev pub is_asked_of : List NModule → Option Word → Word → Bool

@@ -8,7 +8,7 @@ use Rattle.fc_model.proofs.Parts.{need_inv, ok_ok}
 use Rattle.fc_model.proofs.Sameness.{bytes_eq_refl}
 use Rattle.fc_used_words.specs.Scoped.{Saying}
 use Rattle.fc_resolved_names.proofs.NamesHold.{IsSaidOfOwn}
-use Rattle.fc_resolved_names.proofs.Obeying.{AreSaid, Goes}
+use Rattle.fc_resolved_names.proofs.Obeying.{AreSaid, Goes, goes_everywhere}
 use Rattle.fc_set_rules.specs.FormsDecide.{IsOffered, offered_names}
 
 not_itself : (w : Word) → bytes_eq w w ≡ false → ⊥
@@ -28,20 +28,7 @@ module _ (top : Top) where
   Offered = offered_names top.own top.offers
 
   pub offered_goes : Goes Offered
-  offered_goes = record {
-    type_here = λ k. tt;
-    type_past = λ k i h. tt;
-    type_back = λ k i h. tt;
-    value_here = λ k. tt;
-    value_past = λ k i h. tt;
-    value_back = λ k i h. tt;
-    join_here = λ k. tt;
-    join_past = λ k i h. tt;
-    join_back = λ k i h. tt;
-    coercion_here = λ k. tt;
-    coercion_past = λ k i h. tt;
-    coercion_back = λ k i h. tt;
-  }
+  offered_goes = goes_everywhere Offered (λ k i. tt) (λ k i. tt) (λ k i. tt) (λ k i. tt)
 
   pub offered_said : AreSaid top Offered
   offered_said = record {

@@ -270,7 +270,7 @@ impl TypeScope<'_> {
         requires { IsType types.now (scope_in self.now) id }
         ensures { result ≡ words.atom_fits (shown types.now (scope_in self.now) id) atom }
     {
-        !self.is_int_hash(id, types) || atom
+        !types.is_unlifted(id) || atom
     }
 
     /// Where a function goes from and to, if the type is one of functions.

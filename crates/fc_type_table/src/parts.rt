@@ -4,7 +4,7 @@ ghost use Rattle.std.specs.Option.{option_and_then, option_map};
 ghost use Rattle.fc_syntax.specs.Tree as trees;
 ghost use Rattle.fc_model.specs.Nameless as types;
 ghost use Rattle.fc_model.specs.Kinding.{same_type};
-ghost use Rattle.fc_model.specs.Calling.{is_int};
+ghost use Rattle.fc_model.specs.Calling.{is_int, is_unlifted};
 ghost use Rattle.fc_model.specs.NamelessView.{ndecl_of};
 ghost use Rattle.fc_model.specs.Calling.{application_ends, coercion_asked, declared_name, forall_kind, function_ends};
 ghost use Rattle.fc_type_table.specs.TypeTables.{IsKindId, IsNumber, IsType, declaration_in, kind_shown, modules_in, past, shown};
@@ -26,6 +26,27 @@ impl TypeTable<'_> {
     pub fn is_int_hash(&self, id: TypeId) -> bool
         requires { IsNumber self.now id }
         ensures { (ks : List trees.Kind) → result ≡ is_int (shown self.now ks id) }
+    {
+        match *self.piece(id) {
+            Piece::Star => false,
+            Piece::Hash => false,
+            Piece::Arrow(_, _) => false,
+            Piece::Bound(_, _) => false,
+            Piece::Free(_, _) => false,
+            Piece::Con(_) => false,
+            Piece::IntHash => true,
+            Piece::App(_, _) => false,
+            Piece::Fun(_, _) => false,
+            Piece::Forall(_, _) => false,
+            Piece::CoForall(_, _, _, _) => false,
+        }
+    }
+
+    /// Whether a type is unlifted: its values are there at once. Takes no memory.
+    #[tactic(auto, unfolding(crate::specs::Scopes::shown_at, crate::specs::Scopes::indexed))]
+    pub fn is_unlifted(&self, id: TypeId) -> bool
+        requires { IsNumber self.now id }
+        ensures { (ks : List trees.Kind) → result ≡ is_unlifted (shown self.now ks id) }
     {
         match *self.piece(id) {
             Piece::Star => false,

@@ -1,13 +1,12 @@
 -- Declarations and modules against modules that agree in view: what holds against the one holds against the other.
-use Rattle.std.proofs.Common.{◌≡◌, ◌∙◌, ℕ, suc, true, List, [], ◌∷◌, length, refl, sym, ap, ap₂, subst}
+use Rattle.std.proofs.Common.{◌≡◌, ◌∙◌, ℕ, suc, List, [], ◌∷◌, refl, sym, ap, ap₂}
 use Rattle.std.specs.List.{AllByRecursion as Each}
 use Rattle.std.proofs.lemmas.List.Elements.{recursion_from_All}
 use Rattle.fc_syntax.specs.declared.ty.Role.{Role}
 use Rattle.fc_syntax.specs.declared.ty.Role.TheVariants.{R}
-use Rattle.fc_syntax.specs.Roles.{role_below}
 use Rattle.fc_syntax.specs.Tree.{Word, Kind}
 use Rattle.fc_model.specs.Kinding.{Modules, HasHeadKind}
-use Rattle.fc_model.specs.LintingRules.{AreValueTypes, no_types, one_type, ConHolds, holds_fields, holds_type, holds_coercion, ConsHold, no_cons, one_con, RolesHold, no_roles, one_role}
+use Rattle.fc_model.specs.LintingRules.{AreValueTypes, no_types, one_type, ConHolds, holds_fields, holds_type, holds_coercion, ConsHold, no_cons, one_con}
 use Rattle.fc_model.specs.LintingRules.{TypeDeclHolds, data_holds, newtype_holds, family_holds, axiom_holds, def_declares_no_type, wrap_declares_no_type, TypeDeclsHold, no_type_decls, one_type_decl}
 use Rattle.fc_model.specs.LintingRules.{DefinitionHolds, def_holds, wrap_holds, data_defines_nothing, newtype_defines_nothing, family_defines_nothing, axiom_defines_nothing}
 use Rattle.fc_model.specs.LintingRules.{DefinitionsHold, no_definitions, one_definition, ModuleHolds, module_holds}
@@ -21,6 +20,7 @@ use Rattle.fc_views.proofs.Contexts.{IsContextIn}
 use Rattle.fc_views.proofs.ExpressionsInView.{type_seen}
 use Rattle.fc_views.proofs.TypesInView.{each_apart, words_apart, IsBinderIn, IsTypeIn, variable_in, declared_in, int_in, application_in, function_in, forall_in, coforall_in}
 use Rattle.fc_views.proofs.TypesInView.{binders_in, two_types_in, type_in, types_in}
+use Rattle.fc_model.proofs.LintedIs.{roles_hold}
 
 -- constructors mention modules in view alone
 module _ (view : View) where
@@ -38,10 +38,6 @@ module _ (view : View) where
   closed_context_in = record { coercions = tt; values = tt; joins = tt }
 
 -- where the needs are the same
-roles_hold : {f g : ℕ → Role} {ps : List NParam} → ((i : ℕ) → f i ≡ g i) → RolesHold f ps → RolesHold g ps
-roles_hold same no_roles = no_roles
-roles_hold same (one_role {r = r} {ps = ps} h more) = one_role (subst (λ s. role_below r s ≡ true) (same (length ps)) h) (roles_hold same more)
-
 module _ (view : View) (ms ns : Modules) (agree : AgreeInView view ms ns) where
   -- NEEDS
 

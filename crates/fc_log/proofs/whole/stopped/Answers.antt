@@ -4,7 +4,7 @@ use Rattle.fc_log.specs.declared.tokens.Stop.TheVariants as stop
 use Rattle.fc_log.specs.Grammar.{AtStart, reads}
 use Rattle.fc_log.specs.Reading.{Tells, StopsAt, tokens_in}
 use Rattle.fc_log.specs.Seen.{seen_all}
-use Rattle.fc_log.specs.Stopping.{IsRefusalAt}
+use Rattle.fc_read_parts.specs.Refusing.{IsRefusalAt}
 use Rattle.fc_log.specs.Texts.{answer_kind, byte_of, cuts_of, log_tokens_of, stuck_at}
 use Rattle.fc_log.proofs.Faults.{answer_fault, form_fault, told}
 use Rattle.fc_log.proofs.whole.stopped.Goals as goal

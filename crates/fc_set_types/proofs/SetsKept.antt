@@ -13,16 +13,16 @@ use Rattle.fc_model.specs.Nameless.{NDecl, NModule, NModuleOf}
 use Rattle.fc_model.proofs.Sameness.{bytes_eq_eq, false_true}
 use Rattle.fc_rows.specs.Replaying.{Replays}
 use Rattle.fc_rows.specs.Telling.{reached_among, told_declarations, told_module}
-use Rattle.fc_replays.specs.ReplaysKept.{Stands, with_declarations}
-use Rattle.fc_replays.proofs.StepsKept.{replays_keep_lint}
-use Rattle.fc_sets.specs.SetsReplayed.{AreKept, IsHeadedFrom, headed, IsKept, LintInOrder, none_lint, one_lints, LintsBehind, ReplayedInOrder, none_replayed, one_replayed, ReplayedSetsKeepLint, is_one_of}
-use Rattle.fc_sets.proofs.AmongTold.{ToldInOrder, none_told, one_told, same_names, stands_among}
-use Rattle.fc_sets.proofs.Growing.{AreHeadedAlike, Grow, headed_by, module_grows}
-use Rattle.fc_sets.proofs.Headed.{anew_holds, anew_reaches, anew_stands}
-use Rattle.fc_sets.proofs.HeadersKept.{replay_declares, told_definitions, told_types}
-use Rattle.fc_sets.proofs.InOrder.{StandInOrder, none_stand, one_stands, own_names}
-use Rattle.fc_sets.proofs.Reached.{decided, nothing_declared, reached_found, reached_only}
-use Rattle.fc_sets.proofs.Told.{told_stands}
+use Rattle.fc_replay_types.specs.ReplaysKept.{Stands, with_declarations}
+use Rattle.fc_replay_types.proofs.StepsKept.{replays_keep_lint}
+use Rattle.fc_set_types.specs.SetsReplayed.{AreKept, IsHeadedFrom, headed, IsKept, LintInOrder, none_lint, one_lints, LintsBehind, ReplayedInOrder, none_replayed, one_replayed, ReplayedSetsKeepLint, is_one_of}
+use Rattle.fc_set_types.proofs.AmongTold.{ToldInOrder, none_told, one_told, same_names, stands_among}
+use Rattle.fc_set_types.proofs.Growing.{AreHeadedAlike, Grow, headed_by, module_grows}
+use Rattle.fc_set_types.proofs.Headed.{anew_holds, anew_reaches, anew_stands}
+use Rattle.fc_set_types.proofs.HeadersKept.{replay_declares, told_definitions, told_types}
+use Rattle.fc_set_types.proofs.InOrder.{StandInOrder, none_stand, one_stands, own_names}
+use Rattle.fc_set_types.proofs.Reached.{decided, nothing_declared, reached_found, reached_only}
+use Rattle.fc_set_types.proofs.Told.{told_stands}
 
 -- A LIST IN TWO PARTS
 

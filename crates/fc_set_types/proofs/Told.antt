@@ -1,12 +1,11 @@
 -- A module that stands among others stands among them as it is told.
-use Rattle.std.proofs.Common.{◌≡◌, Bool, true, false, if◌then◌else◌, List, [], ◌∷◌, Option, Some, None, refl, sym, subst}
+use Rattle.std.proofs.Common.{◌≡◌, Bool, true, false, List, [], ◌∷◌, refl, sym, subst}
 use Rattle.std.proofs.lemmas.List.Elements.{All-cons, All-head, All-tail}
 use Rattle.std.specs.List.{list_all}
-use Rattle.std.specs.Str.{bytes_eq}
 use Rattle.fc_syntax.specs.Tree.{Word, KStar}
 use Rattle.fc_model.specs.Calling.{con_decl}
 use Rattle.fc_model.specs.Coercing.{axiom_decl}
-use Rattle.fc_model.specs.Kinding.{Modules, decls_at, decls_of_module, type_decl}
+use Rattle.fc_model.specs.Kinding.{Modules, decls_at, type_decl}
 use Rattle.fc_model.specs.LintingRules.{def_holds, wrap_holds, DefinitionsHold, no_definitions, one_definition, ModuleHolds, module_holds}
 use Rattle.fc_model.specs.LintingRules.{TypeDeclsHold, no_type_decls, one_type_decl, def_declares_no_type}
 use Rattle.fc_model.specs.Nameless.{NDecl, NData, NNew, NFamily, NAxiom, NDef, NWrap, NModule, NModuleOf}
@@ -19,8 +18,9 @@ use Rattle.fc_outlines.specs.Headers.{SameHeaders}
 use Rattle.fc_outlines.proofs.HeadersAlone.{definitions_there}
 use Rattle.fc_rows.specs.Telling.{told_declarations}
 use Rattle.fc_row_types.proofs.DeclarationsAlike.{type_decls_hold_alike}
-use Rattle.fc_replays.specs.ReplaysKept.{Stands}
-use Rattle.fc_sets.proofs.HeadersKept.{same_axioms, same_constructors, same_types, told_declared_words, told_defined_words, told_definitions, told_type_words, told_types}
+use Rattle.fc_replay_types.specs.ReplaysKept.{Stands}
+use Rattle.fc_set_types.proofs.HeadersKept.{same_axioms, same_constructors, same_types, told_declared_words, told_defined_words, told_definitions, told_type_words, told_types}
+use Rattle.fc_outlines.proofs.RightSides.{same_among}
 
 -- WHAT IS TOLD HOLDS
 
@@ -61,24 +61,16 @@ module _ (m : Word) (imports exports hidden : List Word) (bs : List Bool) (ds : 
   abbrev told : NModule
   told = NModuleOf m imports exports hidden (told_declarations bs ds)
 
-  same_at : {X : Type 0} (f : List NDecl → X) → f ds ≡ f (told_declarations bs ds) → (o : Option Word) → f (decls_at (own ∷ xs) o) ≡ f (decls_at (told ∷ xs) o)
-  same_at f same None = refl
-  same_at f same (Some w) = either (bytes_eq m w)
-    where
-      either : (b : Bool) → f (if b then ds else decls_of_module xs w) ≡ f (if b then told_declarations bs ds else decls_of_module xs w)
-      either true = same
-      either false = refl
-
   told_headers : SameHeaders (decls_at (own ∷ xs)) (decls_at (told ∷ xs))
   told_headers =
       let same = sym (told_types bs ds) in
       record {
         alike = record {
-          types = λ o w. same_at (λ cs. type_decl cs w) (same_types ds (told_declarations bs ds) same w) o;
-          constructors = λ o w. same_at (λ cs. con_decl cs w) (same_constructors ds (told_declarations bs ds) same w) o;
-          axioms = λ o w. same_at (λ cs. axiom_decl o cs w) (same_axioms ds (told_declarations bs ds) same o w) o;
+          types = λ o w. same_among m imports exports hidden xs (λ cs. type_decl cs w) (same_types ds (told_declarations bs ds) same w) o;
+          constructors = λ o w. same_among m imports exports hidden xs (λ cs. con_decl cs w) (same_constructors ds (told_declarations bs ds) same w) o;
+          axioms = λ o w. same_among m imports exports hidden xs (λ cs. axiom_decl o cs w) (same_axioms ds (told_declarations bs ds) same o w) o;
         };
-        values = λ n. same_at (λ cs. def_type cs n.text) (sym (told_definitions bs ds n.text)) n.module;
+        values = λ n. same_among m imports exports hidden xs (λ cs. def_type cs n.text) (sym (told_definitions bs ds n.text)) n.module;
       }
 
   module_there : {n : NModule} → ModuleHolds (decls_at (own ∷ xs)) n → ModuleHolds (decls_at (told ∷ xs)) n

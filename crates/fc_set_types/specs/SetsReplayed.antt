@@ -20,7 +20,7 @@ use Rattle.fc_reaching.specs.Reaching.{defined_words}
 use Rattle.fc_rows.specs.Dropping.{is_offered}
 use Rattle.fc_rows.specs.Replaying.{Replays}
 use Rattle.fc_rows.specs.Telling.{reached_by_imports, told_module}
-use Rattle.fc_replays.specs.ReplaysKept.{OffersAlike, Stands}
+use Rattle.fc_replay_types.specs.ReplaysKept.{OffersAlike, Stands}
 use Rattle.fc_views.specs.Views.{names_in_decls}
 
 -- WHAT IS READ

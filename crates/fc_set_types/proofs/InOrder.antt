@@ -16,15 +16,16 @@ use Rattle.fc_model.proofs.Sameness.{false_true, same_word_eq}
 use Rattle.fc_reaching.specs.Numbering.{word_of}
 use Rattle.fc_reaching.specs.Reaching.{names_in}
 use Rattle.fc_rows.specs.Telling.{reached_among, reached_by_imports}
-use Rattle.fc_row_types.specs.DefinitionsDropped.{is_kept, mention_kept}
-use Rattle.fc_replays.specs.ReplaysKept.{MentionsNothingOf, Stands}
+use Rattle.fc_rows.specs.Dropping.{is_kept}
+use Rattle.fc_row_types.specs.DefinitionsDropped.{mention_kept}
+use Rattle.fc_replay_types.specs.ReplaysKept.{MentionsNothingOf, Stands}
 use Rattle.fc_views.specs.Views.{IsModuleInView, IsNameInView, names_in_decls}
 use Rattle.fc_views.proofs.NamesInView.{names_are_in_view}
 use Rattle.fc_views.proofs.TypesInView.{each_apart}
-use Rattle.fc_sets.specs.SetsReplayed.{is_one_of}
-use Rattle.fc_sets.proofs.Growing.{AreHeadedAlike, Grow, headed_by, module_grows}
-use Rattle.fc_sets.proofs.Mentions.{SeesDeclared, module_mentions}
-use Rattle.fc_sets.proofs.Reached.{HaveOwnNames, among_second, decided, not_reached, nothing_declared, other_name, reached_found, reached_more}
+use Rattle.fc_set_types.specs.SetsReplayed.{is_one_of}
+use Rattle.fc_set_types.proofs.Growing.{AreHeadedAlike, Grow, headed_by, module_grows}
+use Rattle.fc_set_types.proofs.Mentions.{SeesDeclared, module_mentions}
+use Rattle.fc_set_types.proofs.Reached.{HaveOwnNames, among_second, decided, not_reached, nothing_declared, other_name, reached_found, reached_more}
 
 -- of modules, the last built first, each has a new name and stands among those before it that its imports reach
 pub data StandInOrder : List NModule → Type 0 where

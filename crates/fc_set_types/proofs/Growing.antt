@@ -14,9 +14,9 @@ use Rattle.fc_headers.specs.NamelessHeaders.{modules_in_decls}
 use Rattle.fc_views.specs.Views.{AgreeInView, AreInView, IsClosedView, IsModuleInView, KeepsItsType, View, modules_in_headers}
 use Rattle.fc_views.proofs.DeclarationsInView.{modules_see_the_view}
 use Rattle.fc_views.proofs.ViewsClosed.{headers_close_views, headers_mention_fewer}
-use Rattle.fc_sets.specs.SetsReplayed.{type_declarations}
-use Rattle.fc_sets.proofs.HeadersKept.{same_axioms, same_constructors, same_types}
-use Rattle.fc_sets.proofs.Mentions.{SeesDeclared, module_mentions}
+use Rattle.fc_set_types.specs.SetsReplayed.{type_declarations}
+use Rattle.fc_set_types.proofs.HeadersKept.{same_axioms, same_constructors, same_types}
+use Rattle.fc_set_types.proofs.Mentions.{SeesDeclared, module_mentions}
 
 -- the same declarations of types, and definitions at the same types
 abbrev pub AreHeadedAlike : List NDecl → List NDecl → Type 0

@@ -23,7 +23,7 @@ use Rattle.fc_rows.specs.Surroundings.{outside}
 use Rattle.fc_rows.specs.Telling.{told_declarations}
 use Rattle.fc_row_types.proofs.DeclarationsChanged.{decls_changed}
 use Rattle.fc_row_types.proofs.Made.{made_inv}
-use Rattle.fc_sets.specs.SetsReplayed.{type_declarations}
+use Rattle.fc_set_types.specs.SetsReplayed.{type_declarations}
 
 -- DECLARATIONS OF TYPES
 

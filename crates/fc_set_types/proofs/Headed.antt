@@ -17,12 +17,13 @@ use Rattle.fc_model.proofs.Sameness.{false_true}
 use Rattle.fc_model.proofs.UnderHeader.{all_are_in, all_of_both, others_are_among}
 use Rattle.fc_headers.specs.NamelessHeaders.{modules_in_decls}
 use Rattle.fc_rows.specs.Telling.{reached_among}
-use Rattle.fc_replays.specs.ReplaysKept.{Stands}
-use Rattle.fc_sets.specs.SetsReplayed.{headed, TheSameAreHeaded, WrittenAreHeaded, is_one_of}
-use Rattle.fc_sets.proofs.Growing.{headed_by, module_grows}
-use Rattle.fc_sets.proofs.InOrder.{StandInOrder, names_see, own_names}
-use Rattle.fc_sets.proofs.Mentions.{module_mentions}
-use Rattle.fc_sets.proofs.Reached.{all_at, all_listed, all_weaker, among_first, by_or, other_name, reached_same, reached_there}
+use Rattle.fc_replay_types.specs.ReplaysKept.{Stands}
+use Rattle.fc_set_types.specs.SetsReplayed.{headed, TheSameAreHeaded, WrittenAreHeaded, is_one_of}
+use Rattle.fc_set_types.proofs.Growing.{headed_by, module_grows}
+use Rattle.fc_set_types.proofs.InOrder.{StandInOrder, names_see, own_names}
+use Rattle.fc_set_types.proofs.Mentions.{module_mentions}
+use Rattle.fc_set_types.proofs.Reached.{all_at, all_listed, all_weaker, among_first, by_or, other_name, reached_same, reached_there}
+use Rattle.fc_model.proofs.Lists.{words_alone}
 
 module _ (m : Word) (imports exports hidden further more : List Word) (ds : List NDecl) (before : List NModule) (stand : StandInOrder before) (new : is_one_of before m ≡ false) where
   abbrev own : NModule
@@ -79,15 +80,6 @@ module _ (m : Word) (imports exports hidden further more : List Word) (ds : List
 
 -- HEADERS
 
--- words that are put into a set are those words
-put_in : (ws : List Word) (s : WordSet) (w : Word) → plus_all ws s w ≡ true → (is_among ws w || s w) ≡ true
-put_in [] s w h = h
-put_in (v ∷ vs) s w h = first (bytes_eq v w) (is_among vs w) (put_in vs (plus v s) w h)
-  where
-    first : (b c : Bool) → (c || (if b then true else s w)) ≡ true → ((b || c) || s w) ≡ true
-    first true c h = refl
-    first false c h = h
-
 -- the words that are chosen are of the chosen ones
 chosen_words : (chosen but : WordSet) (ws : List Word) → list_all chosen (words_but chosen but ws) ≡ true
 chosen_words chosen but [] = refl
@@ -116,7 +108,7 @@ written_are_headed order (NModuleOf m imports exports hidden ds) =
     let hides : WordSet = λ w. is_among hidden w || declared w in
     headed (all_listed (is_among (imports ++ extra)) imports (λ w. among_first imports extra w))
     (all_of_both imported imports extra (all_listed imported imports (λ w. or_left (is_among imports w) (is_among mentioned w)))
-    (all_weaker chosen imported (λ w p. or_right (is_among imports w) (is_among mentioned w) (by_or (is_among mentioned w) false (put_in mentioned no_word w p) (λ q. q) false_true))
+    (all_weaker chosen imported (λ w p. or_right (is_among imports w) (is_among mentioned w) (sym (words_alone mentioned w) ∙ p))
     extra (chosen_words chosen (plus_all imports (plus m no_word)) order)))
     (all_of_both hides hidden hidden_more (all_listed hides hidden (λ w. or_left (is_among hidden w) (declared w)))
     (others_are_among hides (plus_all hidden (plus_all exports no_word)) (ndeclared_words ds)

@@ -11,7 +11,7 @@ use Rattle.fc_model.specs.Planning.{is_among}
 use Rattle.fc_model.proofs.Sameness.{bytes_eq_eq, bytes_eq_refl, false_true}
 use Rattle.fc_reaching.specs.Numbering.{word_of}
 use Rattle.fc_rows.specs.Telling.{reached_among}
-use Rattle.fc_sets.specs.SetsReplayed.{is_one_of}
+use Rattle.fc_set_types.specs.SetsReplayed.{is_one_of}
 
 -- TESTS
 

@@ -22,8 +22,8 @@ use Rattle.fc_row_types.proofs.DeclarationsChanged.{decls_changed}
 use Rattle.fc_row_types.proofs.DefinitionsGo.{definitions_stay_linted}
 use Rattle.fc_row_types.proofs.Made.{made_inv}
 use Rattle.fc_row_types.proofs.RowsKept.{rows_keep_lint}
-use Rattle.fc_replays.specs.ReplaysKept.{OffersAlike, ReplaysKeepLint, Stands, with_declarations}
-use Rattle.fc_replays.proofs.NeededClosed.{needed_stays, not_before, offered_kept}
+use Rattle.fc_replay_types.specs.ReplaysKept.{OffersAlike, ReplaysKeepLint, Stands, with_declarations}
+use Rattle.fc_replay_types.proofs.NeededClosed.{needed_stays, not_before, offered_kept}
 
 -- ROWS
 

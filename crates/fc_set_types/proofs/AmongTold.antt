@@ -17,16 +17,16 @@ use Rattle.fc_headers.specs.NamelessHeaders.{modules_in_decls}
 use Rattle.fc_reaching.specs.Numbering.{word_of}
 use Rattle.fc_rows.specs.Dropping.{is_offered}
 use Rattle.fc_rows.specs.Telling.{reached_among}
-use Rattle.fc_replays.specs.ReplaysKept.{Stands}
+use Rattle.fc_replay_types.specs.ReplaysKept.{Stands}
 use Rattle.fc_views.specs.Views.{AgreeInView, AreInView, IsClosedView, IsModuleInView, KeepsItsType, View, modules_in_headers, names_in_decls}
 use Rattle.fc_views.proofs.DeclarationsInView.{modules_see_the_view}
 use Rattle.fc_views.proofs.NamesInView.{names_are_in_view}
 use Rattle.fc_views.proofs.ViewsClosed.{headers_close_views, headers_mention_fewer}
-use Rattle.fc_sets.specs.SetsReplayed.{LintsBehind, is_offered_by, is_one_of, may_mention, may_use, type_declarations}
-use Rattle.fc_sets.proofs.Growing.{module_grows}
-use Rattle.fc_sets.proofs.HeadersKept.{same_axioms, same_constructors, same_types}
-use Rattle.fc_sets.proofs.InOrder.{HoldTogether, StandInOrder, grow_behind, own_names, reached_hold, together_apart, types_in_order}
-use Rattle.fc_sets.proofs.Reached.{all_at, all_listed, all_weaker, among_second, by_or, each_reached, names_differ, not_reached, other_name, reached_found, reached_only, reached_there}
+use Rattle.fc_set_types.specs.SetsReplayed.{LintsBehind, is_offered_by, is_one_of, may_mention, may_use, type_declarations}
+use Rattle.fc_set_types.proofs.Growing.{module_grows}
+use Rattle.fc_set_types.proofs.HeadersKept.{same_axioms, same_constructors, same_types}
+use Rattle.fc_set_types.proofs.InOrder.{HoldTogether, StandInOrder, grow_behind, own_names, reached_hold, together_apart, types_in_order}
+use Rattle.fc_set_types.proofs.Reached.{all_at, all_listed, all_weaker, among_second, by_or, each_reached, names_differ, not_reached, other_name, reached_found, reached_only, reached_there}
 
 -- WHAT IS TOLD OF WHAT WAS READ
 

@@ -19,10 +19,10 @@ use Rattle.fc_model.proofs.Parts.{err_ok}
 use Rattle.fc_model.proofs.Sameness.{bytes_eq_refl, false_true, same_word_eq}
 use Rattle.fc_reaching.specs.Reaching.{MentionsDefinition, ReachesDefinition, at_once, through, defined_words, name_in, names_in, right_side}
 use Rattle.fc_outlines.proofs.Alike.{Among, first_among, later_among}
-use Rattle.fc_rows.specs.Dropping.{IsNeeded, is_offered, needed_by_others, needed_by_one}
-use Rattle.fc_row_types.specs.DefinitionsDropped.{is_kept, mention_kept, stay_closed, StaysClosed}
-use Rattle.fc_replays.specs.ReplaysKept.{MentionsNothingOf, Stands}
-use Rattle.fc_replays.proofs.NamesDeclared.{typed_are_declared}
+use Rattle.fc_rows.specs.Dropping.{IsNeeded, is_kept, is_offered, needed_by_others, needed_by_one}
+use Rattle.fc_row_types.specs.DefinitionsDropped.{mention_kept, stay_closed, StaysClosed}
+use Rattle.fc_replay_types.specs.ReplaysKept.{MentionsNothingOf, Stands}
+use Rattle.fc_replay_types.proofs.NamesDeclared.{typed_are_declared}
 
 -- LISTS
 
