@@ -5,29 +5,15 @@
 //! where the answer cannot be put; 5 where no memory is left.
 #![tactic(auto)]
 
-mod answers;
-mod binders;
-mod changing;
-mod interfaces;
-mod logs;
-mod named;
-mod names;
-mod occurring;
-mod pieces;
-mod reaching;
-mod reading;
-mod references;
-mod referring;
-mod right_sides;
-mod texts;
-
-use crate::answers::{NoAnswer, tell};
-use crate::changing::Change;
-use crate::named::By;
-use crate::pieces::Asked;
-use crate::reading::{File, number_in, read_all};
-use crate::texts::Form;
 use fc_files::{Files, HostFiles, HostSink};
+use fc_probe_files::{File, NoAnswer, number_in, read_all, tell};
+use fc_probe_forms::changing::Change;
+use fc_probe_forms::{changing, names, reaching};
+use fc_probe_rows::applied;
+use fc_probe_texts::named::By;
+use fc_probe_texts::pieces::Asked;
+use fc_probe_texts::texts::Form;
+use fc_probe_texts::{interfaces, logs, named, occurring, pieces, texts};
 use fc_syntax::Limits;
 use std::alloc::Global;
 use std::env::Env;
@@ -118,6 +104,22 @@ fn answer_of(alloc: Global, words: &[&str], files: &[File]) -> Result<Vec<u8>, N
     }
 }
 
+/// What the call `apply` answers: its words are files, two hyphens, and a step.
+fn answer_to_apply<F: Files>(
+    alloc: Global,
+    files: &mut F,
+    words: &[&str],
+) -> Result<Vec<u8>, NoAnswer> {
+    let [names @ .., hyphens, step] = words else {
+        return Err(NoAnswer::Usage);
+    };
+    if *hyphens != "--" {
+        return Err(NoAnswer::Usage);
+    }
+    let files = read_all(alloc, files, names)?;
+    applied(alloc, files.as_slice(), *step)
+}
+
 /// What the call of the words of a command line answers.
 fn answer_to<F: Files>(
     alloc: Global,
@@ -129,6 +131,9 @@ fn answer_to<F: Files>(
     let Some(call) = words.first() else {
         return Err(NoAnswer::Usage);
     };
+    if *call == "apply" {
+        return answer_to_apply(alloc, files, &words[1..]);
+    }
     let before = words_before_files(*call);
     if words.len() < before {
         return Err(NoAnswer::Usage);

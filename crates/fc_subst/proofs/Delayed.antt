@@ -2,9 +2,9 @@
 use Rattle.std.proofs.Common.{◌≡◌, ℕ, zero, suc, ◌+◌, refl, sym, ap, ◌∙◌}
 use Rattle.fc_syntax.specs.Tree.{Kind}
 use Rattle.fc_syntax.specs.declared.ty.Role.{Role}
-use Rattle.fc_model.specs.Nameless.{NTy, NTVar, NCo, NGVar, NBType, NBCo, NArg, NATerm, NAType, NACo, NExpr, NLocal, NCast}
+use Rattle.fc_model.specs.Nameless.{NTy, NTVar, NCo, NGVar, NBType, NBCo, NArg, NATerm, NAType, NACo, NArgs, NoNArgs, NAlts, NoNAlts, NExpr, NLocal, NApp, NCase, NCast, NJump}
 use Rattle.fc_model.specs.Replacing.{Renaming, Substitution, below_binder, below_joins, below_values, coercion_before, coercion_variables, coercions_below, expressions}
-use Rattle.fc_model.specs.Replacing.{past_a_coercion, past_a_join, past_a_type, past_a_value, put_in_arg, renamed, renamed_coercion, replaced, replaced_coercion, themselves, unchanged, value_before, values_below}
+use Rattle.fc_model.specs.Replacing.{past_a_coercion, past_a_join, past_a_type, past_a_value, put_in_alts, put_in_arg, put_in_args, renamed, renamed_coercion, replaced, replaced_coercion, themselves, unchanged, value_before, values_below}
 use Rattle.fc_model.specs.Replacing.{variables, whole_coercions, with_argument}
 use Rattle.fc_model.specs.Substituting.{renaming_below, shifted_type, substituted_type, type_before, types_below}
 use Rattle.fc_model.proofs.RenamedItself.{itself}
@@ -273,3 +273,42 @@ argument_delayed m r a = arg_again renamed_replaced r (past_values m) (put_past_
   values = λ i. refl;
   joins = λ i. refl;
 }) a
+
+-- A RENAMING AS WHAT IS PUT IN
+
+-- what is put in for each variable is the variable that a renaming has for it
+pub record IsPut (r : Renaming) (s : Substitution) : Type 0 where
+  pub types : (i : ℕ) → s.types i ≡ r.types i
+  pub coercions : (i : ℕ) → s.coercions i ≡ NGVar (r.coercions i)
+  pub values : (i : ℕ) → s.values i ≡ NLocal (r.values i)
+  pub joins : (i : ℕ) → s.joins i ≡ r.joins i
+
+abbrev the_arguments : NExpr → NArgs
+the_arguments (NJump i args) = args
+the_arguments _ = NoNArgs
+
+abbrev the_argument : NExpr → NArg
+the_argument (NApp f a) = a
+the_argument _ = NATerm (NLocal 0)
+
+abbrev the_alternatives : NExpr → NAlts
+the_alternatives (NCase e t u alts) = alts
+the_alternatives _ = NoNAlts
+
+module _ (r : Renaming) (s : Substitution) (put : IsPut r s) where
+  pub renaming_is_put : (e : NExpr) → renamed r e ≡ replaced s e
+  renaming_is_put e = sym (itself (renamed r e)) ∙ again as_replacement r themselves s (record {
+    types = λ i. variables_for_themselves (r.types i) ∙ sym (put.types i);
+    coercions = λ i. sym (put.coercions i);
+    values = λ i. sym (put.values i);
+    joins = λ i. sym (put.joins i);
+  }) e
+
+  pub argument_is_put : (a : NArg) → put_in_arg variables coercion_variables r a ≡ put_in_arg expressions whole_coercions s a
+  argument_is_put a = ap the_argument (renaming_is_put (NApp (NLocal 0) a))
+
+  pub arguments_are_put : (args : NArgs) → put_in_args variables coercion_variables r args ≡ put_in_args expressions whole_coercions s args
+  arguments_are_put args = ap the_arguments (renaming_is_put (NJump 0 args))
+
+  pub alternatives_are_put : (alts : NAlts) → put_in_alts variables coercion_variables (below_values variables coercion_variables 1 r) alts ≡ put_in_alts expressions whole_coercions (below_values expressions whole_coercions 1 s) alts
+  alternatives_are_put alts = ap the_alternatives (renaming_is_put (NCase (NLocal 0) (NTVar 0) (NTVar 0) alts))

@@ -255,6 +255,12 @@ lifted_none r = same_fields (lifted none r) r
     less_none : (i : ℕ) → i - 0 ≡ i
     less_none i = omega arith
 
+-- past values alone
+pub lifted_values : (m : ℕ) (r : Substitution) → lifted (record { types = 0; coercions = 0; values = m; joins = 0 }) r ≡ below_values expressions whole_coercions m r
+lifted_values m r =
+    ap (λ n. lifted (record { types = 0; coercions = 0; values = n; joins = 0 }) r) (let e : m ≡ 0 + m = omega arith in e)
+    ∙ below_values_more m none r ∙ ap (below_values expressions whole_coercions m) (lifted_none r)
+
 -- WHAT IS PAST BINDERS, AS WHAT IS PUT IN
 
 module _ (p : Shift) where

@@ -269,7 +269,12 @@ fn join_with<'x>(
 /// An argument with what stands in place of its variables.
 #[cycle(expressions)]
 #[tactic(auto, using(fc_syntax::proofs::View::view_rules))]
-fn argument_with<'x>(alloc: Global, a: &NArg, by: &'x Lifted<'x>, fuel: u32) -> Result<NArg, Memory>
+pub(crate) fn argument_with<'x>(
+    alloc: Global,
+    a: &NArg,
+    by: &'x Lifted<'x>,
+    fuel: u32,
+) -> Result<NArg, Memory>
     ensures { IfOk result (λ r. narg_of r ≡ put_in_arg expressions whole_coercions (lifted_of by.now) (narg_of a.now)) }
 {
     let fuel = deeper(fuel)?;
@@ -551,7 +556,7 @@ fn expressions_with<'x>(
 /// Each with what stands in place of its variables.
 #[cycle(expressions)]
 #[tactic(auto, using(crate::proofs::Lists::args_step))]
-fn arguments_with<'x>(
+pub(crate) fn arguments_with<'x>(
     alloc: Global,
     items: &[NArg],
     by: &'x Lifted<'x>,
@@ -608,7 +613,7 @@ fn join_points_with<'x>(
 /// Each with what stands in place of its variables.
 #[cycle(expressions)]
 #[tactic(auto, using(crate::proofs::Lists::alts_step))]
-fn alternatives_with<'x>(
+pub(crate) fn alternatives_with<'x>(
     alloc: Global,
     items: &[NAlt],
     by: &'x Lifted<'x>,

@@ -5,6 +5,7 @@
 mod arguments;
 mod coercions;
 mod expressions;
+mod parts;
 mod replacement;
 mod shift;
 mod types;
@@ -12,6 +13,7 @@ mod types;
 pub use arguments::substitute_arguments;
 pub use coercions::substitute_in_coercion;
 pub use expressions::substitute;
+pub use parts::{substitute_in_alternatives, substitute_in_argument, substitute_in_arguments};
 pub use replacement::Replacement;
 pub use shift::{NO_BINDERS, Shift};
 pub use types::substitute_in_type;

@@ -115,9 +115,10 @@ pub fn copy_alt(alloc: Global, a: &NAlt) -> Result<NAlt, Memory>
     })
 }
 
+/// The same operands again. Fails only where memory runs out.
 #[cycle(copies)]
 #[tactic(auto, using(fc_syntax::proofs::Snoc::exprs_step))]
-fn copy_exprs(alloc: Global, items: &[NExpr]) -> Result<Seq<NExpr>, Memory>
+pub fn copy_exprs(alloc: Global, items: &[NExpr]) -> Result<Seq<NExpr>, Memory>
     ensures { IfOk result (λ s. exprs_of s ≡ exprs_of items.now) }
 {
     let mut all = Seq::new(alloc);
@@ -127,9 +128,10 @@ fn copy_exprs(alloc: Global, items: &[NExpr]) -> Result<Seq<NExpr>, Memory>
     Ok(all)
 }
 
+/// The same arguments again. Fails only where memory runs out.
 #[cycle(copies)]
 #[tactic(auto, using(fc_syntax::proofs::Snoc::args_step))]
-fn copy_args(alloc: Global, items: &[NArg]) -> Result<Seq<NArg>, Memory>
+pub fn copy_args(alloc: Global, items: &[NArg]) -> Result<Seq<NArg>, Memory>
     ensures { IfOk result (λ s. args_of s ≡ args_of items.now) }
 {
     let mut all = Seq::new(alloc);
@@ -139,9 +141,10 @@ fn copy_args(alloc: Global, items: &[NArg]) -> Result<Seq<NArg>, Memory>
     Ok(all)
 }
 
+/// The same bindings again. Fails only where memory runs out.
 #[cycle(copies)]
 #[tactic(auto, using(fc_syntax::proofs::Snoc::binds_step))]
-fn copy_binds(alloc: Global, items: &[NBind]) -> Result<Seq<NBind>, Memory>
+pub fn copy_binds(alloc: Global, items: &[NBind]) -> Result<Seq<NBind>, Memory>
     ensures { IfOk result (λ s. binds_of s ≡ binds_of items.now) }
 {
     let mut all = Seq::new(alloc);
@@ -151,9 +154,10 @@ fn copy_binds(alloc: Global, items: &[NBind]) -> Result<Seq<NBind>, Memory>
     Ok(all)
 }
 
+/// The same join points again. Fails only where memory runs out.
 #[cycle(copies)]
 #[tactic(auto, using(fc_syntax::proofs::Snoc::joins_step))]
-fn copy_joins(alloc: Global, items: &[NJoinBind]) -> Result<Seq<NJoinBind>, Memory>
+pub fn copy_joins(alloc: Global, items: &[NJoinBind]) -> Result<Seq<NJoinBind>, Memory>
     ensures { IfOk result (λ s. joins_of s ≡ joins_of items.now) }
 {
     let mut all = Seq::new(alloc);
@@ -163,9 +167,10 @@ fn copy_joins(alloc: Global, items: &[NJoinBind]) -> Result<Seq<NJoinBind>, Memo
     Ok(all)
 }
 
+/// The same alternatives again. Fails only where memory runs out.
 #[cycle(copies)]
 #[tactic(auto, using(fc_syntax::proofs::Snoc::alts_step))]
-fn copy_alts(alloc: Global, items: &[NAlt]) -> Result<Seq<NAlt>, Memory>
+pub fn copy_alts(alloc: Global, items: &[NAlt]) -> Result<Seq<NAlt>, Memory>
     ensures { IfOk result (λ s. alts_of s ≡ alts_of items.now) }
 {
     let mut all = Seq::new(alloc);

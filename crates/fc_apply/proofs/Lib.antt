@@ -1,0 +1,4 @@
+mod Applied
+mod Decls
+mod InDefinitions
+mod TermSteps

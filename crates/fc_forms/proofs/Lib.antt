@@ -1,0 +1,2 @@
+pub mod OtherForms
+pub mod Parts

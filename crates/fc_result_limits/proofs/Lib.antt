@@ -1,0 +1,3 @@
+mod Bare
+mod Blank
+pub mod Within
