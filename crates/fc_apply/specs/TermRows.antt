@@ -1,10 +1,11 @@
 -- The rows that read the expression alone that they replace, neither types nor what is known of variables.
-use Rattle.std.specs.Prelude.{Bool, true, false, Option, None}
+use Rattle.std.specs.Prelude.{Bool, true, false, if◌then◌else◌, [], Option, None}
 use Rattle.fc_log.specs.declared.log.Row.{Row}
 use Rattle.fc_log.specs.declared.log.Row.TheVariants as row
+use Rattle.fc_model.specs.Kinding.{decls_at}
 use Rattle.fc_model.specs.Nameless.{NExpr}
-use Rattle.fc_rows.specs.Commuting.{app_of_let, case_of_let, cast_of_let, let_of_let}
-use Rattle.fc_rows.specs.Shrinking.{case_merge, cast_cast, join_dead, let_atom, let_dead, let_once}
+use Rattle.fc_rows.specs.Rewriting.{row_result}
+use Rattle.fc_rows.specs.Surroundings.{outside}
 
 abbrev pub is_term_row : Row → Bool
 is_term_row row.LetDead = true
@@ -19,16 +20,6 @@ is_term_row row.LetOfLet = true
 is_term_row row.CastOfLet = true
 is_term_row r = false
 
--- what such a row makes of an expression; every other row is none here
+-- what such a row makes of an expression, where no module is and nothing stands around; of every other row nothing
 abbrev pub term_row : Row → NExpr → Option NExpr
-term_row row.LetDead e = let_dead e
-term_row row.LetAtom e = let_atom e
-term_row row.LetOnce e = let_once e
-term_row row.CaseMerge e = case_merge e
-term_row row.CastCast e = cast_cast e
-term_row row.JoinDead e = join_dead e
-term_row row.AppOfLet e = app_of_let e
-term_row row.CaseOfLet e = case_of_let e
-term_row row.LetOfLet e = let_of_let e
-term_row row.CastOfLet e = cast_of_let e
-term_row r e = None
+term_row r e = if is_term_row r then row_result (decls_at []) r 0 (outside (decls_at [])) e else None

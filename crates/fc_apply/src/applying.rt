@@ -50,7 +50,7 @@ fn put_within_limits(module: &mut NModule, number: usize, decl: NDecl) -> Result
 pub fn apply(alloc: Global, module: &mut NModule, step: &Step) -> Result<bool, Memory>
     ensures taken { IfOk result (λ b. IsTrue b → (imports : List Form) → Rewrites imports step.now (nmodule_of module.old) (nmodule_of module.new)) }
     ensures refused { IfOk result (λ b. IsFalse b → IsTrue (spec_is_term_row step.now.row) → (imports : List Form) (after : Form) → Rewrites imports step.now (nmodule_of module.old) after → ⊥) }
-    ensures unchanged { (result ≡ Ok true → ⊥) → nmodule_of module.new ≡ nmodule_of module.old }
+    ensures unchanged { (result ≡ Ok true → ⊥) → module.new ≡ module.old }
 {
     if !is_term_row(step.row) {
         return Ok(false);

@@ -49,9 +49,6 @@ pub case_of_let_made : (e s : NExpr) (t u : NTy) (alts : NAlts) (r : Bool) (bs :
     → Some (NLet r bs (looked_at t u alts bs b)) ≡ case_of_let e
 case_of_let_made e s t u alts r bs b outer inner = ap (into_let (looked_at t u alts)) inner ∙ ap case_row outer ∙ case_of_let_is e
 
-pub case_same : (a b : NExpr) (t u v w : NTy) (x y : NAlts) → a ≡ b → t ≡ u → v ≡ w → x ≡ y → NCase a t v x ≡ NCase b u w y
-case_same a b t u v w x y h i j k = rw (h, i, j, k) refl
-
 -- LETS
 
 -- what is no let is a value behind lets where it is a value

@@ -1,14 +1,18 @@
--- An expression with the parts of a form is of that form, and alternatives with a default that is the only one are that default.
+-- An expression with the parts of a form is of that form, alternatives with a default that is the only one are that default, and a case of equal parts is the same.
 use Rattle.std.proofs.Common.{◌≡◌, ap, Bool, false, Some, []}
 use Rattle.fc_syntax.specs.declared.expr.Head.TheVariants as head
-use Rattle.fc_model.specs.Nameless.{NTy, NCo, NArg, NBinds, NoNBinds, MoreNBinds, NBound, NJoins, NAlts, NoNAlts, MoreNAlts, NBranch}
-use Rattle.fc_model.specs.Nameless.{NExpr, NApp, NLet, NCase, NCast, NJoin}
+use Rattle.fc_model.specs.Nameless.{NTy, NCo, NArg, NBinder, NBinds, NoNBinds, MoreNBinds, NBound, NJoins, NAlts, NoNAlts, MoreNAlts, NBranch}
+use Rattle.fc_model.specs.Nameless.{NExpr, NApp, NLam, NLet, NCase, NCast, NJoin}
 use Rattle.fc_rows.specs.Shrinking.{let_of}
-use Rattle.fc_forms.specs.Forms.{application_parts, binding_parts, case_parts, cast_parts, default_body, joining_parts, single_binding_parts}
+use Rattle.fc_forms.specs.Forms.{application_parts, binding_parts, case_parts, cast_parts, default_body, joining_parts, lambda_parts, single_binding_parts}
 
 pub application_form : (e : NExpr) (p : NExpr × NArg) → Some p ≡ application_parts e → e ≡ NApp p.0 p.1
 application_form (NApp f a) p h = let same : (f, a) ≡ p = cc in ap (λ q. NApp q.0 q.1) same
 application_form _ p h = cc
+
+pub lambda_form : (e : NExpr) (p : NBinder × NExpr) → Some p ≡ lambda_parts e → e ≡ NLam p.0 p.1
+lambda_form (NLam b e) p h = let same : (b, e) ≡ p = cc in ap (λ q. NLam q.0 q.1) same
+lambda_form _ p h = cc
 
 pub binding_form : (e : NExpr) (p : Bool × NBinds × NExpr) → Some p ≡ binding_parts e → e ≡ NLet p.0 p.1 p.2
 binding_form (NLet r bs b) p h = let same : (r, bs, b) ≡ p = cc in ap (λ q. NLet q.0 q.1 q.2) same
@@ -33,3 +37,7 @@ joining_form _ p h = cc
 pub default_form : (alts : NAlts) (b : NExpr) → Some b ≡ default_body alts → alts ≡ MoreNAlts (NBranch head.Default [] b) NoNAlts
 default_form (MoreNAlts (NBranch head.Default [] c) NoNAlts) b h = cc
 default_form _ b h = cc
+
+-- a case of equal parts
+pub same_case : {s p : NExpr} {t v u w : NTy} {alts rest : NAlts} → s ≡ p → t ≡ v → u ≡ w → alts ≡ rest → NCase s t u alts ≡ NCase p v w rest
+same_case h k l m = λ j. NCase (h j) (k j) (l j) (m j)

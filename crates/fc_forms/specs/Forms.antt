@@ -1,11 +1,12 @@
 -- The parts of an expression, where it is of a form.
 use Rattle.std.specs.Prelude.{Bool, false, [], Option, Some, None}
 use Rattle.fc_syntax.specs.declared.expr.Head.TheVariants as head
-use Rattle.fc_model.specs.Nameless.{NTy, NCo, NArg, NBinds, NJoins, NAlts, NoNBinds, MoreNBinds, NoNAlts, MoreNAlts, NBound, NBranch}
-use Rattle.fc_model.specs.Nameless.{NExpr, NApp, NLet, NCase, NCast, NJoin}
-use Rattle.fc_model.specs.NamelessView.{nalts_of, narg_of, nbinds_of, nco_of, nexpr_of, njoins_of, nty_of}
+use Rattle.fc_model.specs.Nameless.{NTy, NCo, NArg, NBinder, NBinds, NJoins, NAlts, NoNBinds, MoreNBinds, NoNAlts, MoreNAlts, NBound, NBranch}
+use Rattle.fc_model.specs.Nameless.{NExpr, NApp, NLam, NLet, NCase, NCast, NJoin}
+use Rattle.fc_model.specs.NamelessView.{nalts_of, narg_of, nbinder_of, nbinds_of, nco_of, nexpr_of, njoins_of, nty_of}
 use Rattle.fc_forms.specs.declared.forms.Application.{Application}
 use Rattle.fc_forms.specs.declared.forms.Binding.{Binding}
+use Rattle.fc_forms.specs.declared.forms.Lambda.{Lambda}
 use Rattle.fc_forms.specs.declared.forms.SingleBinding.{SingleBinding}
 use Rattle.fc_forms.specs.declared.forms.Case.{Case}
 use Rattle.fc_forms.specs.declared.forms.Cast.{Cast}
@@ -17,6 +18,11 @@ use Rattle.fc_forms.specs.declared.forms.Joining.{Joining}
 abbrev pub application_parts : NExpr → Option (NExpr × NArg)
 application_parts (NApp f a) = Some (f, a)
 application_parts e = None
+
+-- the binder and the body of a lambda
+abbrev pub lambda_parts : NExpr → Option (NBinder × NExpr)
+lambda_parts (NLam b e) = Some (b, e)
+lambda_parts e = None
 
 -- whether a let is recursive, its bindings and its body
 abbrev pub binding_parts : NExpr → Option (Bool × NBinds × NExpr)
@@ -52,6 +58,9 @@ default_body alts = None
 
 abbrev pub application_of : Application → NExpr × NArg
 application_of a = (nexpr_of a.head.now, narg_of a.argument.now)
+
+abbrev pub lambda_of : Lambda → NBinder × NExpr
+lambda_of l = (nbinder_of l.binder.now, nexpr_of l.body.now)
 
 abbrev pub binding_of : Binding → Bool × NBinds × NExpr
 binding_of b = (b.recursive, nbinds_of b.bindings.now, nexpr_of b.body.now)

@@ -3,9 +3,9 @@ ghost use Rattle.std.specs.Prelude.{◌≡◌, IsTrue, ◌↔◌};
 ghost use Rattle.std.specs.Option.{option_map};
 ghost use Rattle.fc_model.specs.Nameless.{NLocal};
 ghost use Rattle.fc_model.specs.NamelessView.{nalts_of, nexpr_of};
-ghost use Rattle.fc_forms.specs.Forms.{application_of, application_parts, binding_of, binding_parts, case_of, case_parts, cast_of, cast_parts, default_body, joining_of, joining_parts, single_binding_of, single_binding_parts};
+ghost use Rattle.fc_forms.specs.Forms.{application_of, application_parts, binding_of, binding_parts, case_of, case_parts, cast_of, cast_parts, default_body, joining_of, joining_parts, lambda_of, lambda_parts, single_binding_of, single_binding_parts};
 
-use fc_syntax::{Head, NAlt, NArg, NBind, NCo, NExpr, NJoinBind, NTy, Ref, Text};
+use fc_syntax::{Head, NAlt, NArg, NBind, NBinder, NCo, NExpr, NJoinBind, NTy, Ref, Text};
 
 /// The parts of an application.
 #[derive(Clone, Copy)]
@@ -14,6 +14,15 @@ pub struct Application<'a> {
     pub head: &'a NExpr,
     /// What it is applied to.
     pub argument: &'a NArg,
+}
+
+/// The parts of a lambda.
+#[derive(Clone, Copy)]
+pub struct Lambda<'a> {
+    /// Its binder.
+    pub binder: &'a NBinder,
+    /// What stands behind it.
+    pub body: &'a NExpr,
 }
 
 /// The parts of a let.
@@ -82,6 +91,20 @@ pub fn as_application<'a>(e: &'a NExpr) -> Option<Application<'a>>
         NExpr::App(head, argument) => Some(Application {
             head: &**head,
             argument: &**argument,
+        }),
+        _ => None,
+    }
+}
+
+/// The parts of an expression where it is a lambda.
+#[tactic(auto, using(fc_syntax::proofs::View::view_rules))]
+pub fn as_lambda<'a>(e: &'a NExpr) -> Option<Lambda<'a>>
+    ensures { option_map lambda_of result ≡ lambda_parts (nexpr_of e.now) }
+{
+    match e {
+        NExpr::Lam(binder, body) => Some(Lambda {
+            binder: &**binder,
+            body: &**body,
         }),
         _ => None,
     }

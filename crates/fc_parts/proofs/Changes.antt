@@ -26,46 +26,46 @@ nothing_made f o h = ap (made f) h
 
 -- where no coercion is replaced, none is changed
 mutual
-  pub no_coercion : (ks : List Kind) (cs : List Ends) (p : List ℕ) (g : NCo) → changed_coercion as_they_are ks cs p g ≡ None
-  no_coercion ks cs [] g = refl
-  no_coercion ks cs (i ∷ p) (NGVar j) = refl
-  no_coercion ks cs (i ∷ p) (NGRefl r t) = refl
-  no_coercion ks cs (zero ∷ p) (NGSym g) = nothing_made _ _ (no_coercion ks cs p g)
-  no_coercion ks cs (suc i ∷ p) (NGSym g) = refl
-  no_coercion ks cs (zero ∷ p) (NGTrans g f) = nothing_made _ _ (no_coercion ks cs p g)
-  no_coercion ks cs (suc zero ∷ p) (NGTrans g f) = nothing_made _ _ (no_coercion ks cs p f)
-  no_coercion ks cs (suc (suc i) ∷ p) (NGTrans g f) = refl
-  no_coercion ks cs (i ∷ p) (NGTc r n gs) = nothing_made _ _ (no_coercions ks cs i p gs)
-  no_coercion ks cs (zero ∷ p) (NGCapp g f) = nothing_made _ _ (no_coercion ks cs p g)
-  no_coercion ks cs (suc zero ∷ p) (NGCapp g f) = nothing_made _ _ (no_coercion ks cs p f)
-  no_coercion ks cs (suc (suc i) ∷ p) (NGCapp g f) = refl
-  no_coercion ks cs (zero ∷ p) (NGFun g f) = nothing_made _ _ (no_coercion ks cs p g)
-  no_coercion ks cs (suc zero ∷ p) (NGFun g f) = nothing_made _ _ (no_coercion ks cs p f)
-  no_coercion ks cs (suc (suc i) ∷ p) (NGFun g f) = refl
-  no_coercion ks cs (zero ∷ p) (NGAll k g) = nothing_made _ _ (no_coercion _ _ p g)
-  no_coercion ks cs (suc i ∷ p) (NGAll k g) = refl
-  no_coercion ks cs (zero ∷ p) (NGCoAll r o f g d) = nothing_made _ _ (no_coercion ks cs p f)
-  no_coercion ks cs (suc zero ∷ p) (NGCoAll r o f g d) = nothing_made _ _ (no_coercion ks cs p g)
-  no_coercion ks cs (suc (suc zero) ∷ p) (NGCoAll r o f g d) = nothing_made _ _ (no_coercion ks cs p d)
-  no_coercion ks cs (suc (suc (suc i)) ∷ p) (NGCoAll r o f g d) = refl
-  no_coercion ks cs (zero ∷ p) (NGInst g f) = nothing_made _ _ (no_coercion ks cs p g)
-  no_coercion ks cs (suc zero ∷ p) (NGInst g f) = nothing_made _ _ (no_coercion ks cs p f)
-  no_coercion ks cs (suc (suc i) ∷ p) (NGInst g f) = refl
-  no_coercion ks cs (zero ∷ p) (NGNth n g) = nothing_made _ _ (no_coercion ks cs p g)
-  no_coercion ks cs (suc i ∷ p) (NGNth n g) = refl
-  no_coercion ks cs (zero ∷ p) (NGLeft g) = nothing_made _ _ (no_coercion ks cs p g)
-  no_coercion ks cs (suc i ∷ p) (NGLeft g) = refl
-  no_coercion ks cs (zero ∷ p) (NGRight g) = nothing_made _ _ (no_coercion ks cs p g)
-  no_coercion ks cs (suc i ∷ p) (NGRight g) = refl
-  no_coercion ks cs (zero ∷ p) (NGSub g) = nothing_made _ _ (no_coercion ks cs p g)
-  no_coercion ks cs (suc i ∷ p) (NGSub g) = refl
-  no_coercion ks cs (i ∷ p) (NGAx n gs) = nothing_made _ _ (no_coercions ks cs i p gs)
-  no_coercion ks cs (i ∷ p) (NGUniv t u) = refl
+  pub changes_none : (ks : List Kind) (cs : List Ends) (p : List ℕ) (g : NCo) → changed_coercion as_they_are ks cs p g ≡ None
+  changes_none ks cs [] g = refl
+  changes_none ks cs (i ∷ p) (NGVar j) = refl
+  changes_none ks cs (i ∷ p) (NGRefl r t) = refl
+  changes_none ks cs (zero ∷ p) (NGSym g) = nothing_made _ _ (changes_none ks cs p g)
+  changes_none ks cs (suc i ∷ p) (NGSym g) = refl
+  changes_none ks cs (zero ∷ p) (NGTrans g f) = nothing_made _ _ (changes_none ks cs p g)
+  changes_none ks cs (suc zero ∷ p) (NGTrans g f) = nothing_made _ _ (changes_none ks cs p f)
+  changes_none ks cs (suc (suc i) ∷ p) (NGTrans g f) = refl
+  changes_none ks cs (i ∷ p) (NGTc r n gs) = nothing_made _ _ (changes_none_of ks cs i p gs)
+  changes_none ks cs (zero ∷ p) (NGCapp g f) = nothing_made _ _ (changes_none ks cs p g)
+  changes_none ks cs (suc zero ∷ p) (NGCapp g f) = nothing_made _ _ (changes_none ks cs p f)
+  changes_none ks cs (suc (suc i) ∷ p) (NGCapp g f) = refl
+  changes_none ks cs (zero ∷ p) (NGFun g f) = nothing_made _ _ (changes_none ks cs p g)
+  changes_none ks cs (suc zero ∷ p) (NGFun g f) = nothing_made _ _ (changes_none ks cs p f)
+  changes_none ks cs (suc (suc i) ∷ p) (NGFun g f) = refl
+  changes_none ks cs (zero ∷ p) (NGAll k g) = nothing_made _ _ (changes_none _ _ p g)
+  changes_none ks cs (suc i ∷ p) (NGAll k g) = refl
+  changes_none ks cs (zero ∷ p) (NGCoAll r o f g d) = nothing_made _ _ (changes_none ks cs p f)
+  changes_none ks cs (suc zero ∷ p) (NGCoAll r o f g d) = nothing_made _ _ (changes_none ks cs p g)
+  changes_none ks cs (suc (suc zero) ∷ p) (NGCoAll r o f g d) = nothing_made _ _ (changes_none ks cs p d)
+  changes_none ks cs (suc (suc (suc i)) ∷ p) (NGCoAll r o f g d) = refl
+  changes_none ks cs (zero ∷ p) (NGInst g f) = nothing_made _ _ (changes_none ks cs p g)
+  changes_none ks cs (suc zero ∷ p) (NGInst g f) = nothing_made _ _ (changes_none ks cs p f)
+  changes_none ks cs (suc (suc i) ∷ p) (NGInst g f) = refl
+  changes_none ks cs (zero ∷ p) (NGNth n g) = nothing_made _ _ (changes_none ks cs p g)
+  changes_none ks cs (suc i ∷ p) (NGNth n g) = refl
+  changes_none ks cs (zero ∷ p) (NGLeft g) = nothing_made _ _ (changes_none ks cs p g)
+  changes_none ks cs (suc i ∷ p) (NGLeft g) = refl
+  changes_none ks cs (zero ∷ p) (NGRight g) = nothing_made _ _ (changes_none ks cs p g)
+  changes_none ks cs (suc i ∷ p) (NGRight g) = refl
+  changes_none ks cs (zero ∷ p) (NGSub g) = nothing_made _ _ (changes_none ks cs p g)
+  changes_none ks cs (suc i ∷ p) (NGSub g) = refl
+  changes_none ks cs (i ∷ p) (NGAx n gs) = nothing_made _ _ (changes_none_of ks cs i p gs)
+  changes_none ks cs (i ∷ p) (NGUniv t u) = refl
 
-  no_coercions : (ks : List Kind) (cs : List Ends) (i : ℕ) (p : List ℕ) (gs : NCos) → changed_coercions as_they_are ks cs i p gs ≡ None
-  no_coercions ks cs i p NoNCos = refl
-  no_coercions ks cs zero p (MoreNCos g rest) = nothing_made _ _ (no_coercion ks cs p g)
-  no_coercions ks cs (suc i) p (MoreNCos g rest) = nothing_made _ _ (no_coercions ks cs i p rest)
+  changes_none_of : (ks : List Kind) (cs : List Ends) (i : ℕ) (p : List ℕ) (gs : NCos) → changed_coercions as_they_are ks cs i p gs ≡ None
+  changes_none_of ks cs i p NoNCos = refl
+  changes_none_of ks cs zero p (MoreNCos g rest) = nothing_made _ _ (changes_none ks cs p g)
+  changes_none_of ks cs (suc i) p (MoreNCos g rest) = nothing_made _ _ (changes_none_of ks cs i p rest)
 
 -- COUNTS
 
@@ -148,7 +148,7 @@ module _ (row : Surroundings → NExpr → Option NExpr) (by : WExpr) where
         rw (not_zero (suc (suc i)), not_below_three i, less_three i)
         (within bare_alts bare_expr (λ bs. NCase (bare_expr e) (bare_ty t) (bare_ty u) bs) (λ more. ECase e x t u more) (λ y. refl) _ _ _ (made_in_alts s (bare_expr e) (bare_ty t) (listed_heads (bare_alts alts)) i p alts))
     made_at s (zero ∷ p) (ECast e g) = within bare_expr bare_expr _ _ (λ y. refl) _ _ _ (made_at (apart s) p e)
-    made_at s (suc zero ∷ p) (ECast e g) = nowhere (nothing_made _ _ (no_coercion s.context.kinds s.context.coercions p (bare_co g)))
+    made_at s (suc zero ∷ p) (ECast e g) = nowhere (nothing_made _ _ (changes_none s.context.kinds s.context.coercions p (bare_co g)))
     made_at s (suc (suc i) ∷ p) (ECast e g) = nowhere refl
     made_at s (i ∷ p) (ECon n args) = within bare_args bare_expr _ _ (λ y. refl) _ _ _ (made_in_args (apart s) i p args)
     made_at s (i ∷ p) (EPrim op es) = within bare_exprs bare_expr _ _ (λ y. refl) _ _ _ (made_in_exprs (apart s) i p es)
@@ -163,7 +163,7 @@ module _ (row : Surroundings → NExpr → Option NExpr) (by : WExpr) where
     made_in_arg : (s : Surroundings) (p : List ℕ) (a : WArg) → IsMade bare_arg (found_in_arg s p (bare_arg a)) (in_term (exchanged by p) a) (changed_arg row as_they_are s p (bare_arg a))
     made_in_arg s p (ATerm e) = within bare_expr bare_arg _ _ (λ y. refl) _ _ _ (made_at s p e)
     made_in_arg s p (AType t) = nowhere refl
-    made_in_arg s p (ACo g) = nowhere (nothing_made _ _ (no_coercion s.context.kinds s.context.coercions p (bare_co g)))
+    made_in_arg s p (ACo g) = nowhere (nothing_made _ _ (changes_none s.context.kinds s.context.coercions p (bare_co g)))
 
     made_in_args : (s : Surroundings) (i : ℕ) (p : List ℕ) (args : WArgs)
         → IsMade bare_args (found_in_args s i p (bare_args args)) (in_arg i (in_term (exchanged by p)) args) (changed_args row as_they_are s i p (bare_args args))

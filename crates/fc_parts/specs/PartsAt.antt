@@ -1,9 +1,7 @@
--- The part of an expression, and of the definition of a word, at a place, where a row may look. A place is a list of part numbers, from the outermost part inwards;
+-- The part of an expression at a place, where a row may look. A place is a list of part numbers, from the outermost part inwards;
 -- the parts of an expression are counted from 0 in the order of the text.
 use Rattle.std.specs.Prelude.{ℕ, zero, suc, ◌-◌, nat_eq, nat_lt, if◌then◌else◌, List, [], ◌∷◌, length, Option, Some, None}
-use Rattle.std.specs.Str.{bytes_eq}
-use Rattle.fc_syntax.specs.Tree.{Word}
-use Rattle.fc_model.specs.Nameless.{NArg, NATerm, NAType, NACo, NBind, NBound, NJoinBind, NJoined, NAlt, NBranch, NDecl, NData, NNew, NFamily, NAxiom, NDef, NWrap}
+use Rattle.fc_model.specs.Nameless.{NArg, NATerm, NAType, NACo, NBind, NBound, NJoinBind, NJoined, NAlt, NBranch}
 use Rattle.fc_model.specs.Nameless.{NExpr, NLocal, NVar, NLit, NApp, NLam, NLet, NCase, NCast, NCon, NPrim, NFail, NJoin, NJump}
 use Rattle.fc_model.specs.Nameless.{NArgs, NoNArgs, MoreNArgs, NExprs, NoNExprs, MoreNExprs, NBinds, NoNBinds, MoreNBinds, NJoins, NoNJoins, MoreNJoins, NAlts, NoNAlts, MoreNAlts}
 use Rattle.fc_model.specs.Replacing.{bind_count, join_count}
@@ -75,15 +73,3 @@ unfoldable mutual
   pub part_in_alt : List ℕ → NAlt → Option NExpr
   part_in_alt [] a = None
   part_in_alt (i ∷ p) (NBranch h bs e) = if head_binds h bs then (if nat_eq i (length bs) then part_at p e else None) else None
-
--- DEFINITIONS
-
--- the right side of the first definition of a word
-unfoldable pub right_side_of : Word → List NDecl → Option NExpr
-right_side_of w [] = None
-right_side_of w (NDef n t e ∷ ds) = if bytes_eq n w then Some e else right_side_of w ds
-right_side_of w (NWrap n t e ∷ ds) = if bytes_eq n w then Some e else right_side_of w ds
-right_side_of w (NData n ps cs ∷ ds) = right_side_of w ds
-right_side_of w (NNew n ps t con ∷ ds) = right_side_of w ds
-right_side_of w (NFamily n ps k ∷ ds) = right_side_of w ds
-right_side_of w (NAxiom n ps t u ∷ ds) = right_side_of w ds

@@ -11,7 +11,7 @@ use Rattle.fc_model.specs.Nameless.{NDecl, NModule, NModuleOf}
 use Rattle.fc_model.specs.Worded.{WDecl, WModule, bare_decls, bare_module}
 use Rattle.fc_nameless_measures.specs.Depths.{decls_depth}
 use Rattle.fc_rows.specs.ResultLimits.{IsWithinLimits}
-use Rattle.fc_result_limits.proofs.Bare.{decl_depth_bare, decls_size_bare}
+use Rattle.fc_result_limits.proofs.Bare.{decls_same}
 use Rattle.fc_result_limits.proofs.Blank.{blank_decls}
 
 -- TESTS
@@ -23,10 +23,6 @@ told : (x y : ℕ) → x ≤ y → IsTrue (nat_le x y)
 told x y h = grind (arith, nat_tests, h)
 
 -- DEPTHS
-
-decls_depth_bare : (ds : List WDecl) → decls_depth ds ≡ decls_depth (blank_decls (bare_decls ds))
-decls_depth_bare [] = refl
-decls_depth_bare (d ∷ ds) = rw (decl_depth_bare d, decls_depth_bare ds) refl
 
 each_depth : (most : ℕ) (ds : List WDecl) → decls_depth ds ≤ most → All (λ d. depth_of d ≤ most) ds
 each_depth most [] h k e low = absurd (omega (arith, low))
@@ -49,10 +45,10 @@ the_decls (NModuleOf n imports exports hidden ds) = ds
 
 module _ (ds cs : List WDecl) (same : bare_decls ds ≡ bare_decls cs) where
   same_depth : decls_depth ds ≡ decls_depth cs
-  same_depth = decls_depth_bare ds ∙ ap (λ x. decls_depth (blank_decls x)) same ∙ sym (decls_depth_bare cs)
+  same_depth = (decls_same ds).1 ∙ ap (λ x. decls_depth (blank_decls x)) same ∙ sym ((decls_same cs).1)
 
   same_size : decls_size ds ≡ decls_size cs
-  same_size = decls_size_bare ds ∙ ap (λ x. decls_size (blank_decls x)) same ∙ sym (decls_size_bare cs)
+  same_size = (decls_same ds).0 ∙ ap (λ x. decls_size (blank_decls x)) same ∙ sym ((decls_same cs).0)
 
 module _ (n : Word) (imports exports hidden : List Word) (ds : List WDecl) where
   as_measured : IsWithinLimits (bare_module (ModuleOf n imports exports hidden ds)) → (decls_depth ds ≤ standard_limits.depth) × (decls_size ds ≤ standard_limits.result_size)

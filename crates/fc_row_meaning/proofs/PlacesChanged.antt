@@ -1,5 +1,5 @@
 -- A change at a place by a row that is a function is a change at one place by that row as a relation.
-use Rattle.std.proofs.Common.{◌≡◌, ℕ, zero, suc, Bool, true, false, nat_eq, if◌then◌else◌, List, [], ◌∷◌, length, Option, Some, None, refl, sym, ap, ◌∙◌, subst}
+use Rattle.std.proofs.Common.{◌≡◌, ℕ, zero, suc, Bool, true, false, nat_eq, if◌then◌else◌, List, [], ◌∷◌, length, Some, None, refl, sym, ap, ◌∙◌, subst}
 use Rattle.fc_syntax.specs.Tree.{Kind}
 use Rattle.fc_syntax.specs.declared.expr.Head.{Head}
 use Rattle.fc_syntax.specs.declared.expr.Head.TheVariants as head
@@ -7,7 +7,7 @@ use Rattle.fc_model.specs.Calling.{Given, type_count}
 use Rattle.fc_model.specs.Coercing.{Ends}
 use Rattle.fc_model.specs.Erasure.{below_binds}
 use Rattle.fc_model.specs.Kinding.{Modules, HasKind}
-use Rattle.fc_model.specs.Nameless.{NTy, NCo, NGVar, NGRefl, NGSym, NGTrans, NGTc, NGCapp, NGFun, NGAll, NGCoAll, NGInst, NGNth, NGLeft, NGRight, NGSub, NGAx, NGUniv, NCos, NoNCos, MoreNCos}
+use Rattle.fc_model.specs.Nameless.{NTy, NCo}
 use Rattle.fc_model.specs.Nameless.{NBinder, NBValue, NArg, NATerm, NAType, NACo, NBound, NJoined, NAlt, NBranch, NExpr, NLocal, NVar, NLit, NApp, NLam, NLet, NCase, NCast, NCon, NPrim}
 use Rattle.fc_model.specs.Nameless.{NFail, NJoin, NJump, NArgs, NoNArgs, MoreNArgs, NExprs, NoNExprs, MoreNExprs, NBinds, NoNBinds, MoreNBinds, NJoins, NoNJoins, MoreNJoins, NAlts, NoNAlts}
 use Rattle.fc_model.specs.Nameless.{MoreNAlts}
@@ -18,8 +18,8 @@ use Rattle.fc_model.specs.TypingLaws.{AreDeclaredKinded}
 use Rattle.fc_model.specs.TypingRules.{HasType, typed_application, typed_lambda, typed_let, typed_case, typed_cast, typed_con, typed_prim, typed_join, typed_jump, ArgIsGiven, given_term}
 use Rattle.fc_model.specs.TypingRules.{ArgsAreGiven, one_arg, BindsHaveTypes, one_bind, JoinsHaveType, one_join, AltsFit, default_alt, literal_alt, con_alt}
 use Rattle.fc_model.proofs.Sameness.{false_true}
-use Rattle.fc_rows.specs.Changing.{made, changed, changed_alts, changed_arg, changed_args, changed_binds, changed_exprs, changed_joins, in_part}
-use Rattle.fc_rows.specs.ChangingCoercions.{as_they_are, changed_coercion, changed_coercions}
+use Rattle.fc_rows.specs.Changing.{changed, changed_alts, changed_arg, changed_args, changed_binds, changed_exprs, changed_joins, in_part}
+use Rattle.fc_rows.specs.ChangingCoercions.{as_they_are, changed_coercion}
 use Rattle.fc_rows.specs.Surroundings.{Surroundings, apart, at_head as applied_to, behind_binder, behind_binders, behind_binds, behind_joins, head_binds, in_alternative, listed_heads}
 use Rattle.fc_row_types.specs.TypesKept.{Holds, KeepsTypes, SparesAtoms, ExpressionRow}
 use Rattle.fc_row_types.proofs.ChangesKept.{binders_context, binds_kept}
@@ -31,6 +31,7 @@ use Rattle.fc_row_types.proofs.Made.{either_way, if_some_inv, made_inv, none_som
 use Rattle.fc_meaning.proofs.HeldDeclarations.{AreHeld}
 use Rattle.fc_meaning.proofs.ScopesFit.{agrees, fits_binds, fits_values}
 use Rattle.fc_meaning.proofs.WrittenExpressions.{AreAltsWritten, AreArgsWritten, AreBindsWritten, AreJoinsWritten, HasOwnBinders, IsArgWritten, IsWritten}
+use Rattle.fc_parts.proofs.Changes.{changes_none}
 use Rattle.fc_row_places.specs.NamelessChanges.{NPartRelation}
 use Rattle.fc_row_places.specs.NamelessPlaces.{NPlace, NBelow, NBelowAll, NPastLet, NPastGroup, NPastJoin, NPastJoins, NInAlt, scope_at}
 use Rattle.fc_kept_meaning.specs.OnePlace.{AtOnePlace, at_here, at_head, at_argument, at_lambda, at_right, at_body, at_group_right, at_group_body, at_scrutinee, at_alternative, at_cast}
@@ -45,52 +46,9 @@ use Rattle.fc_row_meaning.proofs.ValuesKept.{all_share, all_share_themselves}
 
 -- COERCIONS STAY
 
--- nothing is made of nothing
-no_made : {X Y : Type 0} (f : X → Y) (o : Option X) (y : Y) → made f o ≡ Some y → ((x : X) → o ≡ Some x → ⊥) → ⊥
-no_made f o y h absent = let m = made_inv f o y h in absent m.0 m.1
-
 -- where no coercion is replaced, none is changed
-mutual
-  pub no_coercion : (ks : List Kind) (cs : List Ends) (p : List ℕ) (g h : NCo) → changed_coercion as_they_are ks cs p g ≡ Some h → ⊥
-  no_coercion ks cs [] g h e = none_some e
-  no_coercion ks cs (i ∷ p) (NGVar j) h e = none_some e
-  no_coercion ks cs (i ∷ p) (NGRefl r t) h e = none_some e
-  no_coercion ks cs (zero ∷ p) (NGSym g) h e = no_made _ _ h e (λ x. no_coercion ks cs p g x)
-  no_coercion ks cs (suc i ∷ p) (NGSym g) h e = none_some e
-  no_coercion ks cs (zero ∷ p) (NGTrans g f) h e = no_made _ _ h e (λ x. no_coercion ks cs p g x)
-  no_coercion ks cs (suc zero ∷ p) (NGTrans g f) h e = no_made _ _ h e (λ x. no_coercion ks cs p f x)
-  no_coercion ks cs (suc (suc i) ∷ p) (NGTrans g f) h e = none_some e
-  no_coercion ks cs (i ∷ p) (NGTc r n gs) h e = no_made _ _ h e (λ x. no_coercions ks cs i p gs x)
-  no_coercion ks cs (zero ∷ p) (NGCapp g f) h e = no_made _ _ h e (λ x. no_coercion ks cs p g x)
-  no_coercion ks cs (suc zero ∷ p) (NGCapp g f) h e = no_made _ _ h e (λ x. no_coercion ks cs p f x)
-  no_coercion ks cs (suc (suc i) ∷ p) (NGCapp g f) h e = none_some e
-  no_coercion ks cs (zero ∷ p) (NGFun g f) h e = no_made _ _ h e (λ x. no_coercion ks cs p g x)
-  no_coercion ks cs (suc zero ∷ p) (NGFun g f) h e = no_made _ _ h e (λ x. no_coercion ks cs p f x)
-  no_coercion ks cs (suc (suc i) ∷ p) (NGFun g f) h e = none_some e
-  no_coercion ks cs (zero ∷ p) (NGAll k g) h e = no_made _ _ h e (λ x. no_coercion _ _ p g x)
-  no_coercion ks cs (suc i ∷ p) (NGAll k g) h e = none_some e
-  no_coercion ks cs (zero ∷ p) (NGCoAll r o f g d) h e = no_made _ _ h e (λ x. no_coercion ks cs p f x)
-  no_coercion ks cs (suc zero ∷ p) (NGCoAll r o f g d) h e = no_made _ _ h e (λ x. no_coercion ks cs p g x)
-  no_coercion ks cs (suc (suc zero) ∷ p) (NGCoAll r o f g d) h e = no_made _ _ h e (λ x. no_coercion ks cs p d x)
-  no_coercion ks cs (suc (suc (suc i)) ∷ p) (NGCoAll r o f g d) h e = none_some e
-  no_coercion ks cs (zero ∷ p) (NGInst g f) h e = no_made _ _ h e (λ x. no_coercion ks cs p g x)
-  no_coercion ks cs (suc zero ∷ p) (NGInst g f) h e = no_made _ _ h e (λ x. no_coercion ks cs p f x)
-  no_coercion ks cs (suc (suc i) ∷ p) (NGInst g f) h e = none_some e
-  no_coercion ks cs (zero ∷ p) (NGNth n g) h e = no_made _ _ h e (λ x. no_coercion ks cs p g x)
-  no_coercion ks cs (suc i ∷ p) (NGNth n g) h e = none_some e
-  no_coercion ks cs (zero ∷ p) (NGLeft g) h e = no_made _ _ h e (λ x. no_coercion ks cs p g x)
-  no_coercion ks cs (suc i ∷ p) (NGLeft g) h e = none_some e
-  no_coercion ks cs (zero ∷ p) (NGRight g) h e = no_made _ _ h e (λ x. no_coercion ks cs p g x)
-  no_coercion ks cs (suc i ∷ p) (NGRight g) h e = none_some e
-  no_coercion ks cs (zero ∷ p) (NGSub g) h e = no_made _ _ h e (λ x. no_coercion ks cs p g x)
-  no_coercion ks cs (suc i ∷ p) (NGSub g) h e = none_some e
-  no_coercion ks cs (i ∷ p) (NGAx n gs) h e = no_made _ _ h e (λ x. no_coercions ks cs i p gs x)
-  no_coercion ks cs (i ∷ p) (NGUniv t u) h e = none_some e
-
-  no_coercions : (ks : List Kind) (cs : List Ends) (i : ℕ) (p : List ℕ) (gs hs : NCos) → changed_coercions as_they_are ks cs i p gs ≡ Some hs → ⊥
-  no_coercions ks cs i p NoNCos hs e = none_some e
-  no_coercions ks cs zero p (MoreNCos g rest) hs e = no_made _ _ hs e (λ x. no_coercion ks cs p g x)
-  no_coercions ks cs (suc i) p (MoreNCos g rest) hs e = no_made _ _ hs e (λ x. no_coercions ks cs i p rest x)
+pub no_coercion : (ks : List Kind) (cs : List Ends) (p : List ℕ) (g h : NCo) → changed_coercion as_they_are ks cs p g ≡ Some h → ⊥
+no_coercion ks cs p g h changes = none_some (sym (changes_none ks cs p g) ∙ changes)
 
 -- ALTERNATIVES
 

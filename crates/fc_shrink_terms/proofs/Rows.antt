@@ -73,9 +73,6 @@ let_once_is e t a b u d is lifted found =
 
 -- A CASE IN THE DEFAULT
 
-pub same_case : {s p : NExpr} {t v u w : NTy} {alts rest : NAlts} → s ≡ p → t ≡ v → u ≡ w → alts ≡ rest → NCase s t u alts ≡ NCase p v w rest
-same_case h k l m = λ j. NCase (h j) (k j) (l j) (m j)
-
 pub case_merge_is : (e s : NExpr) (t u : NTy) (outer : NAlts) (b i : NExpr) (v w : NTy) (inner : NAlts) → e ≡ NCase s t u outer → outer ≡ MoreNAlts (NBranch head.Default [] b) NoNAlts
     → b ≡ NCase i v w inner → i ≡ NLocal 0 → case_merge e ≡ Some (NCase s t u (put_in_alts expressions whole_coercions (value_alone (NLocal 0)) inner))
 case_merge_is e s t u outer b i v w inner is alone within innermost =

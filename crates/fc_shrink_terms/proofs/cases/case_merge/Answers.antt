@@ -1,8 +1,8 @@
 use Rattle.std.proofs.Common.{Some, sym, ap, ◌∙◌}
 use Rattle.fc_syntax.specs.View.{expr_of}
 use Rattle.fc_model.specs.Worded.{bare_expr, bare_ty}
-use Rattle.fc_forms.proofs.Parts.{case_form, default_form}
-use Rattle.fc_shrink_terms.proofs.Rows.{case_merge_is, same_case}
+use Rattle.fc_forms.proofs.Parts.{case_form, default_form, same_case}
+use Rattle.fc_shrink_terms.proofs.Rows.{case_merge_is}
 use Rattle.fc_shrink_terms.proofs.cases.case_merge.Goals as goal
 
 pub returns : goal.returns

@@ -1,0 +1,4 @@
+pub mod Around
+pub mod Counts
+pub mod Told
+pub mod Unlifted
