@@ -15,7 +15,7 @@ use Rattle.fc_subst.specs.declared.shift.Shift.{Shift}
 use Rattle.fc_known.specs.Counts.{counts}
 use Rattle.fc_known.specs.Around.{behind_alternative}
 use Rattle.fc_known.specs.Told.{is_it, is_named, known_there}
-use Rattle.fc_known.specs.declared.facts.Looked.{Looked}
+use Rattle.fc_known.specs.declared.around.Branch.{Branch}
 use Rattle.fc_numbers.proofs.Counted.{binds_counted, joins_counted}
 use Rattle.std.proofs.lemmas.Bool.{cases_lt}
 use Rattle.fc_known.proofs.Moved.{joins_alone, moved_by, moved_none, none, past_joins_alone, past_values_alone, values_alone}
@@ -205,10 +205,10 @@ with_case_binder own t bs v is more =
     ap (λ p. one_more p v) is ∙ ap (one_more (counts bs)) many
 
 -- what code tests
-pub tested_at : (l : Looked) (d v : ℕ) (b : Bool) → v ≡ l.own.values + 1 → b ≡ (nat_eq d l.own.values || is_it (nexpr_of l.scrutinee.now) v d) → (nat_eq d l.own.values || is_it (nexpr_of l.scrutinee.now) (l.own.values + 1) d) ≡ b
+pub tested_at : (l : Branch) (d v : ℕ) (b : Bool) → v ≡ l.own.values + 1 → b ≡ (nat_eq d l.own.values || is_it (nexpr_of l.scrutinee.now) v d) → (nat_eq d l.own.values || is_it (nexpr_of l.scrutinee.now) (l.own.values + 1) d) ≡ b
 tested_at l d v b more test = sym (test ∙ ap (λ m. nat_eq d l.own.values || is_it (nexpr_of l.scrutinee.now) m d) more)
 
-module _ (l : Looked) (s : Surroundings) (counted : l.own ≡ counts (nbinders_of l.alternative.now.binders)) where
+module _ (l : Branch) (s : Surroundings) (counted : l.own ≡ counts (nbinders_of l.alternative.now.binders)) where
   abbrev own_binders : List NBinder
   own_binders = nbinders_of l.alternative.now.binders
 

@@ -1,3 +1,2 @@
 mod Moved
-mod UnliftedPast
 mod Behind

@@ -1,7 +1,9 @@
 -- What is known past some binders and then past others.
-use Rattle.std.proofs.Common.{◌≡◌, ℕ, refl, sym, ap, ◌∙◌, arith}
+use Rattle.std.proofs.Common.{◌≡◌, ◌+◌, ℕ, refl, sym, ap, ◌∙◌, arith}
+use Rattle.std.proofs.Math.Path.{fun_ext}
 use Rattle.fc_model.specs.Nameless.{NTVar, NGVar, NLocal, NExpr}
 use Rattle.fc_model.specs.Replacing.{Renaming, Substitution, renamed, unchanged}
+use Rattle.fc_model.proofs.RenamedItself.{each, itself, renaming}
 use Rattle.fc_rows.specs.Surroundings.{Known, Unknown, Is, IsNot, moved_known, past_joins, past_values}
 use Rattle.fc_subst.specs.Replacements.{renaming_of}
 use Rattle.fc_subst.specs.declared.shift.Shift.{Shift}
@@ -26,40 +28,14 @@ moved_twice p q = moved_by (renaming_of p) (renaming_of q) (renaming_of (togethe
 abbrev pub none : Shift
 none = record { types = 0; coercions = 0; values = 0; joins = 0 }
 
+-- with none of what is past
+none_past : (λ i. i + 0) ≡ each
+none_past = fun_ext (λ i. let h : i + 0 ≡ i = omega arith in h)
+
 pub moved_none : (k : Known) → k ≡ moved_known (renaming_of none) k
 moved_none Unknown = refl
-moved_none (Is e) = ap Is (sym (renaming_is_put (renaming_of none) unchanged (record {
-  types = λ i. ap NTVar (omega arith);
-  coercions = λ i. ap NGVar (omega arith);
-  values = λ i. ap NLocal (omega arith);
-  joins = λ i. omega arith;
-}) e ∙ unchanged_itself e))
+moved_none (Is e) = ap Is (sym (ap (λ f. renamed (renaming (λ i. NTVar (f i)) f f f) e) none_past ∙ itself e))
 moved_none (IsNot hs) = refl
-
--- renamings that agree
-pub record Agree (r s : Renaming) : Type 0 where
-  pub types : (i : ℕ) → r.types i ≡ s.types i
-  pub coercions : (i : ℕ) → r.coercions i ≡ s.coercions i
-  pub values : (i : ℕ) → r.values i ≡ s.values i
-  pub joins : (i : ℕ) → r.joins i ≡ s.joins i
-
-abbrev as_put : Renaming → Substitution
-as_put s = record { types = s.types; coercions = λ i. NGVar (s.coercions i); values = λ i. NLocal (s.values i); joins = s.joins }
-
-renamed_alike : (r s : Renaming) → Agree r s → (e : NExpr) → renamed r e ≡ renamed s e
-renamed_alike r s alike e =
-    renaming_is_put r (as_put s) (record {
-      types = λ i. sym (alike.types i);
-      coercions = λ i. ap NGVar (sym (alike.coercions i));
-      values = λ i. ap NLocal (sym (alike.values i));
-      joins = λ i. sym (alike.joins i);
-    }) e
-    ∙ sym (renaming_is_put s (as_put s) (record { types = λ i. refl; coercions = λ i. refl; values = λ i. refl; joins = λ i. refl }) e)
-
-moved_alike : (r s : Renaming) → Agree r s → (k : Known) → moved_known r k ≡ moved_known s k
-moved_alike r s alike Unknown = refl
-moved_alike r s alike (Is e) = ap Is (renamed_alike r s alike e)
-moved_alike r s alike (IsNot hs) = refl
 
 -- so many values, and join points
 abbrev pub values_alone : ℕ → Shift
@@ -69,17 +45,7 @@ abbrev pub joins_alone : ℕ → Shift
 joins_alone m = record { types = 0; coercions = 0; values = 0; joins = m }
 
 pub past_values_alone : (m : ℕ) (k : Known) → moved_known (renaming_of (values_alone m)) k ≡ moved_known (past_values m) k
-past_values_alone m = moved_alike (renaming_of (values_alone m)) (past_values m) (record {
-  types = λ i. ap NTVar (omega arith);
-  coercions = λ i. omega arith;
-  values = λ i. refl;
-  joins = λ i. omega arith;
-})
+past_values_alone m k = ap (λ f. moved_known (renaming (λ i. NTVar (f i)) f (λ i. i + m) f) k) none_past
 
 pub past_joins_alone : (m : ℕ) (k : Known) → moved_known (renaming_of (joins_alone m)) k ≡ moved_known (past_joins m) k
-past_joins_alone m = moved_alike (renaming_of (joins_alone m)) (past_joins m) (record {
-  types = λ i. ap NTVar (omega arith);
-  coercions = λ i. omega arith;
-  values = λ i. omega arith;
-  joins = λ i. refl;
-})
+past_joins_alone m k = ap (λ f. moved_known (renaming (λ i. NTVar (f i)) f f (λ i. i + m)) k) none_past

@@ -5,11 +5,11 @@ use Rattle.fc_model.specs.Nameless.{NoNArgs}
 use Rattle.fc_model.specs.NamelessView.{nalts_of, narg_of, nbinders_of, nbinds_of, nexpr_of, njoins_of, nty_of}
 use Rattle.fc_rows.specs.Surroundings.{Surroundings, apart, at_head, behind_binders, behind_binds, behind_joins, in_alternative, listed_heads, outside}
 use Rattle.fc_known.specs.Counts.{counts}
-use Rattle.fc_known.specs.declared.facts.Facts.{Facts, Outside, Binders', Group', Joins', Alternative', Apart', Head', Unapplied'}
-use Rattle.fc_known.specs.declared.facts.Looked.{Looked}
+use Rattle.fc_known.specs.declared.around.Around.{Around, Outside, Binders', Group', Joins', Alternative', Apart', Head', Unapplied'}
+use Rattle.fc_known.specs.declared.around.Branch.{Branch}
 
 -- behind an alternative
-abbrev pub behind_alternative : Looked → Surroundings → Surroundings
+abbrev pub behind_alternative : Branch → Surroundings → Surroundings
 behind_alternative l s = in_alternative (nexpr_of l.scrutinee.now) (nty_of l.ty.now) (listed_heads (nalts_of l.alternatives.now)) l.alternative.now.head (nbinders_of l.alternative.now.binders) s
 
 -- where nothing is applied
@@ -17,7 +17,7 @@ abbrev pub unapplied : Surroundings → Surroundings
 unapplied s = record s { arguments = NoNArgs }
 
 -- in a definition against what modules declare
-abbrev pub surroundings_of : Modules → Facts → Surroundings
+abbrev pub surroundings_of : Modules → Around → Surroundings
 surroundings_of ms Outside = outside ms
 surroundings_of ms (Binders' bs own p f) = behind_binders (nbinders_of bs.now) (surroundings_of ms f)
 surroundings_of ms (Group' r bs p f) = behind_binds r (nbinds_of bs.now) (surroundings_of ms f)
@@ -28,7 +28,7 @@ surroundings_of ms (Head' a p f) = at_head (narg_of a.now) (surroundings_of ms f
 surroundings_of ms (Unapplied' p f) = unapplied (surroundings_of ms f)
 
 -- the numbers of binders are right
-abbrev pub HasCounts : Facts → Type 0
+abbrev pub HasCounts : Around → Type 0
 HasCounts Outside = ⊤
 HasCounts (Binders' bs own p f) = (own ≡ counts (nbinders_of bs.now)) × HasCounts f
 HasCounts (Group' r bs p f) = HasCounts f

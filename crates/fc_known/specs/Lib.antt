@@ -1,4 +1,3 @@
 pub mod Around
 pub mod Counts
 pub mod Told
-pub mod Unlifted

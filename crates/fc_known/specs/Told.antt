@@ -6,12 +6,12 @@ use Rattle.fc_model.specs.Nameless.{NExpr, NLocal, NVar}
 use Rattle.fc_model.specs.NamelessView.{nalts_of, nbinders_of, nexpr_of, nty_of}
 use Rattle.fc_rows.specs.Surroundings.{Known, Unknown, known_in_alternative, known_of, listed_heads, moved_known}
 use Rattle.fc_subst.specs.Replacements.{renaming_of}
-use Rattle.fc_known.specs.declared.facts.Looked.{Looked}
+use Rattle.fc_known.specs.declared.around.Branch.{Branch}
 use Rattle.fc_known.specs.declared.knowing.Fact.{Fact}
 use Rattle.fc_known.specs.declared.knowing.Fact.TheVariants as fact
 
 -- what the scrutinee is in an alternative
-abbrev pub known_there : Looked → Known
+abbrev pub known_there : Branch → Known
 known_there l = known_in_alternative (nty_of l.ty.now) (listed_heads (nalts_of l.alternatives.now)) l.alternative.now.head (nbinders_of l.alternative.now.binders)
 
 abbrev pub told : Fact → Known

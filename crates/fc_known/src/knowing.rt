@@ -9,8 +9,8 @@ ghost use Rattle.fc_known.specs.Around.{HasCounts, behind_alternative, surroundi
 ghost use Rattle.fc_known.specs.Counts.{counts};
 ghost use Rattle.fc_known.specs.Told.{is_it, is_named, right_side, told};
 
+use crate::around::{Around, Branch};
 use crate::counts::both;
-use crate::facts::{Facts, Looked};
 use fc_numbers::{number, sum};
 use fc_subst::{NO_BINDERS, Shift};
 use fc_syntax::{Memory, NBind, NExpr, Name, Ref};
@@ -24,7 +24,7 @@ pub enum Fact<'x> {
     /// It is bound to this expression, so many binders further out. Where that is no value, nothing is known.
     Bound(&'x NExpr, Shift),
     /// It is looked at by a case, of which this is the alternative, so many binders further out.
-    Found(Looked<'x>, Shift),
+    Found(Branch<'x>, Shift),
 }
 
 impl<'x> Fact<'x> {
@@ -35,7 +35,7 @@ impl<'x> Fact<'x> {
         match self {
             Fact::Nothing => Ok(Fact::Nothing),
             Fact::Bound(e, own) => Ok(Fact::Bound(e, both(own, by)?)),
-            Fact::Found(looked, own) => Ok(Fact::Found(looked, both(own, by)?)),
+            Fact::Found(branch, own) => Ok(Fact::Found(branch, both(own, by)?)),
         }
     }
 }
@@ -80,20 +80,20 @@ fn is_variable(e: &NExpr, out: u32, distance: u32) -> bool
 
 /// What is known of the variable of a value at a distance. Fails only where a number of binders has no 32 bits; this is answered as out of memory.
 #[cycle(knowing)]
-pub fn known<'x>(facts: &'x Facts<'x>, distance: u32) -> Result<Fact<'x>, Memory>
-    requires { HasCounts facts.now }
-    ensures { (ms : Modules) → IfOk result (λ f. told f ≡ (surroundings_of ms facts.now).locals distance) }
+pub fn known<'x>(around: &'x Around<'x>, distance: u32) -> Result<Fact<'x>, Memory>
+    requires { HasCounts around.now }
+    ensures { (ms : Modules) → IfOk result (λ f. told f ≡ (surroundings_of ms around.now).locals distance) }
 {
-    match facts {
-        Facts::Outside => Ok(Fact::Nothing),
-        Facts::Binders(_, own, outer) => {
+    match around {
+        Around::Outside => Ok(Fact::Nothing),
+        Around::Binders(_, own, outer) => {
             if distance < own.values {
                 Ok(Fact::Nothing)
             } else {
                 known(outer, distance - own.values)?.past(*own)
             }
         }
-        Facts::Group(recursive, bindings, outer) => {
+        Around::Group(recursive, bindings, outer) => {
             let count = number(bindings.len())?;
             if distance < count {
                 Ok(known_among(*recursive, bindings, count, distance))
@@ -101,47 +101,47 @@ pub fn known<'x>(facts: &'x Facts<'x>, distance: u32) -> Result<Fact<'x>, Memory
                 known(outer, distance - count)?.past(values(count))
             }
         }
-        Facts::Joins(_, _, points, outer) => {
+        Around::Joins(_, _, points, outer) => {
             let joins = number(points.len())?;
             known(outer, distance)?.past(Shift {
                 joins,
                 ..NO_BINDERS
             })
         }
-        Facts::Alternative(looked, outer) => known_inside(looked, outer, distance),
-        Facts::Apart(outer) => known(outer, distance),
-        Facts::Head(_, outer) => known(outer, distance),
-        Facts::Unapplied(outer) => known(outer, distance),
+        Around::Alternative(branch, outer) => known_inside(branch, outer, distance),
+        Around::Apart(outer) => known(outer, distance),
+        Around::Head(_, outer) => known(outer, distance),
+        Around::Unapplied(outer) => known(outer, distance),
     }
 }
 
 /// Whether the variable at a distance is the binder of a case or what the case looks at, from so many values further out.
-fn is_looked_at(looked: &Looked, out: u32, distance: u32) -> bool
-    ensures { result ≡ (nat_eq distance looked.now.own.values || is_it (nexpr_of looked.now.scrutinee.now) out distance) }
+fn is_looked_at(branch: &Branch, out: u32, distance: u32) -> bool
+    ensures { result ≡ (nat_eq distance branch.now.own.values || is_it (nexpr_of branch.now.scrutinee.now) out distance) }
 {
-    distance == looked.own.values || is_variable(looked.scrutinee, out, distance)
+    distance == branch.own.values || is_variable(branch.scrutinee, out, distance)
 }
 
 /// What is known of it in an alternative, of which its case binder and the variable that the case looks at are what it is for.
 #[cycle(knowing)]
 fn known_inside<'x>(
-    looked: &'x Looked<'x>,
-    outer: &'x Facts<'x>,
+    branch: &'x Branch<'x>,
+    outer: &'x Around<'x>,
     distance: u32,
 ) -> Result<Fact<'x>, Memory>
-    requires own { looked.now.own ≡ counts (nbinders_of looked.now.alternative.now.binders) }
+    requires own { branch.now.own ≡ counts (nbinders_of branch.now.alternative.now.binders) }
     requires outer { HasCounts outer.now }
-    ensures { (ms : Modules) → IfOk result (λ f. told f ≡ (behind_alternative looked.now (surroundings_of ms outer.now)).locals distance) }
+    ensures { (ms : Modules) → IfOk result (λ f. told f ≡ (behind_alternative branch.now (surroundings_of ms outer.now)).locals distance) }
 {
-    let values = sum(looked.own.values, 1)?;
-    if is_looked_at(looked, values, distance) {
-        Ok(Fact::Found(*looked, NO_BINDERS))
+    let values = sum(branch.own.values, 1)?;
+    if is_looked_at(branch, values, distance) {
+        Ok(Fact::Found(*branch, NO_BINDERS))
     } else if distance < values {
         Ok(Fact::Nothing)
     } else {
         known(outer, distance - values)?.past(Shift {
             values,
-            ..looked.own
+            ..branch.own
         })
     }
 }
@@ -160,42 +160,42 @@ fn is_name(e: &NExpr, name: &Name) -> bool
 /// What is known of a top-level name, whose definition has this right side where it has one that is told: what an alternative is for tells more than that. Fails only
 /// where a number of binders has no 32 bits; this is answered as out of memory.
 pub fn known_name<'x>(
-    facts: &'x Facts<'x>,
+    around: &'x Around<'x>,
     name: &Name,
     definition: Option<&'x NExpr>,
 ) -> Result<Fact<'x>, Memory>
-    requires { HasCounts facts.now }
-    ensures { (ms : Modules) → right_side (option_map (λ e. nexpr_of e.now) definition.entry) ≡ known_definition (ms name.now.module) name.now.text → IfOk result (λ f. told f ≡ (surroundings_of ms facts.now).names name.now) }
+    requires { HasCounts around.now }
+    ensures { (ms : Modules) → right_side (option_map (λ e. nexpr_of e.now) definition.entry) ≡ known_definition (ms name.now.module) name.now.text → IfOk result (λ f. told f ≡ (surroundings_of ms around.now).names name.now) }
 {
-    match facts {
-        Facts::Outside => match definition {
+    match around {
+        Around::Outside => match definition {
             None => Ok(Fact::Nothing),
             Some(e) => Ok(Fact::Bound(e, NO_BINDERS)),
         },
-        Facts::Binders(_, own, outer) => known_name(outer, name, definition)?.past(*own),
-        Facts::Group(_, bindings, outer) => {
+        Around::Binders(_, own, outer) => known_name(outer, name, definition)?.past(*own),
+        Around::Group(_, bindings, outer) => {
             let count = number(bindings.len())?;
             known_name(outer, name, definition)?.past(values(count))
         }
-        Facts::Joins(_, _, points, outer) => {
+        Around::Joins(_, _, points, outer) => {
             let joins = number(points.len())?;
             known_name(outer, name, definition)?.past(Shift {
                 joins,
                 ..NO_BINDERS
             })
         }
-        Facts::Alternative(looked, outer) => {
-            if is_name(looked.scrutinee, name) {
-                return Ok(Fact::Found(*looked, NO_BINDERS));
+        Around::Alternative(branch, outer) => {
+            if is_name(branch.scrutinee, name) {
+                return Ok(Fact::Found(*branch, NO_BINDERS));
             }
-            let values = sum(looked.own.values, 1)?;
+            let values = sum(branch.own.values, 1)?;
             known_name(outer, name, definition)?.past(Shift {
                 values,
-                ..looked.own
+                ..branch.own
             })
         }
-        Facts::Apart(outer) => known_name(outer, name, definition),
-        Facts::Head(_, outer) => known_name(outer, name, definition),
-        Facts::Unapplied(outer) => known_name(outer, name, definition),
+        Around::Apart(outer) => known_name(outer, name, definition),
+        Around::Head(_, outer) => known_name(outer, name, definition),
+        Around::Unapplied(outer) => known_name(outer, name, definition),
     }
 }

@@ -1,13 +1,14 @@
--- The first number is the nodes, and a row that makes no nodes more does not raise it.
-use Rattle.std.proofs.Common.{◌≡◌, ◌≤◌, ◌+◌, false, refl, arith}
+-- The first number is the nodes.
+use Rattle.std.proofs.Common.{◌≡◌, ◌≤◌, ◌+◌, false, List, [], ◌∷◌, refl, arith}
 use Rattle.fc_model.specs.Nameless.{NATerm, NAType, NACo, NBound, NBValue, NBType, NBCo, NJoined, NBranch}
 use Rattle.fc_model.specs.Nameless.{NExpr, NLocal, NVar, NLit, NApp, NLam, NLet, NCase, NCast, NCon, NPrim, NFail, NJoin, NJump}
 use Rattle.fc_model.specs.Nameless.{NArgs, NoNArgs, MoreNArgs, NExprs, NoNExprs, MoreNExprs, NBinds, NoNBinds, MoreNBinds, NJoins, NoNJoins, MoreNJoins, NAlts, NoNAlts, MoreNAlts}
+use Rattle.fc_model.specs.Nameless.{NDecl, NData, NNew, NFamily, NAxiom, NDef, NWrap, NModule, NModuleOf}
 use Rattle.fc_rows.specs.Shrinking.{is_trivial}
-use Rattle.fc_row_nodes.specs.Nodes.{alts_nodes, args_nodes, binds_nodes, exprs_nodes, fields_nodes, joins_nodes, nodes}
+use Rattle.fc_row_nodes.specs.Nodes.{alts_nodes, args_nodes, binds_nodes, decls_nodes, exprs_nodes, fields_nodes, joins_nodes, module_nodes, nodes}
 use Rattle.fc_row_nodes.proofs.Within.{IsWithin, field_at_most, field_plain}
 use Rattle.fc_row_ends.proofs.Drops.{Drops}
-use Rattle.fc_row_ends.proofs.Numbers.{Nodes, Level, count, in_alts, in_args, in_binds, in_exprs, in_fields, in_joins}
+use Rattle.fc_row_ends.proofs.Numbers.{Nodes, Level, count, in_alts, in_args, in_binds, in_decls, in_exprs, in_fields, in_joins, in_module}
 
 mutual
   pub nodes_counted : (l : Level Nodes) (e : NExpr) → count Nodes l e ≡ nodes e
@@ -39,7 +40,7 @@ mutual
   args_counted l (MoreNArgs (NAType t) rest) = omega (arith, args_counted l rest)
   args_counted l (MoreNArgs (NACo g) rest) = omega (arith, args_counted l rest)
 
-  fields_counted : (l : Level Nodes) (args : NArgs) → in_fields Nodes l args ≡ fields_nodes args
+  pub fields_counted : (l : Level Nodes) (args : NArgs) → in_fields Nodes l args ≡ fields_nodes args
   fields_counted l NoNArgs = refl
   fields_counted l (MoreNArgs (NATerm e) rest) = omega (arith, nodes_counted l e, fields_counted l rest)
   fields_counted l (MoreNArgs (NAType t) rest) = omega (arith, fields_counted l rest)
@@ -70,3 +71,17 @@ nodes_fall e f plain less = record {
   whole = λ l. omega (arith, less, nodes_counted l e, nodes_counted l f);
   field = λ l. omega (arith, less, field_plain e plain, field_at_most f, nodes_counted l e, nodes_counted l f);
 }
+
+-- MODULES
+
+decls_counted : (ds : List NDecl) → in_decls Nodes ds ≡ decls_nodes ds
+decls_counted [] = refl
+decls_counted (NData x ps cs ∷ ds) = omega (arith, decls_counted ds)
+decls_counted (NNew x ps t con ∷ ds) = omega (arith, decls_counted ds)
+decls_counted (NFamily x ps k ∷ ds) = omega (arith, decls_counted ds)
+decls_counted (NAxiom x ps t u ∷ ds) = omega (arith, decls_counted ds)
+decls_counted (NDef x t e ∷ ds) = omega (arith, nodes_counted tt e, decls_counted ds)
+decls_counted (NWrap x t e ∷ ds) = omega (arith, nodes_counted tt e, decls_counted ds)
+
+pub module_counted : (m : NModule) → in_module Nodes m ≡ module_nodes m
+module_counted (NModuleOf x imports exports hidden ds) = decls_counted ds

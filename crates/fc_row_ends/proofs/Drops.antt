@@ -1,9 +1,10 @@
 -- By how much the numbers of one expression are lower than those of another, alone and as an argument of a constructor, and that what is made of something falls.
 use Rattle.std.proofs.Common.{◌≡◌, ◌≤◌, ◌+◌, ℕ, Bool, true, false, arith, refl}
 use Rattle.fc_model.specs.Nameless.{NArg, NATerm, NAType, NACo, NCo, NExpr, NApp, NCast}
+use Rattle.fc_model.specs.Typing.{is_atom}
 use Rattle.fc_rows.specs.Shrinking.{is_trivial}
 use Rattle.fc_row_nodes.specs.Nodes.{field_extra}
-use Rattle.fc_row_ends.proofs.Numbers.{Number, Nodes, Forms, Fields, Lets, Around, Casts, Level, further, count, as_field, extra, is_atom, plain_extra}
+use Rattle.fc_row_ends.proofs.Numbers.{Number, Nodes, Forms, Fields, Lets, Around, Casts, Level, further, count, as_field, extra, plain_extra}
 
 -- EXTRAS
 

@@ -18,8 +18,10 @@ use Rattle.fc_rows.specs.Rewriting.{changed_decls, changed_module, changed_right
 use Rattle.fc_rows.specs.Surroundings.{Surroundings, outside}
 use Rattle.fc_row_nodes.proofs.Made.{either_way, made_inv, none_some}
 use Rattle.fc_row_ends.specs.Ending.{NoEndlessSteps}
+use Rattle.fc_row_ends.specs.Growth.{RowsRaiseNoNodes}
 use Rattle.fc_row_ends.proofs.AtPlaces.{Lifts, change_lifts, lifts_on}
 use Rattle.fc_row_ends.proofs.CaseRows.{case_evaluated_falls, case_known_falls}
+use Rattle.fc_row_ends.proofs.Counted.{module_counted}
 use Rattle.fc_row_ends.proofs.Descents.{Before, Never, all_before, all_never, no_descent}
 use Rattle.fc_row_ends.proofs.Drops.{Drops, Falls, by_around, by_casts, by_fields, by_forms, by_lets, by_nodes, falls_too}
 use Rattle.fc_row_ends.proofs.LetRows.{app_of_let_falls, case_of_let_falls, cast_of_let_falls, let_dead_falls, let_of_let_falls, let_once_falls, name_field_falls}
@@ -148,6 +150,18 @@ step_falls xs s m k shrinks (at_a_place r w p h limits) =
     let q = from_some_inv (λ q. changed_module (row_result (decls_at (m ∷ xs)) r q.1) as_they_are xs w q.0 m) (looked_at r p) k h in
     change_falls (row_result (decls_at (m ∷ xs)) r q.0.1) (row_falls (decls_at (m ∷ xs)) r q.0.1 shrinks) xs w q.0.0 m k q.2
 step_falls xs s m k shrinks (of_the_module drops) = by_nodes (omega (arith, ap (in_module Nodes) drops.left, needed_falls drops.keep m drops.some))
+
+-- the first number at least does not rise
+nodes_among : {V : Number → ℕ → Type 0} → Falls V → (c : ℕ) × V Nodes c
+nodes_among (by_nodes a) = (1, a)
+nodes_among (by_forms a b) = (0, a)
+nodes_among (by_fields a b c) = (0, a)
+nodes_among (by_lets a b c d) = (0, a)
+nodes_among (by_around a b c d e) = (0, a)
+nodes_among (by_casts a b c d e f) = (0, a)
+
+pub rows_raise_no_nodes : RowsRaiseNoNodes
+rows_raise_no_nodes xs s m k shrinks h = let v = nodes_among (step_falls xs s m k shrinks h) in omega (arith, v.1, module_counted m, module_counted k)
 
 -- the six numbers
 abbrev numbers : NModule → ℕ × (ℕ × (ℕ × (ℕ × (ℕ × (ℕ × Unit {0})))))

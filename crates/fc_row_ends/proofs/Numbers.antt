@@ -6,6 +6,7 @@ use Rattle.fc_model.specs.Nameless.{NBinder, NBValue, NBType, NBCo, NArg, NATerm
 use Rattle.fc_model.specs.Nameless.{NExpr, NLocal, NVar, NLit, NApp, NLam, NLet, NCase, NCast, NCon, NPrim, NFail, NJoin, NJump}
 use Rattle.fc_model.specs.Nameless.{NArgs, NoNArgs, MoreNArgs, NExprs, NoNExprs, MoreNExprs, NBinds, NoNBinds, MoreNBinds, NJoins, NoNJoins, MoreNJoins, NAlts, NoNAlts, MoreNAlts}
 use Rattle.fc_model.specs.Nameless.{NDecl, NData, NNew, NFamily, NAxiom, NDef, NWrap, NModule, NModuleOf}
+use Rattle.fc_model.specs.Typing.{is_atom}
 use Rattle.fc_rows.specs.Shrinking.{is_trivial}
 use Rattle.fc_row_nodes.specs.Nodes.{alternative_count, counted_binders, field_extra}
 
@@ -48,12 +49,6 @@ of_cast Casts = 1
 of_cast n = 0
 
 -- what is no variable and no literal, as an argument of a constructor
-abbrev pub is_atom : NExpr → Bool
-is_atom (NLocal i) = true
-is_atom (NVar x) = true
-is_atom (NLit z) = true
-is_atom e = false
-
 abbrev pub plain_extra : Bool → ℕ
 plain_extra true = 0
 plain_extra false = 1

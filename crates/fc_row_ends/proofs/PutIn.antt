@@ -5,6 +5,7 @@ use Rattle.fc_model.specs.Nameless.{NExpr, NLocal, NVar, NLit, NApp, NLam, NLet,
 use Rattle.fc_model.specs.Nameless.{NArgs, NoNArgs, MoreNArgs, NExprs, NoNExprs, MoreNExprs, NBinds, NoNBinds, MoreNBinds, NJoins, NoNJoins, MoreNJoins, NAlts, NoNAlts, MoreNAlts}
 use Rattle.fc_model.specs.Replacing.{Replacement, Standing, StandingCoercion, below_binder, below_binders, below_joins, below_values, bind_count, join_count, replaced_binder, times}
 use Rattle.fc_model.specs.Replacing.{put_in, put_in_alts, put_in_args, put_in_binds, put_in_exprs, put_in_joins, values_behind, values_behind_all, values_below}
+use Rattle.fc_model.specs.Typing.{is_atom}
 use Rattle.fc_rows.specs.Occurrences.{Sought, behind, behind_all, behind_joins, behind_values, dead_before, inside, is_local, occurrences}
 use Rattle.fc_rows.specs.Occurrences as occ
 use Rattle.fc_rows.specs.Shrinking.{is_trivial}
@@ -13,7 +14,7 @@ use Rattle.fc_rows.specs.declared.occurrence.Occurrence.TheVariants.{Dead}
 use Rattle.fc_row_nodes.proofs.Within.{alternative_kept, binders_kept}
 use Rattle.fc_row_ends.proofs.Drops.{Drops}
 use Rattle.fc_row_ends.proofs.Gains.{IsFew, counts_below, counts_inside, gain, shared}
-use Rattle.fc_row_ends.proofs.Numbers.{Number, Nodes, Fields, Level, further, count, as_field, extra, is_atom, lambda, own}
+use Rattle.fc_row_ends.proofs.Numbers.{Number, Nodes, Fields, Level, further, count, as_field, extra, lambda, own}
 use Rattle.fc_row_ends.proofs.Numbers.{in_alts, in_args, in_binds, in_exprs, in_fields, in_joins}
 
 abbrev pub is_nodes : Number → Bool

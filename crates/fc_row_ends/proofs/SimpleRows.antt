@@ -10,7 +10,7 @@ use Rattle.fc_model.specs.Kinding.{Modules, same_type}
 use Rattle.fc_model.specs.Nameless.{NBValue, NBType, NBCo, NATerm, NAType, NACo, NBound, NJoined, NBranch, NoNBinds, MoreNBinds, NoNJoins, MoreNJoins, NAlts, NoNAlts, MoreNAlts}
 use Rattle.fc_model.specs.Nameless.{NExpr, NLocal, NApp, NLam, NLet, NCase, NCast, NFail, NJoin}
 use Rattle.fc_model.specs.Replacing.{coercion_alone, join_count, renamed, replaced, type_alone, unchanged, value_alone}
-use Rattle.fc_model.specs.Typing.{type_read_off}
+use Rattle.fc_model.specs.Typing.{is_atom, type_read_off}
 use Rattle.fc_model.proofs.CallsKept.{from_some_inv}
 use Rattle.fc_rows.specs.Changing.{changed, made}
 use Rattle.fc_rows.specs.ChangingCoercions.{as_they_are}
@@ -23,11 +23,10 @@ use Rattle.fc_row_nodes.proofs.Jumps.{join_dead_nodes, jump_within}
 use Rattle.fc_row_nodes.proofs.Made.{if_some_inv, made_inv, none_some, some_some}
 use Rattle.fc_row_nodes.proofs.Points.{moved_weight, weight}
 use Rattle.fc_row_nodes.proofs.Replaced.{light_alts, light_nodes, renamed_nodes, unchanged_light, value_light}
-use Rattle.fc_row_nodes.proofs.SimpleRows.{beta_raises, fail_absorb_raises}
 use Rattle.fc_row_nodes.proofs.Within.{trivial_field}
-use Rattle.fc_row_ends.proofs.Counted.{nodes_fall, nodes_stay}
+use Rattle.fc_row_ends.proofs.Counted.{nodes_fall}
 use Rattle.fc_row_ends.proofs.Drops.{Drops, Falls, by_casts, by_forms, by_nodes, drops_plain, plain_most}
-use Rattle.fc_row_ends.proofs.Numbers.{Number, Nodes, Forms, Fields, Lets, Around, Casts, count, extra, further, is_atom, of_cast}
+use Rattle.fc_row_ends.proofs.Numbers.{Number, Nodes, Forms, Fields, Lets, Around, Casts, count, extra, further, of_cast, of_type}
 use Rattle.fc_row_ends.proofs.Put.{renamed_count}
 use Rattle.fc_row_ends.proofs.Rises.{count_rises}
 
@@ -41,6 +40,10 @@ nothing_falls s e f h = none_some h
 pub fewer_nodes : (e f : NExpr) → is_trivial e ≡ false → nodes f + 1 ≤ nodes e → Falls (λ n c. Drops n c e f)
 fewer_nodes e f plain less = by_nodes (nodes_fall e f plain less)
 
+-- with one application to a type less
+fewer_types : (e f : NExpr) → ((n : Number) → Drops n (of_type n) e f) → Falls (λ n c. Drops n c e f)
+fewer_types e f d = by_forms (d Nodes) (d Forms)
+
 -- BETA AND LETS
 
 pub beta_falls : (ms : Modules) → RowFalls (beta ms)
@@ -49,8 +52,8 @@ beta_falls ms s (NApp (NLam (NBValue t) b) (NATerm a)) f h =
     let n = made_inv (λ p. let_of p.0 a b) (function_ends m.0) f m.2 in
     fewer_nodes (NApp (NLam (NBValue t) b) (NATerm a)) f refl (omega (arith, ap nodes n.2))
 beta_falls ms s (NApp (NLam (NBType k) b) (NAType t)) f h =
-    let e = NApp (NLam (NBType k) b) (NAType t) in
-    by_forms (nodes_stay e f (beta_raises ms s e f h)) (drops_plain Forms 1 e f refl refl (λ l. omega (arith, ap (count Forms l) (some_some h), renamed_count Forms (type_alone t) b l)))
+    fewer_types (NApp (NLam (NBType k) b) (NAType t)) f (λ n. drops_plain n (of_type n) (NApp (NLam (NBType k) b) (NAType t)) f refl refl
+    (λ l. omega (arith, ap (count n l) (some_some h), renamed_count n (type_alone t) b l, count_rises n l b)))
 beta_falls ms s (NApp (NLam (NBCo r t u) b) (NACo g)) f h =
     fewer_nodes (NApp (NLam (NBCo r t u) b) (NACo g)) f refl (omega (arith, ap nodes (some_some h), light_nodes (coercion_alone g) unchanged_light b))
 beta_falls ms s e f h = none_some h
@@ -95,9 +98,8 @@ cast_cast_falls s e f h = none_some h
 
 pub fail_absorb_falls : (ms : Modules) → RowFalls (fail_absorb ms)
 fail_absorb_falls ms s (NApp (NFail t) (NAType u)) f h =
-    let e = NApp (NFail t) (NAType u) in
-    let m = made_inv NFail (type_read_off ms s.context e) f h in
-    by_forms (nodes_stay e f (fail_absorb_raises ms s e f h)) (drops_plain Forms 1 e f refl refl (λ l. omega (arith, ap (count Forms l) m.2)))
+    let m = made_inv NFail (type_read_off ms s.context (NApp (NFail t) (NAType u))) f h in
+    fewer_types (NApp (NFail t) (NAType u)) f (λ n. drops_plain n (of_type n) (NApp (NFail t) (NAType u)) f refl refl (λ l. omega (arith, ap (count n l) m.2)))
 fail_absorb_falls ms s (NApp (NFail t) (NATerm a)) f h =
     let m = made_inv NFail (type_read_off ms s.context (NApp (NFail t) (NATerm a))) f h in
     fewer_nodes (NApp (NFail t) (NATerm a)) f refl (omega (arith, ap nodes m.2))

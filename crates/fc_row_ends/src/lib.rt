@@ -1,7 +1,13 @@
-//! A law of the rewrite table: shrinking and commuting rows come to an end.
+//! Laws of the rewrite table: shrinking and commuting rows make no module grow, and they come to an end.
 #![tactic(auto)]
 
 ghost use Rattle.fc_row_ends.specs.Ending.{NoEndlessSteps};
+ghost use Rattle.fc_row_ends.specs.Growth.{RowsRaiseNoNodes};
+
+/// What a step of a shrinking or a commuting row leaves of a module has no more nodes than the module, whether it lints or not.
+pub fn rows_raise_no_nodes()
+    ensures rows { RowsRaiseNoNodes }
+{}
 
 /// Steps of shrinking and commuting rows, one after the other, come to an end, whatever the module is and whether it lints or not.
 pub fn rows_come_to_an_end()

@@ -1,28 +1,24 @@
 -- A jump as the right side of its join point adds at most what the join point counts, and then the join goes.
-use Rattle.std.proofs.Common.{◌≡◌, ◌≤◌, ◌<◌, ◌+◌, ◌&&◌, ℕ, suc, Bool, false, nat_eq, if◌then◌else◌, List, [], ◌∷◌, length, Option, Some, None, Result, Ok, Err, refl, sym, ap, ◌∙◌, arith, subst, ◌⊎◌, inl, inr}
+use Rattle.std.proofs.Common.{◌≡◌, ◌≤◌, ◌<◌, ◌+◌, ◌&&◌, ℕ, suc, Bool, false, nat_eq, if◌then◌else◌, List, [], ◌∷◌, length, Option, Some, None, Result, Ok, Err, sym, ap, ◌∙◌, arith, subst, ◌⊎◌, inl, inr}
 use Rattle.std.proofs.lemmas.Bool.Decides.{nat_tests}
 use Rattle.fc_syntax.specs.declared.expr.Head.{Head}
-use Rattle.fc_model.specs.Calling.{from_some}
 use Rattle.fc_model.specs.Faulting.{F, at_distance}
 use Rattle.fc_model.specs.Nameless.{NTy, NJoined, NBranch, NExpr, NLocal, NVar, NLit, NApp, NLam, NLet, NCase, NCast, NCon, NPrim, NFail, NJoin, NJump}
 use Rattle.fc_model.specs.Nameless.{NArgs, NJoins, NoNJoins, MoreNJoins, NAlts, NoNAlts, MoreNAlts}
 use Rattle.fc_model.specs.Replacing.{below_binders, bind_count, coercion_variables, join_count, renamed, replaced, unchanged, variables, with_arguments}
 use Rattle.fc_model.specs.Typing.{JoinPoint}
-use Rattle.fc_model.proofs.CallsKept.{from_some_inv}
 use Rattle.fc_model.proofs.Sameness.{nat_eq_eq, nat_eq_refl}
 use Rattle.fc_rows.specs.Changing.{changed, changed_alts, changed_joins, made}
 use Rattle.fc_rows.specs.ChangingCoercions.{as_they_are}
 use Rattle.fc_rows.specs.Occurrences.{innermost_joins, is_dead, occurrences}
-use Rattle.fc_rows.specs.Shrinking.{before_joins, behind_lets, is_case_or_join, is_jump, join_dead, join_once, jump_made, jump_once, jump_place, jump_place_in_alts, jump_place_in_joins, jump_taken, named_arguments}
-use Rattle.fc_rows.specs.Shrinking.{occurs_once, pair_with, term_count}
-use Rattle.fc_rows.specs.Surroundings.{Point, NoPoint, PointOf, Surroundings, at_join_sides, behind_binders, behind_binds, behind_joins, head_binds, in_alternative, listed_heads, past_joins, past_values}
+use Rattle.fc_rows.specs.Shrinking.{before_joins, behind_lets, is_case_or_join, is_jump, join_dead, jump_made, jump_once, jump_place, jump_place_in_alts, jump_place_in_joins, jump_taken, named_arguments}
+use Rattle.fc_rows.specs.Shrinking.{pair_with, term_count}
+use Rattle.fc_rows.specs.Surroundings.{Point, NoPoint, PointOf, Surroundings, at_join_sides, behind_binders, behind_binds, behind_joins, head_binds, in_alternative, listed_heads, past_values}
 use Rattle.fc_row_nodes.specs.Nodes.{alts_nodes, args_nodes, joins_nodes, nodes}
 use Rattle.fc_row_nodes.proofs.Lets.{lets_nodes, named_light, pair_counted}
 use Rattle.fc_row_nodes.proofs.Made.{else_some_inv, first_of_inv, if_some_inv, made_inv, none_some, some_some}
 use Rattle.fc_row_nodes.proofs.Points.{alternative_weight, binders_weight, joins_weight, moved_weight, sides_weight, weight}
 use Rattle.fc_row_nodes.proofs.Replaced.{arguments_light, light_nodes, renamed_nodes, unchanged_light}
-use Rattle.fc_row_nodes.proofs.SimpleRows.{RaisesNothing}
-use Rattle.fc_row_nodes.proofs.Within.{within_plain}
 
 -- ONE JUMP
 
@@ -200,18 +196,3 @@ mutual
                   omega (arith, ap alts_nodes c.2, a.bound c.0 c.1);
             }
       ]
-
--- THE ROW
-
-pub join_once_raises : RaisesNothing join_once
-join_once_raises s (NJoin false t (MoreNJoins (NJoined ps d) NoNJoins) b) f h =
-    let group = MoreNJoins (NJoined ps d) NoNJoins in
-    let into = behind_joins false t group s in
-    let w = weight (PointOf ps d) in
-    let m = if_some_inv (occurs_once (occurrences (innermost_joins 1) b)) _ f h in
-    let p = from_some_inv (λ p. from_some (λ c. join_dead (NJoin false t group c)) (changed jump_once as_they_are into p b)) (jump_place 0 b) f m.1 in
-    let c = from_some_inv (λ c. join_dead (NJoin false t group c)) (changed jump_once as_they_are into p.0 b) f p.2 in
-    let left = join_dead_nodes t group c.0 f c.2 in
-    let body = jump_within w 0 into (moved_weight (past_joins 1) (PointOf ps d)) p.0 b c.0 p.1 c.1 in
-    within_plain 0 (NJoin false t group b) f refl (omega (arith, left, body))
-join_once_raises s e f h = none_some h

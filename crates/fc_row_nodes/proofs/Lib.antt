@@ -1,15 +1,11 @@
-pub mod AtOnce
-pub mod AtPlaces
-pub mod CaseRows
-pub mod CommutingRows
+mod AtOnce
+pub mod Alternatives
 pub mod Gains
 pub mod Jumps
 pub mod Lets
 pub mod Made
-pub mod Modules
 pub mod Points
-pub mod PutIn
+mod PutIn
 pub mod Replaced
-pub mod SimpleRows
 pub mod Within
 mod WordsCounted

@@ -11,8 +11,7 @@ use Rattle.fc_syntax.specs.Measures as worded
 use Rattle.fc_model.specs.Worded.{WArg, WBind, WBinder, WDecl, WExpr, WExprs, WArgs, WBinds, WJoinBind, WJoins, WAlt, WAlts}
 use Rattle.fc_model.specs.Worded.{bare_alt, bare_alts, bare_arg, bare_args, bare_bind, bare_binder, bare_binders, bare_binds, bare_decl, bare_decls, bare_expr, bare_exprs, bare_join, bare_joins}
 use Rattle.fc_rows.specs.Shrinking.{is_trivial}
-use Rattle.fc_row_nodes.specs.Growth.{WordsAddNoNodes}
-use Rattle.fc_row_nodes.specs.Nodes.{alt_nodes, alternative_count, alts_nodes, applied_nodes, arg_nodes, args_nodes, bind_nodes, binds_nodes, counted_binders, decl_nodes, decls_nodes, exprs_nodes, field_extra, field_nodes, fields_nodes, join_nodes, joins_nodes, lambda_count, nodes}
+use Rattle.fc_row_nodes.specs.Nodes.{WordsAddNoNodes, alt_nodes, alternative_count, alts_nodes, applied_nodes, arg_nodes, args_nodes, bind_nodes, binds_nodes, counted_binders, decl_nodes, decls_nodes, exprs_nodes, field_extra, field_nodes, fields_nodes, join_nodes, joins_nodes, lambda_count, nodes}
 
 -- BINDERS AND WHAT IS TRIVIAL
 

@@ -1,11 +1,13 @@
 -- How many terms a nameless tree is made of. Types, coercions and casts count nothing, and a term of a constructor that is not trivial counts two more.
-use Rattle.std.specs.Prelude.{ℕ, ◌+◌, ◌*◌, Bool, true, false, List, [], ◌∷◌}
+use Rattle.std.specs.Prelude.{◌≡◌, ℕ, ◌+◌, ◌*◌, Bool, true, false, List, [], ◌∷◌}
+use Rattle.fc_syntax.specs.Measures.{module_nodes as worded_nodes}
 use Rattle.fc_syntax.specs.declared.expr.Head.{Head}
 use Rattle.fc_syntax.specs.declared.expr.Head.TheVariants as head
 use Rattle.fc_model.specs.Nameless.{NBinder, NBValue, NBType, NBCo, NArg, NATerm, NAType, NACo, NBind, NBound, NJoinBind, NJoined, NAlt, NBranch}
 use Rattle.fc_model.specs.Nameless.{NExpr, NLocal, NVar, NLit, NApp, NLam, NLet, NCase, NCast, NCon, NPrim, NFail, NJoin, NJump}
 use Rattle.fc_model.specs.Nameless.{NArgs, NoNArgs, MoreNArgs, NExprs, NoNExprs, MoreNExprs, NBinds, NoNBinds, MoreNBinds, NJoins, NoNJoins, MoreNJoins, NAlts, NoNAlts, MoreNAlts}
 use Rattle.fc_model.specs.Nameless.{NDecl, NData, NNew, NFamily, NAxiom, NDef, NWrap, NModule, NModuleOf}
+use Rattle.fc_model.specs.Worded.{WModule, bare_module}
 use Rattle.fc_rows.specs.Shrinking.{is_trivial}
 
 -- a lambda over a type is not counted
@@ -109,3 +111,7 @@ decls_nodes (d ∷ ds) = decl_nodes d + decls_nodes ds
 -- the nodes of a module: those of its definitions
 abbrev pub module_nodes : NModule → ℕ
 module_nodes (NModuleOf m imports exports hidden ds) = decls_nodes ds
+
+-- the words that binders keep count for nothing: these are the nodes of the tree with words
+abbrev pub WordsAddNoNodes : Type 0
+WordsAddNoNodes = (m : WModule) → module_nodes (bare_module m) ≡ worded_nodes m

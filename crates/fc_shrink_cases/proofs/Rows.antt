@@ -13,7 +13,7 @@ use Rattle.fc_model.specs.NamelessView.{nalt_of, nalts_of}
 use Rattle.fc_rows.specs.Changing.{made}
 use Rattle.fc_rows.specs.Shrinking.{alt_dead, heads_excluded, known, same_head, without_alternative}
 use Rattle.fc_rows.specs.Surroundings.{Known, Surroundings}
-use Rattle.fc_shrink_cases.specs.Cases.{looked_at, without}
+use Rattle.fc_shrink_cases.specs.Cases.{scrutinee_of, without}
 
 -- ALTERNATIVES THAT ARE NEVER TAKEN
 
@@ -40,21 +40,21 @@ none_gone hs zero (c ∷ alts) is = cc
 none_gone hs (suc i) (c ∷ alts) is = ap (made (MoreNAlts (nalt_of c))) (none_gone hs i alts is)
 
 -- what the row makes of a case, by what is known of what it looks at
-row_of_case : (e s : NExpr) (t u : NTy) (alts : NAlts) (i : ℕ) (around : Surroundings) (k : Known) → e ≡ NCase s t u alts → k ≡ known around (looked_at e)
+row_of_case : (e s : NExpr) (t u : NTy) (alts : NAlts) (i : ℕ) (around : Surroundings) (k : Known) → e ≡ NCase s t u alts → k ≡ known around (scrutinee_of e)
     → alt_dead i around e ≡ made (NCase s t u) (without_alternative (heads_excluded k) i alts)
 row_of_case e s t u alts i around k is known_is =
     ap (alt_dead i around) is
-    ∙ ap (λ l. made (NCase s t u) (without_alternative (heads_excluded l) i alts)) (sym (known_is ∙ ap (λ x. known around (looked_at x)) is))
+    ∙ ap (λ l. made (NCase s t u) (without_alternative (heads_excluded l) i alts)) (sym (known_is ∙ ap (λ x. known around (scrutinee_of x)) is))
 
 -- where no alternative is of that number
 pub alt_dead_none : (e s : NExpr) (t u : NTy) (alts : List (RustAlt.Alt ℕ Ref)) (i : ℕ) (around : Surroundings) (k : Known) → e ≡ NCase s t u (nalts_of alts)
-    → k ≡ known around (looked_at e) → slice_get alts i ≡ None → alt_dead i around e ≡ None
+    → k ≡ known around (scrutinee_of e) → slice_get alts i ≡ None → alt_dead i around e ≡ None
 alt_dead_none e s t u alts i around k is known_is none =
     row_of_case e s t u (nalts_of alts) i around k is known_is ∙ ap (made (NCase s t u)) (none_gone (heads_excluded k) i alts none)
 
 -- where one is
 pub alt_dead_is : (e s : NExpr) (t u : NTy) (alts : List (RustAlt.Alt ℕ Ref)) (i : ℕ) (around : Surroundings) (k : Known) (a : RustAlt.Alt ℕ Ref) (b : Bool)
-    → e ≡ NCase s t u (nalts_of alts) → k ≡ known around (looked_at e) → slice_get alts i ≡ Some a → list_any (same_head a.head) (heads_excluded k) ≡ b
+    → e ≡ NCase s t u (nalts_of alts) → k ≡ known around (scrutinee_of e) → slice_get alts i ≡ Some a → list_any (same_head a.head) (heads_excluded k) ≡ b
     → alt_dead i around e ≡ (if b then Some (NCase s t u (without i (nalts_of alts))) else None)
 alt_dead_is e s t u alts i around k a b is known_is one excluded =
     row_of_case e s t u (nalts_of alts) i around k is known_is ∙ ap (made (NCase s t u)) (one_gone (heads_excluded k) i alts a one)

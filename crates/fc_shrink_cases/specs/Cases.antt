@@ -7,9 +7,9 @@ use Rattle.fc_rows.specs.Shrinking.{is_of_unlifted_type}
 use Rattle.fc_rows.specs.Surroundings.{Surroundings}
 
 -- what a case looks at; elsewhere something of which nothing is known
-abbrev pub looked_at : NExpr → NExpr
-looked_at (NCase e t u alts) = e
-looked_at e = NFail NTInt
+abbrev pub scrutinee_of : NExpr → NExpr
+scrutinee_of (NCase e t u alts) = e
+scrutinee_of e = NFail NTInt
 
 -- whether an expression is a local variable of an unlifted type
 abbrev pub is_unlifted_local : Modules → Surroundings → NExpr → Bool

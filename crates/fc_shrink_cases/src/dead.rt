@@ -5,7 +5,7 @@ ghost use Rattle.fc_model.specs.NamelessView.{nalts_of, nexpr_of};
 ghost use Rattle.fc_rows.specs.Shrinking.{alt_dead as spec_alt_dead, known};
 ghost use Rattle.fc_rows.specs.Surroundings.{Surroundings};
 ghost use Rattle.fc_known.specs.Told.{told};
-ghost use Rattle.fc_shrink_cases.specs.Cases.{looked_at, without};
+ghost use Rattle.fc_shrink_cases.specs.Cases.{scrutinee_of, without};
 
 use crate::heads::is_excluded;
 use fc_copies::nameless::{copy_alt, copy_alts, copy_expr};
@@ -36,7 +36,7 @@ pub fn alt_dead(
     number: usize,
     fact: &Fact,
 ) -> Result<Option<NExpr>, Memory>
-    ensures { (s : Surroundings) → told fact.now ≡ known s (looked_at (nexpr_of e.now)) → IfOk result (λ o. option_map nexpr_of o ≡ spec_alt_dead number s (nexpr_of e.now)) }
+    ensures { (s : Surroundings) → told fact.now ≡ known s (scrutinee_of (nexpr_of e.now)) → IfOk result (λ o. option_map nexpr_of o ≡ spec_alt_dead number s (nexpr_of e.now)) }
 {
     let Some(case) = as_case(e) else {
         return Ok(None);

@@ -6,7 +6,7 @@ ghost use Rattle.fc_model.specs.NamelessView.{nexpr_of};
 ghost use Rattle.fc_rows.specs.Shrinking.{case_evaluated as spec_case_evaluated, is_con as spec_is_con, is_evaluated_atom, known};
 ghost use Rattle.fc_rows.specs.Surroundings.{Surroundings};
 ghost use Rattle.fc_known.specs.Told.{told};
-ghost use Rattle.fc_shrink_cases.specs.Cases.{is_unlifted_local, looked_at};
+ghost use Rattle.fc_shrink_cases.specs.Cases.{is_unlifted_local, scrutinee_of};
 
 use crate::heads::is_evaluated;
 use fc_copies::nameless::copy_expr;
@@ -50,7 +50,7 @@ pub fn case_evaluated(
     fact: &Fact,
     unlifted: bool,
 ) -> Result<Option<NExpr>, Memory>
-    ensures { (ms : Modules) (s : Surroundings) → told fact.now ≡ known s (looked_at (nexpr_of e.now)) → unlifted ≡ is_unlifted_local ms s (looked_at (nexpr_of e.now)) → IfOk result (λ o. option_map nexpr_of o ≡ spec_case_evaluated ms s (nexpr_of e.now)) }
+    ensures { (ms : Modules) (s : Surroundings) → told fact.now ≡ known s (scrutinee_of (nexpr_of e.now)) → unlifted ≡ is_unlifted_local ms s (scrutinee_of (nexpr_of e.now)) → IfOk result (λ o. option_map nexpr_of o ≡ spec_case_evaluated ms s (nexpr_of e.now)) }
 {
     let Some(case) = as_case(e) else {
         return Ok(None);

@@ -52,8 +52,8 @@ pub(crate) fn is_excluded(fact: &Fact, head: &Head) -> bool
     match fact {
         Fact::Nothing => false,
         Fact::Bound(_, _) => false,
-        Fact::Found(looked, _) => match &looked.alternative.head {
-            Head::Default => lists_head(looked.alternatives, head),
+        Fact::Found(branch, _) => match &branch.alternative.head {
+            Head::Default => lists_head(branch.alternatives, head),
             Head::Lit(_) => false,
             Head::Con(_) => false,
         },

@@ -1,5 +1,5 @@
 -- The rows over the parts that code finds.
-use Rattle.std.proofs.Common.{◌≡◌, ℕ, zero, suc, Bool, true, false, if◌then◌else◌, Option, Some, None, Result, refl, sym, ap, ◌∙◌}
+use Rattle.std.proofs.Common.{◌≡◌, ℕ, zero, suc, Option, Some, None, Result, refl, sym, ap, ◌∙◌}
 use Rattle.std.proofs.lemmas.Option.{none-some}
 use Rattle.fc_model.specs.Calling.{from_some, function_ends}
 use Rattle.fc_model.specs.Coercing.{Ends, ends_or_fault}
@@ -55,10 +55,3 @@ type_is_put u = renaming_is_put (type_alone u) (with_argument (NAType u) unchang
 module _ (ms : Modules) (s : Surroundings) where
   pub cast_made : (e : NExpr) (p : NExpr × NCo) (r : Result Ends F) → Some p ≡ cast_parts e → ends_or_fault ms s.context.kinds s.context.coercions p.1 ≡ r → cast_refl ms s e ≡ if_equal p.0 r
   cast_made e p r is ends = ap (cast_refl ms s) (cast_form e p is) ∙ ap (if_equal p.0) ends
-
--- by a test
-pub if_same : (e : NExpr) (b : Bool) → b ≡ true → (if b then Some e else None) ≡ Some e
-if_same e b is = rw is refl
-
-pub if_not_same : (e : NExpr) (b : Bool) → b ≡ false → (if b then Some e else None) ≡ None
-if_not_same e b is = rw is refl

@@ -39,9 +39,9 @@ pub struct Kinded {
 }
 
 impl TypeScope<'_> {
-    /// How many type variables are in scope, where the number can be told.
+    /// How many type variables are in scope. Fails where the number has no 32 bits; this is answered as out of memory.
     #[tactic(auto, unfolding(crate::specs::Scopes::scope_in))]
-    pub(crate) fn variables(&self) -> Result<u32, Memory>
+    pub fn variables(&self) -> Result<u32, Memory>
         ensures { IfOk result (λ n. n ≡ length (scope_in self.now)) }
     {
         variables(self.kinds)

@@ -38,7 +38,7 @@ fn more(count: u32, more: usize) -> Result<u32, Memory>
     }
 }
 
-/// How many type variables are in scope, where the number can be told.
+/// How many type variables are in scope. Fails where the number has no 32 bits; this is answered as out of memory.
 pub(crate) fn variables(kinds: &NumberedKinds) -> Result<u32, Memory>
     ensures { IfOk result (λ n. n ≡ length (kinds_of kinds.now)) }
 {

@@ -50,16 +50,16 @@ known-returns-in-Alternative t c ms = IfOk-weaker c.known_inside.result _ _ (λ 
 
 pub known_inside-returns-then-is_looked_at : goal.known_inside-returns-then-is_looked_at
 known_inside-returns-then-is_looked_at t c ms =
-    inside_it c.args.looked.now (surroundings_of ms c.args.outer.now) c.requires.own c.args.distance (tested_at c.args.looked.now c.args.distance c.in_ok-values.values _ c.in_ok-values.ensures c.is_looked_at.ensures ∙ c.if-is_looked_at.true)
+    inside_it c.args.branch.now (surroundings_of ms c.args.outer.now) c.requires.own c.args.distance (tested_at c.args.branch.now c.args.distance c.in_ok-values.values _ c.in_ok-values.ensures c.is_looked_at.ensures ∙ c.if-is_looked_at.true)
 
 pub known_inside-returns-then-distance-values : goal.known_inside-returns-then-distance-values
 known_inside-returns-then-distance-values t c ms =
-    own_unknown c.args.looked.now (surroundings_of ms c.args.outer.now) c.requires.own c.args.distance (tested_at c.args.looked.now c.args.distance c.in_ok-values.values _ c.in_ok-values.ensures c.is_looked_at.ensures ∙ c.if-is_looked_at.false)
+    own_unknown c.args.branch.now (surroundings_of ms c.args.outer.now) c.requires.own c.args.distance (tested_at c.args.branch.now c.args.distance c.in_ok-values.values _ c.in_ok-values.ensures c.is_looked_at.ensures ∙ c.if-is_looked_at.false)
     (omega (arith, c.if-distance-values.true, c.in_ok-values.ensures))
 
 pub known_inside-returns-in_ok-known : goal.known_inside-returns-in_ok-known
 known_inside-returns-in_ok-known t c ms = IfOk-weaker c.past.result _ _ (λ f h.
     h
-    ∙ alternative_from_outside c.args.looked.now (surroundings_of ms c.args.outer.now) c.requires.own c.args.distance c.in_ok-values.values (told c.in_ok-known.field-0)
-    (tested_at c.args.looked.now c.args.distance c.in_ok-values.values _ c.in_ok-values.ensures c.is_looked_at.ensures ∙ c.if-is_looked_at.false)
+    ∙ alternative_from_outside c.args.branch.now (surroundings_of ms c.args.outer.now) c.requires.own c.args.distance c.in_ok-values.values (told c.in_ok-known.field-0)
+    (tested_at c.args.branch.now c.args.distance c.in_ok-values.values _ c.in_ok-values.ensures c.is_looked_at.ensures ∙ c.if-is_looked_at.false)
     c.in_ok-values.ensures (omega (arith, c.if-distance-values.false)) (c.in_ok-known.ensures ms)) c.past.ensures

@@ -12,7 +12,7 @@ use Rattle.fc_known.proofs.knowing.+known_name.Goals as goal
 
 pub returns-then-is_name : goal.returns-then-is_name
 returns-then-is_name t c ms tells =
-    inside_named c.in-Alternative.looked (surroundings_of ms c.in-Alternative.outer.now) (subst HasCounts c.in-Alternative.is c.requires).0 c.args.name.now (sym c.is_name.ensures ∙ c.if-is_name.true)
+    inside_named c.in-Alternative.branch (surroundings_of ms c.in-Alternative.outer.now) (subst HasCounts c.in-Alternative.is c.requires).0 c.args.name.now (sym c.is_name.ensures ∙ c.if-is_name.true)
     ∙ ap (λ f. (surroundings_of ms f).names c.args.name.now) (sym c.in-Alternative.is)
 
 pub returns-in-Some : goal.returns-in-Some
@@ -47,6 +47,6 @@ returns-in_ok-known_name-in-Joins t c ms tells = IfOk-weaker c.past-in-Joins.res
 pub returns-in_ok-known_name-in-Alternative : goal.returns-in_ok-known_name-in-Alternative
 returns-in_ok-known_name-in-Alternative t c ms tells = IfOk-weaker c.past-in-Alternative.result _ _ (λ f h.
     h
-    ∙ alternative_named c.in-Alternative.looked (surroundings_of ms c.in-Alternative.outer.now) (subst HasCounts c.in-Alternative.is c.requires).0 c.args.name.now c.in_ok-values-in-Alternative.values
+    ∙ alternative_named c.in-Alternative.branch (surroundings_of ms c.in-Alternative.outer.now) (subst HasCounts c.in-Alternative.is c.requires).0 c.args.name.now c.in_ok-values-in-Alternative.values
     (told c.in_ok-known_name-in-Alternative.field-0) (sym c.is_name.ensures ∙ c.if-is_name.false) c.in_ok-values-in-Alternative.ensures (c.in_ok-known_name-in-Alternative.ensures ms tells)
     ∙ ap (λ f. (surroundings_of ms f).names c.args.name.now) (sym c.in-Alternative.is)) c.past-in-Alternative.ensures

@@ -1,4 +1,4 @@
-use Rattle.std.proofs.Common.{Some, ap, ◌∙◌, sym, subst}
+use Rattle.std.proofs.Common.{if◌then◌else◌, Some, None, ap, ◌∙◌, sym, subst}
 use Rattle.fc_model.specs.Coercing.{ends_or_fault}
 use Rattle.fc_model.specs.NamelessView.{nco_of, nexpr_of}
 use Rattle.fc_model.specs.Says.{Refuses}
@@ -7,7 +7,7 @@ use Rattle.fc_type_scope.specs.Scopes.{scope_in}
 use Rattle.fc_lint_context.specs.ContextViews.{context_in, modules_of_context}
 use Rattle.fc_forms.specs.Forms.{cast_of}
 use Rattle.fc_shrink_types.proofs.Judged.{judged}
-use Rattle.fc_shrink_types.proofs.Rows.{cast_made, if_not_same, if_same}
+use Rattle.fc_shrink_types.proofs.Rows.{cast_made}
 use Rattle.fc_shrink_types.proofs.casts.cast_refl.Goals as goal
 
 pub returns-then-same : goal.returns-then-same
@@ -15,14 +15,14 @@ returns-then-same c s is =
     let ctx = c.args.context.now in
     let ends = c.in-Ok.ensures in
     ap (λ e. Some (bare_expr e)) c.in_ok-copy_expr-in-Ok.ensures
-    ∙ sym (if_same (nexpr_of c.in-Some.cast.inner.now) _ (sym (c.same.ensures (scope_in ctx.scope) ends.valid.left ends.valid.right) ∙ c.if-same.true))
+    ∙ sym (ap (λ b. if b then Some (nexpr_of c.in-Some.cast.inner.now) else None) (sym (c.same.ensures (scope_in ctx.scope) ends.valid.left ends.valid.right) ∙ c.if-same.true))
     ∙ sym (cast_made (modules_of_context ctx) s (nexpr_of c.args.e.now) (cast_of c.in-Some.cast) _ c.in-Some.ensures (judged c.args.types.now ctx s (nco_of c.in-Some.cast.coercion.now) _ is ends.says))
 
 pub returns-in-Ok : goal.returns-in-Ok
 returns-in-Ok c s is =
     let ctx = c.args.context.now in
     let ends = c.in-Ok.ensures in
-    sym (if_not_same (nexpr_of c.in-Some.cast.inner.now) _ (sym (c.same.ensures (scope_in ctx.scope) ends.valid.left ends.valid.right) ∙ c.if-same.false))
+    sym (ap (λ b. if b then Some (nexpr_of c.in-Some.cast.inner.now) else None) (sym (c.same.ensures (scope_in ctx.scope) ends.valid.left ends.valid.right) ∙ c.if-same.false))
     ∙ sym (cast_made (modules_of_context ctx) s (nexpr_of c.args.e.now) (cast_of c.in-Some.cast) _ c.in-Some.ensures (judged c.args.types.now ctx s (nco_of c.in-Some.cast.coercion.now) _ is ends.says))
 
 pub returns : goal.returns

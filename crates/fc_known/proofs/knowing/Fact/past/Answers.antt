@@ -14,6 +14,6 @@ returns-in_ok-both-in-Bound c =
 
 pub returns-in_ok-both-in-Found : goal.returns-in_ok-both-in-Found
 returns-in_ok-both-in-Found c =
-    ap (λ p. moved_known (renaming_of p) (known_there c.in-Found.looked)) c.in_ok-both-in-Found.ensures
-    ∙ sym (moved_twice c.in-Found.own c.args.by (known_there c.in-Found.looked))
+    ap (λ p. moved_known (renaming_of p) (known_there c.in-Found.branch)) c.in_ok-both-in-Found.ensures
+    ∙ sym (moved_twice c.in-Found.own c.args.by (known_there c.in-Found.branch))
     ∙ ap (λ f. moved_known (renaming_of c.args.by) (told f)) (sym c.in-Found.is)
