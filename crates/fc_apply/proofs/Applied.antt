@@ -1,5 +1,5 @@
--- What a step makes of a module, by what its row makes of the definition that it names.
-use Rattle.std.proofs.Common.{◌≡◌, ℕ, zero, suc, true, List, [], ◌∷◌, Option, Some, None, refl, sym, ap, ◌∙◌, position, subst}
+-- What a step makes of the first of some modules, by what its row makes of the definition that it names.
+use Rattle.std.proofs.Common.{◌≡◌, ℕ, zero, suc, true, List, [], ◌∷◌, Option, Some, None, refl, sym, ap, ◌∙◌, position, subst, if◌then◌else◌}
 use Rattle.std.specs.Prelude.{slice_get, slice_set}
 use Rattle.std.proofs.lemmas.Option.{none-some, same_Some}
 use Rattle.fc_syntax.specs.Tree.{Word}
@@ -11,35 +11,22 @@ use Rattle.fc_syntax.specs.declared.module.Module as RustModule
 use Rattle.fc_log.specs.declared.log.Answer.{Answer}
 use Rattle.fc_log.specs.declared.log.Row.{Row}
 use Rattle.fc_log.specs.declared.log.Step.{Step}
-use Rattle.fc_model.specs.Kinding.{decls_at}
+use Rattle.fc_model.specs.Calling.{from_some}
+use Rattle.fc_model.specs.Kinding.{Modules, decls_at}
 use Rattle.fc_model.specs.Nameless.{NDecl, NExpr, NModule, NModuleOf}
-use Rattle.fc_model.specs.NamelessView.{ndecl_of, ndecls_of, nmodule_of}
+use Rattle.fc_model.specs.NamelessView.{ndecl_of, ndecls_of, nmodule_of, nmodules_of}
 use Rattle.fc_model.proofs.Sameness.{false_true}
 use Rattle.fc_rows.specs.Changing.{made}
 use Rattle.fc_rows.specs.ChangingCoercions.{as_they_are}
 use Rattle.fc_rows.specs.Replaying.{Rewrites, at_a_place, of_the_module}
-use Rattle.fc_rows.specs.ResultLimits.{IsWithinLimits}
-use Rattle.fc_rows.specs.Rewriting.{changed_decls, rewritten}
+use Rattle.fc_rows.specs.Rewriting.{changed_decls, changed_module, looked_at, rewritten, row_result}
 use Rattle.fc_rows.specs.Surroundings.{Surroundings, outside}
 use Rattle.fc_apply.specs.Definitions.{changed_decl, is_definition}
-use Rattle.fc_apply.specs.Steps.{placed}
-use Rattle.fc_apply.specs.TermRows.{is_term_row, term_row}
+use Rattle.fc_apply.specs.Steps.{FirstFits, Makes, Takes, placed}
 use Rattle.fc_apply.proofs.Decls.{none_changed, one_changed, set_is}
-use Rattle.fc_apply.proofs.TermSteps.{rewritten_is}
+use Rattle.fc_row_at_place.specs.Rows.{built_row, is_built}
 
--- WHAT A STEP SAYS
-
--- the definition, the place and what it makes, of a step of a row at a place
-record Says (xs : List NModule) (s : Step) (n k : NModule) : Type 0 where
-  word : Word
-  path : List ℕ
-  is_placed : placed s ≡ Some (word, path)
-  makes : rewritten xs s.row word path n ≡ Some k
-  within : IsWithinLimits k
-
-says : (xs : List NModule) (s : Step) (n k : NModule) → is_term_row s.row ≡ true → Rewrites xs s n k → Says xs s n k
-says xs s n k is (at_a_place r w p e within) = record { word = w; path = p; is_placed = refl; makes = e; within = within }
-says xs s n k is (of_the_module drops) = false_true is
+-- STEPS
 
 placed_parts : (d : Option Word) (p : Place) (a : Option Answer) (r : Row) (w : Word) (q : List ℕ) → placed (record { row = r; def = d; path = p; answer = a }) ≡ Some (w, q)
     → ◌≡◌ {A = Step} (record { row = r; def = d; path = p; answer = a }) (record { row = r; def = Some w; path = place.Parts q; answer = None })
@@ -50,56 +37,95 @@ placed_parts (Some v) place.Nowhere a r w q h = absurd (none-some _ h)
 placed_parts (Some v) (place.Byte b) a r w q h = absurd (none-some _ h)
 placed_parts None p a r w q h = absurd (none-some _ h)
 
-module _ (m : RustModule.Module ℕ Ref) (s : Step) (is : is_term_row s.row ≡ true) (xs : List NModule) where
-  abbrev seen : Surroundings
-  seen = outside (decls_at (nmodule_of m ∷ xs))
+-- a step of a row that is built is taken exactly where the row makes something that is within the limits
+pub takes_makes : (s : Step) (before after : List NModule) → is_built s.row ≡ true → Takes s before after → Makes s before after × FirstFits after
+takes_makes s [] after is takes = absurd takes
+takes_makes s (n ∷ xs) [] is takes = absurd takes
+takes_makes s (n ∷ xs) (k ∷ ys) is (same, at_a_place r w p e within) = ((same, (w, (p, (refl, e)))), within)
+takes_makes s (n ∷ xs) (k ∷ ys) is (same, of_the_module drops) = false_true is
 
-  abbrev row_of : Surroundings → NExpr → Option NExpr
-  row_of t e = term_row s.row e
+pub makes_takes : (s : Step) (before after : List NModule) → Makes s before after → FirstFits after → Takes s before after
+makes_takes s [] after makes fits = absurd makes
+makes_takes s (n ∷ xs) [] makes fits = absurd makes
+makes_takes s (n ∷ xs) (k ∷ ys) (same, (w, (p, (at, e)))) fits = (same, subst (λ z. Rewrites xs z n k) (sym (placed_parts s.def s.path s.answer s.row w p at)) (at_a_place s.row w p e fits))
+
+-- it makes one thing
+pub makes_once : (s : Step) (before a b : List NModule) → Makes s before a → Makes s before b → a ≡ b
+makes_once s [] a b first second = absurd first
+makes_once s (n ∷ xs) [] b first second = absurd first
+makes_once s (n ∷ xs) (k ∷ ys) [] first second = absurd second
+makes_once s (n ∷ xs) (k ∷ ys) (l ∷ zs) (same, (w, (p, (at, e)))) (same′, (w′, (p′, (at′, e′)))) =
+    let place : (w, p) ≡ (w′, p′) = same_Some _ _ (sym at ∙ at′) in
+    let module_is : k ≡ l = same_Some _ _ (sym e ∙ ap (λ q. rewritten xs s.row q.0 q.1 n) place ∙ e′) in
+    ap (λ z. z ∷ ys) module_is ∙ ap (λ zs. l ∷ zs) (same ∙ sym same′)
+
+-- A ROW ON THE FIRST MODULE
+
+module _ (m : RustModule.Module ℕ Ref) (ms : List (RustModule.Module ℕ Ref)) (s : Step) (is : is_built s.row ≡ true) where
+  abbrev others : List NModule
+  others = nmodules_of ms
+
+  abbrev declared : Modules
+  declared = decls_at (nmodule_of m ∷ others)
+
+  abbrev row : ℕ → Surroundings → NExpr → Option NExpr
+  row i = built_row declared s.row i
 
   abbrev with_decls : List NDecl → NModule
   with_decls ds = NModuleOf m.name m.imports m.exports m.hidden ds
 
-  -- what the row makes of the module is what it makes of its declarations
-  by_decls : (w : Word) (p : List ℕ) (o : Option (List NDecl)) → changed_decls row_of as_they_are seen w p (ndecls_of m.decls) ≡ o → rewritten xs s.row w p (nmodule_of m) ≡ made with_decls o
-  by_decls w p o h = rewritten_is xs s.row w p (nmodule_of m) is ∙ ap (made with_decls) h
+  -- a row that is built is what the table says
+  as_built : (i : ℕ) → row_result declared s.row i ≡ row i
+  as_built i = ap (λ b. λ t e. if b then row_result declared s.row i t e else None) (sym is)
 
-  -- nothing is made where no declaration is
-  none_made : (w : Word) (p : List ℕ) → placed s ≡ Some (w, p) → changed_decls row_of as_they_are seen w p (ndecls_of m.decls) ≡ None → (k : NModule) → Rewrites xs s (nmodule_of m) k → ⊥
-  none_made w p at none k rewrites =
-      let said = says xs s (nmodule_of m) k is rewrites in
-      let same : (w, p) ≡ (said.word, said.path) = same_Some _ _ (sym at ∙ said.is_placed) in
-      none-some k (sym (ap (λ q. rewritten xs s.row q.0 q.1 (nmodule_of m)) (sym same) ∙ by_decls w p None none) ∙ said.makes)
+  pub not_placed : placed s ≡ None → (after : List NModule) → Makes s (nmodule_of m ∷ others) after → ⊥
+  not_placed none [] makes = makes
+  not_placed none (k ∷ ys) (same, (w, (p, (at, e)))) = none-some _ (sym none ∙ at)
 
-  pub not_placed : placed s ≡ None → (k : NModule) → Rewrites xs s (nmodule_of m) k → ⊥
-  not_placed none k rewrites = let said = says xs s (nmodule_of m) k is rewrites in none-some _ (sym none ∙ said.is_placed)
+  module _ (w : Word) (p : List ℕ) (at : placed s ≡ Some (w, p)) where
+    -- nothing is made where no module is
+    none_made : rewritten others s.row w p (nmodule_of m) ≡ None → (after : List NModule) → Makes s (nmodule_of m ∷ others) after → ⊥
+    none_made none [] makes = makes
+    none_made none (k ∷ ys) (same, (w′, (p′, (at′, e)))) =
+        let place : (w, p) ≡ (w′, p′) = same_Some _ _ (sym at ∙ at′) in
+        none-some k (sym none ∙ ap (λ q. rewritten others s.row q.0 q.1 (nmodule_of m)) place ∙ e)
 
-  pub not_defined : (w : Word) (p : List ℕ) → placed s ≡ Some (w, p) → position (λ d. is_definition w (ndecl_of d)) m.decls ≡ None → (k : NModule) → Rewrites xs s (nmodule_of m) k → ⊥
-  not_defined w p at none = none_made w p at (none_changed row_of as_they_are seen w p m.decls none)
+    pub not_aimed : looked_at s.row p ≡ None → (after : List NModule) → Makes s (nmodule_of m ∷ others) after → ⊥
+    not_aimed none = none_made (ap (from_some (λ q. changed_module (row_result declared s.row q.1) as_they_are others w q.0 (nmodule_of m))) none)
 
-  module _ (w : Word) (p : List ℕ) (i : ℕ) (d : RustDecl.Decl ℕ Ref) (at : placed s ≡ Some (w, p)) (found : position (λ d. is_definition w (ndecl_of d)) m.decls ≡ Some i)
-      (there : slice_get m.decls i ≡ Some d) where
-    pub not_changed : ((t : Surroundings) → changed_decl row_of as_they_are t p (ndecl_of d) ≡ None) → (k : NModule) → Rewrites xs s (nmodule_of m) k → ⊥
-    not_changed none = none_made w p at (one_changed row_of as_they_are seen w p m.decls i d found there ∙ ap (made (λ y. slice_set (ndecls_of m.decls) i y)) (none seen))
+    module _ (q : List ℕ) (i : ℕ) (aim : looked_at s.row p ≡ Some (q, i)) where
+      -- what the row makes of the module is what it makes of its declarations
+      by_decls : (o : Option (List NDecl)) → changed_decls (row i) as_they_are (outside declared) w q (ndecls_of m.decls) ≡ o → rewritten others s.row w p (nmodule_of m) ≡ made with_decls o
+      by_decls o h =
+          ap (from_some (λ z. changed_module (row_result declared s.row z.1) as_they_are others w z.0 (nmodule_of m))) aim
+          ∙ ap (λ r. changed_module r as_they_are others w q (nmodule_of m)) (as_built i)
+          ∙ ap (made with_decls) h
 
-    module _ (e : RustDecl.Decl ℕ Ref) (some : (t : Surroundings) → changed_decl row_of as_they_are t p (ndecl_of d) ≡ Some (ndecl_of e)) where
-      makes_this : rewritten xs s.row w p (nmodule_of m) ≡ Some (nmodule_of (record m { decls = slice_set m.decls i e }))
-      makes_this =
-          by_decls w p (Some (slice_set (ndecls_of m.decls) i (ndecl_of e)))
-          (one_changed row_of as_they_are seen w p m.decls i d found there ∙ ap (made (λ y. slice_set (ndecls_of m.decls) i y)) (some seen))
-          ∙ ap (λ ds. Some (with_decls ds)) (sym (set_is m.decls i e))
+      pub not_defined : position (λ d. is_definition w (ndecl_of d)) m.decls ≡ None → (after : List NModule) → Makes s (nmodule_of m ∷ others) after → ⊥
+      not_defined none = none_made (by_decls None (none_changed (row i) as_they_are (outside declared) w q m.decls none))
 
-      pub not_within : (IsWithinLimits (nmodule_of (record m { decls = slice_set m.decls i e })) → ⊥) → (k : NModule) → Rewrites xs s (nmodule_of m) k → ⊥
-      not_within beyond k rewrites =
-          let said = says xs s (nmodule_of m) k is rewrites in
-          let same : (w, p) ≡ (said.word, said.path) = same_Some _ _ (sym at ∙ said.is_placed) in
-          let result : nmodule_of (record m { decls = slice_set m.decls i e }) ≡ k =
-          same_Some _ _ (sym makes_this ∙ ap (λ q. rewritten xs s.row q.0 q.1 (nmodule_of m)) same ∙ said.makes) in
-          beyond (subst IsWithinLimits (sym result) said.within)
+      module _ (j : ℕ) (d : RustDecl.Decl ℕ Ref) (found : position (λ d. is_definition w (ndecl_of d)) m.decls ≡ Some j) (there : slice_get m.decls j ≡ Some d) where
+        pub not_changed : changed_decl (row i) as_they_are (outside declared) q (ndecl_of d) ≡ None → (after : List NModule) → Makes s (nmodule_of m ∷ others) after → ⊥
+        not_changed none =
+            none_made (by_decls None (one_changed (row i) as_they_are (outside declared) w q m.decls j d found there ∙ ap (made (λ y. slice_set (ndecls_of m.decls) j y)) none))
 
-      pub is_taken : IsWithinLimits (nmodule_of (record m { decls = slice_set m.decls i e })) → Rewrites xs s (nmodule_of m) (nmodule_of (record m { decls = slice_set m.decls i e }))
-      is_taken within =
-          subst (λ z. Rewrites xs z (nmodule_of m) (nmodule_of (record m { decls = slice_set m.decls i e }))) (sym (placed_parts s.def s.path s.answer s.row w p at)) (at_a_place s.row w p makes_this within)
+        pub is_changed : (e : RustDecl.Decl ℕ Ref) → changed_decl (row i) as_they_are (outside declared) q (ndecl_of d) ≡ Some (ndecl_of e)
+            → Makes s (nmodule_of m ∷ others) (nmodule_of (record m { decls = slice_set m.decls j e }) ∷ others)
+        is_changed e some = (
+          refl,
+          (
+            w,
+            (
+              p,
+              (
+                at,
+                by_decls (Some (slice_set (ndecls_of m.decls) j (ndecl_of e)))
+                    (one_changed (row i) as_they_are (outside declared) w q m.decls j d found there ∙ ap (made (λ y. slice_set (ndecls_of m.decls) j y)) some)
+                    ∙ ap (λ ds. Some (with_decls ds)) (sym (set_is m.decls j e)),
+              ),
+            ),
+          ),
+        )
 
 -- one item exchanged, and put back
 pub set_back : {X : Type 0} (xs : List X) (i : ℕ) (x y : X) → slice_get xs i ≡ Some x → slice_set (slice_set xs i y) i x ≡ xs

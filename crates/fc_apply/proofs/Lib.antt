@@ -1,4 +1,4 @@
 mod Applied
+mod CasesAround
 mod Decls
 mod InDefinitions
-mod TermSteps

@@ -1,3 +1,2 @@
 pub mod Definitions
 pub mod Steps
-pub mod TermRows

@@ -1,30 +1,20 @@
 //! One step on a module.
-ghost use Rattle.std.specs.Prelude.{◌≡◌, ◌<◌, IfErr, IfOk, IsFalse, IsTrue, List, Ok, length, slice_set, true};
-ghost use Rattle.std.specs.Option.{option_map};
+ghost use Rattle.std.specs.Prelude.{◌≡◌, ◌<◌, IfErr, IfOk, IfSome, IsFalse, IsTrue, List, None, Ok, length, slice_set, true};
 ghost use Rattle.fc_model.specs.Nameless.{NModule as Form};
-ghost use Rattle.fc_model.specs.NamelessView.{nmodule_of};
-ghost use Rattle.fc_rows.specs.Replaying.{Rewrites};
+ghost use Rattle.fc_model.specs.NamelessView.{nmodule_of, nmodules_of};
 ghost use Rattle.fc_rows.specs.ResultLimits.{IsWithinLimits};
-ghost use Rattle.fc_apply.specs.Steps.{placed as spec_placed};
-ghost use Rattle.fc_apply.specs.TermRows.{is_term_row as spec_is_term_row};
+ghost use Rattle.fc_row_at_place.specs.Rows.{is_built as spec_is_built};
+ghost use Rattle.fc_apply.specs.Definitions.{HasDecl, with_decl};
+ghost use Rattle.fc_apply.specs.Steps.{FirstFits, Makes, Takes};
 
+use crate::aiming::{aimed, placed};
 use crate::definitions::{changed_definition, definition_of};
-use crate::rows::is_term_row;
 use fc_log::Step;
 use fc_result_limits::is_within_limits;
-use fc_syntax::{Memory, NDecl, NModule, Place, Text};
+use fc_row_at_place::{Asked, is_built};
+use fc_syntax::{Memory, NDecl, NModule};
 use std::alloc::Global;
 use std::mem;
-
-/// The definition and the place that a step names, where it is one of a row at a place.
-fn placed<'a>(step: &'a Step) -> Option<(&'a Text, &'a [u32])>
-    ensures { option_map (λ p. (p.0.now, p.1.now)) result ≡ spec_placed step.now }
-{
-    match (&step.def, &step.path, &step.answer) {
-        (Some(word), Place::Parts(place), None) => Some((word, place.as_slice())),
-        _ => None,
-    }
-}
 
 /// Puts a declaration in the place of the one of a number, where the module is then within the limits on what is made, and answers whether it is. Where it is not,
 /// and where that cannot be found out, the module is as before.
@@ -44,25 +34,63 @@ fn put_within_limits(module: &mut NModule, number: usize, decl: NDecl) -> Result
     }
 }
 
-/// Takes a step of a row that reads the expression alone, at a place of a definition of a module. Answers whether it was taken: it is not exactly where the row does not
-/// apply at the place, its result is beyond the limits on what is made, or it is no row of these; then nothing has changed. Fails where memory runs out, a distance or a
-/// number of parts has no 32 bits, or calls would go 2^32 deep; then nothing has changed either.
-pub fn apply(alloc: Global, module: &mut NModule, step: &Step) -> Result<bool, Memory>
-    ensures taken { IfOk result (λ b. IsTrue b → (imports : List Form) → Rewrites imports step.now (nmodule_of module.old) (nmodule_of module.new)) }
-    ensures refused { IfOk result (λ b. IsFalse b → IsTrue (spec_is_term_row step.now.row) → (imports : List Form) (after : Form) → Rewrites imports step.now (nmodule_of module.old) after → ⊥) }
-    ensures unchanged { (result ≡ Ok true → ⊥) → module.new ≡ module.old }
+/// The same in the first of some modules.
+fn put_in_first(modules: &mut [NModule], number: usize, decl: NDecl) -> Result<bool, Memory>
+    requires { HasDecl number modules.old }
+    ensures put { IfOk result (λ b. IsTrue b → (modules.new ≡ with_decl number decl modules.old) × FirstFits (nmodules_of modules.new)) }
+    ensures beyond { IfOk result (λ b. IsFalse b → FirstFits (nmodules_of (with_decl number decl modules.old)) → ⊥) }
+    ensures unchanged { (result ≡ Ok true → ⊥) → modules.new ≡ modules.old }
 {
-    if !is_term_row(step.row) {
-        return Ok(false);
+    put_within_limits(&mut modules[0], number, decl)
+}
+
+/// The declaration that a step puts in the place of the one of a number in the first of some modules, whether the module is then within the limits or not. Answers none where
+/// the row does not apply, and where it is none of those that are built. Fails as `apply` does.
+fn changed(
+    alloc: Global,
+    modules: &[NModule],
+    step: &Step,
+) -> Result<Option<(usize, NDecl)>, Memory>
+    ensures some { IfOk result (λ o. IfSome o (λ c. HasDecl c.0 modules.now × Makes step.now (nmodules_of modules.now) (nmodules_of (with_decl c.0 c.1 modules.now)))) }
+    ensures none { IfOk result (λ o. o ≡ None → IsTrue (spec_is_built step.now.row) → (after : List Form) → Makes step.now (nmodules_of modules.now) after → ⊥) }
+{
+    if !is_built(step.row) {
+        return Ok(None);
     }
-    let Some((word, place)) = placed(step) else {
-        return Ok(false);
+    let Some((module, _)) = modules.split_first() else {
+        return Ok(None);
+    };
+    let Some((word, path)) = placed(step) else {
+        return Ok(None);
+    };
+    let Some((place, alternative)) = aimed(step.row, path) else {
+        return Ok(None);
     };
     let Some(number) = definition_of(module.decls.as_slice(), word) else {
-        return Ok(false);
+        return Ok(None);
     };
-    match changed_definition(alloc, module.decls.at(number), place, step.row)? {
-        Some(decl) => put_within_limits(module, number, decl),
+    let asked = Asked {
+        row: step.row,
+        alternative,
+        modules,
+    };
+    match changed_definition(alloc, module.decls.at(number), place, &asked)? {
+        Some(decl) => Ok(Some((number, decl))),
+        None => Ok(None),
+    }
+}
+
+/// Takes a step of a row at a place of a definition of the first of some modules; the others are those that it imports, as their interfaces tell them. Answers whether it was
+/// taken: it is not exactly where the row does not apply at the place, its result is beyond the limits on what is made, or the row is none of those that are built; then
+/// nothing has changed. Fails where memory runs out, a type names a variable out of scope, a distance or a number of parts has no 32 bits, or calls would go 2^32 deep; then
+/// nothing has changed either.
+pub fn apply(alloc: Global, modules: &mut [NModule], step: &Step) -> Result<bool, Memory>
+    ensures taken { IfOk result (λ b. IsTrue b → Takes step.now (nmodules_of modules.old) (nmodules_of modules.new)) }
+    ensures refused { IfOk result (λ b. IsFalse b → IsTrue (spec_is_built step.now.row) → (after : List Form) → Takes step.now (nmodules_of modules.old) after → ⊥) }
+    ensures unchanged { (result ≡ Ok true → ⊥) → modules.new ≡ modules.old }
+{
+    match changed(alloc, &*modules, step)? {
+        Some((number, decl)) => put_in_first(modules, number, decl),
         None => Ok(false),
     }
 }

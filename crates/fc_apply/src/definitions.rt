@@ -5,15 +5,13 @@ ghost use Rattle.fc_syntax.specs.View.{decl_of, expr_of};
 ghost use Rattle.fc_model.specs.NamelessView.{ndecl_of, nexpr_of};
 ghost use Rattle.fc_places.specs.Places.{answered};
 ghost use Rattle.fc_rows.specs.ChangingCoercions.{as_they_are};
-ghost use Rattle.fc_rows.specs.Surroundings.{Surroundings};
-ghost use Rattle.fc_apply.specs.Definitions.{changed_decl, exchanged_in_decl, is_definition as spec_is_definition, part_in_decl};
-ghost use Rattle.fc_apply.specs.TermRows.{term_row};
+ghost use Rattle.fc_rows.specs.Surroundings.{outside};
+ghost use Rattle.fc_row_at_place.specs.Sites.{decls_of, row_of};
+ghost use Rattle.fc_apply.specs.Definitions.{changed_decl, exchanged_in_decl, is_definition as spec_is_definition, row_in_decl};
 
-use crate::rows::built;
 use fc_copies::nameless::copy_decl;
-use fc_log::Row;
-use fc_parts::part_at;
 use fc_places::exchange;
+use fc_row_at_place::{Asked, row_of_right_side};
 use fc_syntax::{Memory, NDecl, NExpr, Text, part};
 use std::alloc::Global;
 
@@ -35,19 +33,22 @@ pub(crate) fn definition_of(decls: &[NDecl], word: &Text) -> Option<usize>
     decls.iter().position(|d| is_definition(d, word))
 }
 
-/// The part of a definition at a place, where a row may look. The right side is part 1. Answers none where no expression stands there.
-fn part_in<'a>(d: &'a NDecl, place: &[u32]) -> Option<&'a NExpr>
-    ensures { option_map (λ e. nexpr_of e.now) result ≡ part_in_decl place.now (ndecl_of d.now) }
+/// What the row that is asked for makes of the part of a definition at a place, where a row may look. The right side is part 1. Answers none where no expression stands there, and
+/// where the row does not apply to it. Fails as `row_of_right_side` does.
+fn row_in(alloc: Global, d: &NDecl, place: &[u32], asked: &Asked) -> Result<Option<NExpr>, Memory>
+    ensures { IfOk result (λ o. option_map nexpr_of o ≡ row_in_decl (row_of asked.now) (outside (decls_of asked.now)) place.now (ndecl_of d.now)) }
 {
-    let (number, rest) = place.split_first()?;
+    let Some((number, rest)) = place.split_first() else {
+        return Ok(None);
+    };
     if *number != part::RIGHT_SIDE {
-        return None;
+        return Ok(None);
     }
     match d {
-        NDecl::Def(_, _, right) => part_at(right, rest),
-        NDecl::Wrap(_, _, right) => part_at(right, rest),
-        NDecl::DataType(_, _, _) | NDecl::NewType(_, _, _, _) => None,
-        NDecl::Family(_, _, _) | NDecl::Axiom(_, _, _, _) => None,
+        NDecl::Def(_, _, right) => row_of_right_side(alloc, right, rest, asked),
+        NDecl::Wrap(_, _, right) => row_of_right_side(alloc, right, rest, asked),
+        NDecl::DataType(_, _, _) | NDecl::NewType(_, _, _, _) => Ok(None),
+        NDecl::Family(_, _, _) | NDecl::Axiom(_, _, _, _) => Ok(None),
     }
 }
 
@@ -70,20 +71,17 @@ fn exchange_in(d: &mut NDecl, place: &[u32], by: NExpr) -> Result<NExpr, NExpr>
     }
 }
 
-/// A definition in which a row replaced the part at a place. Answers none where no expression stands there, or the row does not apply to it. Fails only where memory
-/// runs out, a distance or a number of parts has no 32 bits, or calls would go 2^32 deep.
+/// A definition in which the row that is asked for replaced the part at a place. Answers none where no expression stands there, or the row does not apply to it. Fails as
+/// `row_of_right_side` does.
 pub(crate) fn changed_definition(
     alloc: Global,
     d: &NDecl,
     place: &[u32],
-    row: Row,
+    asked: &Asked,
 ) -> Result<Option<NDecl>, Memory>
-    ensures { (s : Surroundings) → IfOk result (λ o. option_map ndecl_of o ≡ changed_decl (λ _ e. term_row row e) as_they_are s place.now (ndecl_of d.now)) }
+    ensures { IfOk result (λ o. option_map ndecl_of o ≡ changed_decl (row_of asked.now) as_they_are (outside (decls_of asked.now)) place.now (ndecl_of d.now)) }
 {
-    let Some(old) = part_in(d, place) else {
-        return Ok(None);
-    };
-    let Some(new) = built(alloc, row, old)? else {
+    let Some(new) = row_in(alloc, d, place, asked)? else {
         return Ok(None);
     };
     let mut changed = copy_decl(alloc, d)?;

@@ -1,15 +1,17 @@
 -- The parts of an expression, where it is of a form.
 use Rattle.std.specs.Prelude.{Bool, false, [], Option, Some, None}
 use Rattle.fc_syntax.specs.declared.expr.Head.TheVariants as head
-use Rattle.fc_model.specs.Nameless.{NTy, NCo, NArg, NBinder, NBinds, NJoins, NAlts, NoNBinds, MoreNBinds, NoNAlts, MoreNAlts, NBound, NBranch}
-use Rattle.fc_model.specs.Nameless.{NExpr, NApp, NLam, NLet, NCase, NCast, NJoin}
-use Rattle.fc_model.specs.NamelessView.{nalts_of, narg_of, nbinder_of, nbinds_of, nco_of, nexpr_of, njoins_of, nty_of}
+use Rattle.fc_syntax.specs.declared.ty.Name.{Name}
+use Rattle.fc_model.specs.Nameless.{NTy, NCo, NArg, NArgs, NBinder, NBinds, NJoins, NAlts, NoNBinds, MoreNBinds, NoNAlts, MoreNAlts, NBound, NBranch}
+use Rattle.fc_model.specs.Nameless.{NExpr, NApp, NLam, NLet, NCase, NCast, NCon, NJoin}
+use Rattle.fc_model.specs.NamelessView.{nalts_of, narg_of, nargs_of, nbinder_of, nbinds_of, nco_of, nexpr_of, njoins_of, nty_of}
 use Rattle.fc_forms.specs.declared.forms.Application.{Application}
 use Rattle.fc_forms.specs.declared.forms.Binding.{Binding}
 use Rattle.fc_forms.specs.declared.forms.Lambda.{Lambda}
 use Rattle.fc_forms.specs.declared.forms.SingleBinding.{SingleBinding}
 use Rattle.fc_forms.specs.declared.forms.Case.{Case}
 use Rattle.fc_forms.specs.declared.forms.Cast.{Cast}
+use Rattle.fc_forms.specs.declared.forms.Construction.{Construction}
 use Rattle.fc_forms.specs.declared.forms.Joining.{Joining}
 
 -- WHAT AN EXPRESSION IS MADE OF
@@ -44,6 +46,11 @@ abbrev pub cast_parts : NExpr → Option (NExpr × NCo)
 cast_parts (NCast e g) = Some (e, g)
 cast_parts e = None
 
+-- the name of a constructor, and its arguments
+abbrev pub construction_parts : NExpr → Option (Name × NArgs)
+construction_parts (NCon n args) = Some (n, args)
+construction_parts e = None
+
 -- whether join points are recursive, the type of the answer, the join points and the body
 abbrev pub joining_parts : NExpr → Option (Bool × NTy × NJoins × NExpr)
 joining_parts (NJoin r t js b) = Some (r, t, js, b)
@@ -73,6 +80,9 @@ case_of c = (nexpr_of c.scrutinee.now, nty_of c.ty.now, nty_of c.answer.now, nal
 
 abbrev pub cast_of : Cast → NExpr × NCo
 cast_of c = (nexpr_of c.inner.now, nco_of c.coercion.now)
+
+abbrev pub construction_of : Construction → Name × NArgs
+construction_of k = (k.name.now, nargs_of k.arguments.now)
 
 abbrev pub joining_of : Joining → Bool × NTy × NJoins × NExpr
 joining_of j = (j.recursive, nty_of j.answer.now, njoins_of j.points.now, nexpr_of j.body.now)

@@ -3,9 +3,9 @@ ghost use Rattle.std.specs.Prelude.{◌≡◌, IsTrue, ◌↔◌};
 ghost use Rattle.std.specs.Option.{option_map};
 ghost use Rattle.fc_model.specs.Nameless.{NLocal};
 ghost use Rattle.fc_model.specs.NamelessView.{nalts_of, nexpr_of};
-ghost use Rattle.fc_forms.specs.Forms.{application_of, application_parts, binding_of, binding_parts, case_of, case_parts, cast_of, cast_parts, default_body, joining_of, joining_parts, lambda_of, lambda_parts, single_binding_of, single_binding_parts};
+ghost use Rattle.fc_forms.specs.Forms.{application_of, application_parts, binding_of, binding_parts, case_of, case_parts, cast_of, cast_parts, construction_of, construction_parts, default_body, joining_of, joining_parts, lambda_of, lambda_parts, single_binding_of, single_binding_parts};
 
-use fc_syntax::{Head, NAlt, NArg, NBind, NBinder, NCo, NExpr, NJoinBind, NTy, Ref, Text};
+use fc_syntax::{Head, NAlt, NArg, NBind, NBinder, NCo, NExpr, NJoinBind, NTy, Name, Ref, Text};
 
 /// The parts of an application.
 #[derive(Clone, Copy)]
@@ -58,6 +58,15 @@ pub struct Case<'a> {
     pub answer: &'a NTy,
     /// Its alternatives.
     pub alternatives: &'a [NAlt],
+}
+
+/// The parts of a constructor with its arguments.
+#[derive(Clone, Copy)]
+pub struct Construction<'a> {
+    /// The name of the constructor.
+    pub name: &'a Name,
+    /// Its arguments.
+    pub arguments: &'a [NArg],
 }
 
 /// The parts of a cast.
@@ -168,6 +177,20 @@ pub fn as_cast<'a>(e: &'a NExpr) -> Option<Cast<'a>>
         NExpr::Cast(inner, coercion) => Some(Cast {
             inner: &**inner,
             coercion,
+        }),
+        _ => None,
+    }
+}
+
+/// The parts of an expression where it is a constructor with its arguments.
+#[tactic(auto, using(fc_syntax::proofs::View::view_rules))]
+pub fn as_construction<'a>(e: &'a NExpr) -> Option<Construction<'a>>
+    ensures { option_map construction_of result ≡ construction_parts (nexpr_of e.now) }
+{
+    match e {
+        NExpr::Con(name, arguments) => Some(Construction {
+            name,
+            arguments: arguments.as_slice(),
         }),
         _ => None,
     }

@@ -7,8 +7,9 @@ mod kinds;
 mod making;
 
 pub use forms::{
-    Application, Binding, Case, Cast, Joining, Lambda, SingleBinding, as_application, as_binding,
-    as_case, as_cast, as_joining, as_lambda, as_single_binding, is_innermost, only_default,
+    Application, Binding, Case, Cast, Construction, Joining, Lambda, SingleBinding, as_application,
+    as_binding, as_case, as_cast, as_construction, as_joining, as_lambda, as_single_binding,
+    is_innermost, only_default,
 };
 pub use kinds::{are_trivial, is_trivial, is_unlifted, is_value};
 pub use making::let_of;

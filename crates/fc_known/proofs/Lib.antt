@@ -1,2 +1,4 @@
 mod Moved
+mod Listed
 mod Behind
+mod BehindPoints

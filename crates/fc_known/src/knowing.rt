@@ -41,7 +41,7 @@ impl<'x> Fact<'x> {
 }
 
 /// So many binders of values.
-fn values(count: u32) -> Shift
+pub(crate) fn values(count: u32) -> Shift
     ensures { result ≡ record { types = 0; coercions = 0; values = count; joins = 0 } }
 {
     Shift {

@@ -1,5 +1,5 @@
 pub mod Changes
-mod PartRules
+pub mod PartRules
 pub mod Parted
 pub mod RowsAtParts
 pub mod Tests

@@ -1,4 +1,4 @@
--- The equations of the part at a place, and of lists of parts by one of their items.
+-- The equations of what is asked at a place, and of lists of parts by one of their items.
 use Rattle.std.proofs.Common.{◌≡◌, ℕ, ℤ, zero, suc, ◌≤◌, Bool, true, false, nat_eq, List, [], ◌∷◌, Option, Some, None, length, refl, ap, ◌∙◌, arith, if◌then◌else◌}
 use Rattle.std.specs.Prelude.{◌↔◌, IsTrue, slice_get}
 use Rattle.fc_syntax.specs.declared.ty.Ref.{Ref}
@@ -13,47 +13,50 @@ use Rattle.fc_syntax.specs.declared.expr.Head.TheVariants as head
 use Rattle.fc_model.specs.Nameless.{NTy, NBinder, NExpr, NArg, NBind, NBound, NJoinBind, NJoined, NAlt, NBranch, MoreNExprs, MoreNArgs, MoreNBinds, MoreNJoins, MoreNAlts}
 use Rattle.fc_model.specs.NamelessView.{nalt_of, nalts_of, narg_of, nargs_of, nbind_of, nbinders_of, nbinds_of, nexpr_of, nexprs_of, njoin_of, njoins_of}
 pub use Rattle.fc_numbers.proofs.Counted.{binds_counted, joins_counted}
-use Rattle.fc_rows.specs.Surroundings.{head_binds}
-use Rattle.fc_parts.specs.PartsAt.{of_alt, of_arg, of_bind, of_expr, of_join, of_part, part_at, part_in_alt, part_in_bind, part_in_join}
+use Rattle.fc_rows.specs.Surroundings.{Surroundings, behind_binders, head_binds, in_alternative}
+use Rattle.fc_parts.specs.PartsAt.{at_place, at_place_of_alt, at_place_of_bind, at_place_of_join, of_alt, of_arg, of_bind, of_expr, of_join, of_part}
 
 -- PLACES
 
-pub part_nil : (e : NExpr) (p : List ℕ) → length p ≡ 0 → part_at p e ≡ Some e
-unfolding part_at
-part_nil e [] is = refl
-part_nil e (i ∷ p) is = absurd (omega (arith, is))
+module _ {X : Type 0} (ask : Surroundings → NExpr → Option X) where
+  pub place_nil : (s : Surroundings) (e : NExpr) (p : List ℕ) → length p ≡ 0 → at_place ask p s e ≡ ask s e
+  unfolding at_place
+  place_nil s e [] is = refl
+  place_nil s e (i ∷ p) is = absurd (omega (arith, is))
 
-pub part_cons : (i : ℕ) (p : List ℕ) (e : NExpr) → part_at (i ∷ p) e ≡ of_part i (part_at p) (part_in_bind p) (part_in_join p) (part_in_alt p) e
-unfolding part_at
-part_cons i p e = refl
+  pub place_cons : (i : ℕ) (p : List ℕ) (s : Surroundings) (e : NExpr)
+      → at_place ask (i ∷ p) s e ≡ of_part i (at_place ask p) (at_place_of_bind ask p) (at_place_of_join ask p) (at_place_of_alt ask p) s e
+  unfolding at_place
+  place_cons i p s e = refl
 
-pub bind_nil : (b : NBind) (p : List ℕ) → length p ≡ 0 → part_in_bind p b ≡ None
-unfolding part_in_bind
-bind_nil b [] is = refl
-bind_nil b (i ∷ p) is = absurd (omega (arith, is))
+  pub bind_nil : (s : Surroundings) (b : NBind) (p : List ℕ) → length p ≡ 0 → at_place_of_bind ask p s b ≡ None
+  unfolding at_place_of_bind
+  bind_nil s b [] is = refl
+  bind_nil s b (i ∷ p) is = absurd (omega (arith, is))
 
-pub bind_cons : (i : ℕ) (p : List ℕ) (t : NTy) (e : NExpr) → part_in_bind (i ∷ p) (NBound t e) ≡ (if nat_eq i 1 then part_at p e else None)
-unfolding part_in_bind
-bind_cons i p t e = refl
+  pub bind_cons : (i : ℕ) (p : List ℕ) (s : Surroundings) (t : NTy) (e : NExpr) → at_place_of_bind ask (i ∷ p) s (NBound t e) ≡ (if nat_eq i 1 then at_place ask p s e else None)
+  unfolding at_place_of_bind
+  bind_cons i p s t e = refl
 
-pub join_nil : (j : NJoinBind) (p : List ℕ) → length p ≡ 0 → part_in_join p j ≡ None
-unfolding part_in_join
-join_nil j [] is = refl
-join_nil j (i ∷ p) is = absurd (omega (arith, is))
+  pub join_nil : (s : Surroundings) (j : NJoinBind) (p : List ℕ) → length p ≡ 0 → at_place_of_join ask p s j ≡ None
+  unfolding at_place_of_join
+  join_nil s j [] is = refl
+  join_nil s j (i ∷ p) is = absurd (omega (arith, is))
 
-pub join_cons : (i : ℕ) (p : List ℕ) (ps : List NBinder) (e : NExpr) → part_in_join (i ∷ p) (NJoined ps e) ≡ (if nat_eq i (length ps) then part_at p e else None)
-unfolding part_in_join
-join_cons i p ps e = refl
+  pub join_cons : (i : ℕ) (p : List ℕ) (s : Surroundings) (ps : List NBinder) (e : NExpr)
+      → at_place_of_join ask (i ∷ p) s (NJoined ps e) ≡ (if nat_eq i (length ps) then at_place ask p (behind_binders ps s) e else None)
+  unfolding at_place_of_join
+  join_cons i p s ps e = refl
 
-pub alt_nil : (a : NAlt) (p : List ℕ) → length p ≡ 0 → part_in_alt p a ≡ None
-unfolding part_in_alt
-alt_nil a [] is = refl
-alt_nil a (i ∷ p) is = absurd (omega (arith, is))
+  pub alt_nil : (x : NExpr) (t : NTy) (hs : List Head) (s : Surroundings) (a : NAlt) (p : List ℕ) → length p ≡ 0 → at_place_of_alt ask p x t hs s a ≡ None
+  unfolding at_place_of_alt
+  alt_nil x t hs s a [] is = refl
+  alt_nil x t hs s a (i ∷ p) is = absurd (omega (arith, is))
 
-pub alt_cons : (i : ℕ) (p : List ℕ) (h : Head) (bs : List NBinder) (e : NExpr)
-    → part_in_alt (i ∷ p) (NBranch h bs e) ≡ (if head_binds h bs then (if nat_eq i (length bs) then part_at p e else None) else None)
-unfolding part_in_alt
-alt_cons i p h bs e = refl
+  pub alt_cons : (i : ℕ) (p : List ℕ) (x : NExpr) (t : NTy) (hs : List Head) (s : Surroundings) (h : Head) (bs : List NBinder) (e : NExpr)
+      → at_place_of_alt ask (i ∷ p) x t hs s (NBranch h bs e) ≡ (if head_binds h bs then (if nat_eq i (length bs) then at_place ask p (in_alternative x t hs h bs s) e else None) else None)
+  unfolding at_place_of_alt
+  alt_cons i p x t hs s h bs e = refl
 
 -- LISTS
 
@@ -146,4 +149,4 @@ pub binders_counted : (bs : List (RustBinder.Binder ℕ)) → length (nbinders_o
 binders_counted [] = refl
 binders_counted (b ∷ bs) = ap (λ n. suc n) (binders_counted bs)
 
-pub ruleset part_rules = (part_nil, part_cons, bind_nil, bind_cons, join_nil, join_cons, alt_nil, alt_cons, arg_there, arg_past, expr_there, expr_past, bind_there, bind_past, join_there, join_past, alt_there, alt_past, binds_counted, joins_counted, binders_counted)
+pub ruleset part_rules = (place_nil, place_cons, bind_nil, bind_cons, join_nil, join_cons, alt_nil, alt_cons, arg_there, arg_past, expr_there, expr_past, bind_there, bind_past, join_there, join_past, alt_there, alt_past, binds_counted, joins_counted, binders_counted)

@@ -1,5 +1,4 @@
--- What a row that reads only the part makes at a place: nothing where no part stands or the row makes nothing of it, else the whole with what it makes in the place
--- of the part.
+-- What a row makes of a whole at a place: nothing where it makes nothing of the part there, else the whole with what it makes in the place of that part.
 use Rattle.std.proofs.Common.{◌≡◌, ℕ, List, Option, Some, None, ap, ◌∙◌}
 use Rattle.fc_syntax.specs.declared.ty.Ref.{Ref}
 use Rattle.fc_model.specs.Nameless.{NExpr}
@@ -9,52 +8,34 @@ use Rattle.fc_rows.specs.Changing.{changed}
 use Rattle.fc_rows.specs.ChangingCoercions.{as_they_are}
 use Rattle.fc_rows.specs.Surroundings.{Surroundings}
 use Rattle.fc_parts.specs.Found.{Found}
-use Rattle.fc_parts.specs.PartsAt.{part_at}
+use Rattle.fc_parts.specs.PartsAt.{at_place}
 use Rattle.fc_parts.proofs.Changes.{IsMade, made_at, nowhere, there}
-use Rattle.fc_parts.proofs.Parted.{part_is_found, the_part}
+use Rattle.fc_parts.proofs.Parted.{asked, asked_of_found}
 
-module _ (row : NExpr → Option NExpr) where
-  abbrev of_part : Surroundings → NExpr → Option NExpr
-  of_part s e = row e
+module _ (row : Surroundings → NExpr → Option NExpr) where
+  nothing_there : {by : WExpr} {f : Option Found} {ex : Exchanged ℕ Ref _ WExpr} {ch : Option NExpr} → IsMade row by bare_expr f ex ch → asked row f ≡ None → ch ≡ None
+  nothing_there (nowhere none) is = none
+  nothing_there (there s old new none some) is = none is
 
-  -- no part
-  none_there : {by : WExpr} {f : Option Found} {ex : Exchanged ℕ Ref _ WExpr} {ch : Option NExpr} → IsMade of_part by bare_expr f ex ch → the_part f ≡ None → ch ≡ None
-  none_there (nowhere none) is = none
-  none_there (there s old new none some) is = cc
-
-  -- a part of which the row makes nothing
-  nothing_there : {by : WExpr} {f : Option Found} {ex : Exchanged ℕ Ref _ WExpr} {ch : Option NExpr} {x : NExpr} → IsMade of_part by bare_expr f ex ch → the_part f ≡ Some x → row x ≡ None → ch ≡ None
-  nothing_there (nowhere none) is made_none = none
-  nothing_there {x = x} (there s old new none some) is made_none =
-      let same : bare_expr old ≡ x = cc in none (ap row same ∙ made_none)
-
-  -- a part of which it makes something
-  something_there : {by : WExpr} {f : Option Found} {ex : Exchanged ℕ Ref _ WExpr} {ch : Option NExpr} {x : NExpr} {r : WExpr × WExpr} → IsMade of_part by bare_expr f ex ch → the_part f ≡ Some x
-      → row x ≡ Some (bare_expr by) → ex ≡ Some r → ch ≡ Some (bare_expr r.1)
-  something_there (nowhere none) is made_some exchanged_is = cc
-  something_there {x = x} {r = r} (there s old new none some) is made_some exchanged_is =
-      let same : bare_expr old ≡ x = cc in
-      let rest : new ≡ r.1 = ap (λ o. given o) exchanged_is in
-      some (ap row same ∙ made_some) ∙ ap (λ z. Some (bare_expr z)) rest
+  something_there : {by : WExpr} {f : Option Found} {ex : Exchanged ℕ Ref _ WExpr} {ch : Option NExpr} {r : WExpr × WExpr} → IsMade row by bare_expr f ex ch → asked row f ≡ Some (bare_expr by)
+      → ex ≡ Some r → ch ≡ Some (bare_expr r.1)
+  something_there (nowhere none) is put = cc
+  something_there (there s old new none some) is put = some is ∙ ap (λ o. Some (bare_expr (given o))) put
     where
       given : Option (WExpr × WExpr) → WExpr
       given (Some q) = q.1
       given None = new
 
-  some_there : {by : WExpr} {f : Option Found} {ex : Exchanged ℕ Ref _ WExpr} {ch : Option NExpr} {x : NExpr} → IsMade of_part by bare_expr f ex ch → the_part f ≡ Some x → ex ≡ None → ⊥
+  some_there : {by : WExpr} {f : Option Found} {ex : Exchanged ℕ Ref _ WExpr} {ch : Option NExpr} {x : NExpr} → IsMade row by bare_expr f ex ch → asked row f ≡ Some x → ex ≡ None → ⊥
   some_there (nowhere none) is absent = cc
   some_there (there s old new none some) is absent = cc
 
   module _ (s : Surroundings) (p : List ℕ) (e : WExpr) where
-    pub no_part : part_at p (bare_expr e) ≡ None → changed of_part as_they_are s p (bare_expr e) ≡ None
-    no_part is = none_there (made_at of_part e s p e) (part_is_found s p (bare_expr e) ∙ is)
+    pub not_made : at_place row p s (bare_expr e) ≡ None → changed row as_they_are s p (bare_expr e) ≡ None
+    not_made is = nothing_there (made_at row e s p e) (asked_of_found row s p (bare_expr e) ∙ is)
 
-    pub no_row : (x : NExpr) → part_at p (bare_expr e) ≡ Some x → row x ≡ None → changed of_part as_they_are s p (bare_expr e) ≡ None
-    no_row x is none = nothing_there (made_at of_part e s p e) (part_is_found s p (bare_expr e) ∙ is) none
+    pub is_made : (by : WExpr) (r : WExpr × WExpr) → at_place row p s (bare_expr e) ≡ Some (bare_expr by) → exchanged by p e ≡ Some r → changed row as_they_are s p (bare_expr e) ≡ Some (bare_expr r.1)
+    is_made by r is put = something_there (made_at row by s p e) (asked_of_found row s p (bare_expr e) ∙ is) put
 
-    pub row_made : (by : WExpr) (x : NExpr) (r : WExpr × WExpr) → part_at p (bare_expr e) ≡ Some x → row x ≡ Some (bare_expr by) → exchanged by p e ≡ Some r
-        → changed of_part as_they_are s p (bare_expr e) ≡ Some (bare_expr r.1)
-    row_made by x r is some put = something_there (made_at of_part by s p e) (part_is_found s p (bare_expr e) ∙ is) some put
-
-    pub is_put : (by : WExpr) (x : NExpr) → part_at p (bare_expr e) ≡ Some x → exchanged by p e ≡ None → ⊥
-    is_put by x is absent = some_there (made_at of_part by s p e) (part_is_found s p (bare_expr e) ∙ is) absent
+    pub is_put : (by : WExpr) (x : NExpr) → at_place row p s (bare_expr e) ≡ Some x → exchanged by p e ≡ None → ⊥
+    is_put by x is absent = some_there (made_at row by s p e) (asked_of_found row s p (bare_expr e) ∙ is) absent

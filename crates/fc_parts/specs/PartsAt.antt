@@ -1,11 +1,12 @@
--- The part of an expression at a place, where a row may look. A place is a list of part numbers, from the outermost part inwards;
--- the parts of an expression are counted from 0 in the order of the text.
-use Rattle.std.specs.Prelude.{ℕ, zero, suc, ◌-◌, nat_eq, nat_lt, if◌then◌else◌, List, [], ◌∷◌, length, Option, Some, None}
-use Rattle.fc_model.specs.Nameless.{NArg, NATerm, NAType, NACo, NBind, NBound, NJoinBind, NJoined, NAlt, NBranch}
+-- What is asked of the part of an expression at a place, where a row may look, and of what stands around it. A place is a list of part numbers, from the outermost
+-- part inwards; the parts of an expression are counted from 0 in the order of the text.
+use Rattle.std.specs.Prelude.{ℕ, zero, suc, ◌-◌, nat_eq, nat_lt, if◌then◌else◌, List, [], ◌∷◌, length, Option, None}
+use Rattle.fc_syntax.specs.declared.expr.Head.{Head}
+use Rattle.fc_model.specs.Nameless.{NTy, NArg, NATerm, NAType, NACo, NBind, NBound, NJoinBind, NJoined, NAlt, NBranch}
 use Rattle.fc_model.specs.Nameless.{NExpr, NLocal, NVar, NLit, NApp, NLam, NLet, NCase, NCast, NCon, NPrim, NFail, NJoin, NJump}
 use Rattle.fc_model.specs.Nameless.{NArgs, NoNArgs, MoreNArgs, NExprs, NoNExprs, MoreNExprs, NBinds, NoNBinds, MoreNBinds, NJoins, NoNJoins, MoreNJoins, NAlts, NoNAlts, MoreNAlts}
 use Rattle.fc_model.specs.Replacing.{bind_count, join_count}
-use Rattle.fc_rows.specs.Surroundings.{head_binds}
+use Rattle.fc_rows.specs.Surroundings.{Surroundings, apart, at_head, at_join_sides, at_right_sides, behind_binder, behind_binders, behind_binds, behind_joins, head_binds, in_alternative, listed_heads}
 
 -- the one of a number in a list of arguments, of operands, of binds, of join points and of alternatives
 module _ {X : Type 0} where
@@ -39,37 +40,41 @@ module _ {X : Type 0} where
   of_term f (NAType t) = None
   of_term f (NACo g) = None
 
-  -- of a part of an expression: an expression, a bind, a join point or an alternative
-  abbrev pub of_part : ℕ → (NExpr → Option X) → (NBind → Option X) → (NJoinBind → Option X) → (NAlt → Option X) → NExpr → Option X
-  of_part i f b j c (NLocal v) = None
-  of_part i f b j c (NVar n) = None
-  of_part i f b j c (NLit n) = None
-  of_part i f b j c (NApp head a) = if nat_eq i 0 then f head else (if nat_eq i 1 then of_term f a else None)
-  of_part i f b j c (NLam x e) = if nat_eq i 1 then f e else None
-  of_part i f b j c (NLet r bs e) = if nat_eq i (bind_count bs) then f e else of_bind i b bs
-  of_part i f b j c (NCase e t u alts) = if nat_eq i 0 then f e else (if nat_lt i 3 then None else of_alt (i - 3) c alts)
-  of_part i f b j c (NCast e g) = if nat_eq i 0 then f e else None
-  of_part i f b j c (NCon n args) = of_arg i (of_term f) args
-  of_part i f b j c (NPrim op es) = of_expr i f es
-  of_part i f b j c (NFail t) = None
-  of_part i f b j c (NJoin r t js e) = if nat_eq i 0 then None else (if nat_eq (i - 1) (join_count js) then f e else of_join (i - 1) j js)
-  of_part i f b j c (NJump n args) = of_arg i (of_term f) args
+  -- What is asked of a part of an expression, in the surroundings of that part: of an expression, a bind, a join point, or an alternative of a case on an
+  -- expression, whose binder is of a type, among the heads that are listed.
+  abbrev pub of_part : ℕ → (Surroundings → NExpr → Option X) → (Surroundings → NBind → Option X) → (Surroundings → NJoinBind → Option X) → (NExpr → NTy → List Head → Surroundings → NAlt → Option X) → Surroundings
+      → NExpr → Option X
+  of_part i f b j c s (NLocal v) = None
+  of_part i f b j c s (NVar n) = None
+  of_part i f b j c s (NLit n) = None
+  of_part i f b j c s (NApp head a) = if nat_eq i 0 then f (at_head a s) head else (if nat_eq i 1 then of_term (f (apart s)) a else None)
+  of_part i f b j c s (NLam x e) = if nat_eq i 1 then f (behind_binder x (apart s)) e else None
+  of_part i f b j c s (NLet r bs e) = if nat_eq i (bind_count bs) then f (behind_binds r bs s) e else of_bind i (b (at_right_sides r bs s)) bs
+  of_part i f b j c s (NCase e t u alts) = if nat_eq i 0 then f (apart s) e else (if nat_lt i 3 then None else of_alt (i - 3) (c e t (listed_heads alts) s) alts)
+  of_part i f b j c s (NCast e g) = if nat_eq i 0 then f (apart s) e else None
+  of_part i f b j c s (NCon n args) = of_arg i (of_term (f (apart s))) args
+  of_part i f b j c s (NPrim op es) = of_expr i (f (apart s)) es
+  of_part i f b j c s (NFail t) = None
+  of_part i f b j c s (NJoin r t js e) =
+      if nat_eq i 0 then None else (if nat_eq (i - 1) (join_count js) then f (behind_joins r t js s) e else of_join (i - 1) (j (at_join_sides r t js s)) js)
+  of_part i f b j c s (NJump n args) = of_arg i (of_term (f (apart s))) args
 
 -- Of arguments only terms have parts that rows look at; the right side is the last part of a bind, of a join point and of an alternative, where a default and a
 -- literal bind nothing.
-unfoldable mutual
-  pub part_at : List ℕ → NExpr → Option NExpr
-  part_at [] e = Some e
-  part_at (i ∷ p) e = of_part i (part_at p) (part_in_bind p) (part_in_join p) (part_in_alt p) e
+module _ {X : Type 0} (ask : Surroundings → NExpr → Option X) where
+  unfoldable mutual
+    pub at_place : List ℕ → Surroundings → NExpr → Option X
+    at_place [] s e = ask s e
+    at_place (i ∷ p) s e = of_part i (at_place p) (at_place_of_bind p) (at_place_of_join p) (at_place_of_alt p) s e
 
-  pub part_in_bind : List ℕ → NBind → Option NExpr
-  part_in_bind [] b = None
-  part_in_bind (i ∷ p) (NBound t e) = if nat_eq i 1 then part_at p e else None
+    pub at_place_of_bind : List ℕ → Surroundings → NBind → Option X
+    at_place_of_bind [] s b = None
+    at_place_of_bind (i ∷ p) s (NBound t e) = if nat_eq i 1 then at_place p s e else None
 
-  pub part_in_join : List ℕ → NJoinBind → Option NExpr
-  part_in_join [] j = None
-  part_in_join (i ∷ p) (NJoined ps e) = if nat_eq i (length ps) then part_at p e else None
+    pub at_place_of_join : List ℕ → Surroundings → NJoinBind → Option X
+    at_place_of_join [] s j = None
+    at_place_of_join (i ∷ p) s (NJoined ps e) = if nat_eq i (length ps) then at_place p (behind_binders ps s) e else None
 
-  pub part_in_alt : List ℕ → NAlt → Option NExpr
-  part_in_alt [] a = None
-  part_in_alt (i ∷ p) (NBranch h bs e) = if head_binds h bs then (if nat_eq i (length bs) then part_at p e else None) else None
+    pub at_place_of_alt : List ℕ → NExpr → NTy → List Head → Surroundings → NAlt → Option X
+    at_place_of_alt [] e t hs s a = None
+    at_place_of_alt (i ∷ p) e t hs s (NBranch h bs b) = if head_binds h bs then (if nat_eq i (length bs) then at_place p (in_alternative e t hs h bs s) b else None) else None

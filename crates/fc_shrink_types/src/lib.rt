@@ -4,6 +4,8 @@
 
 mod applications;
 mod casts;
+mod failures;
 
 pub use applications::beta;
 pub use casts::cast_refl;
+pub use failures::fail_absorb;

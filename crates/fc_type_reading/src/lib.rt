@@ -5,4 +5,5 @@ mod constructors;
 mod pieces;
 mod reading;
 
+pub use pieces::applied_type;
 pub use reading::type_read_off;

@@ -47,7 +47,7 @@ pub(crate) fn jump_type(distance: u32, context: &Context) -> Option<TypeId>
 /// The type of what is of the type `head` and is applied to an argument, which is looked at only where it is a type. Nothing where no such
 /// argument is taken. Fails only where memory runs out, and where the argument is a type that names a variable out of scope.
 #[tactic(auto, using(fc_syntax::proofs::View::view_rules, fc_type_scope::proofs::Proven::table_rules, crate::proofs::Steps::applied_rules))]
-pub(crate) fn applied_type(
+pub fn applied_type(
     alloc: Global,
     head: TypeId,
     arg: &NArg,

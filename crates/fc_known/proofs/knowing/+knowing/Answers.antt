@@ -1,13 +1,14 @@
 use Rattle.std.proofs.Common.{◌∙◌, sym, ap, arith, subst}
 use Rattle.std.proofs.lemmas.Result.{IfOk-weaker}
-use Rattle.fc_model.specs.NamelessView.{nbinders_of, nbinds_of, nty_of}
+use Rattle.fc_model.specs.NamelessView.{nbinders_of, nbinds_of}
 use Rattle.fc_model.specs.Replacing.{bind_count}
 use Rattle.fc_numbers.proofs.Counted.{binds_counted}
 use Rattle.fc_rows.specs.Surroundings.{known_in_group, moved_known, past_values}
 use Rattle.fc_subst.specs.Replacements.{renaming_of}
 use Rattle.fc_known.specs.Around.{HasCounts, surroundings_of}
 use Rattle.fc_known.specs.Told.{told}
-use Rattle.fc_known.proofs.Behind.{alternative_from_outside, from_outside, group_from_outside, inside_it, joins_from_outside, one_of, own_unknown, tested_at}
+use Rattle.fc_known.proofs.Behind.{alternative_from_outside, from_outside, group_from_outside, inside_it, one_of, own_unknown, tested_at}
+use Rattle.fc_known.proofs.Moved.{known_moves, past_points}
 use Rattle.fc_known.proofs.knowing.+knowing.Goals as goal
 
 pub known-returns-then-distance-own : goal.known-returns-then-distance-own
@@ -41,7 +42,7 @@ known-returns-in_ok-known-in-Group t c ms = IfOk-weaker c.past-else-distance-cou
 pub known-returns-in_ok-known-in-Joins : goal.known-returns-in_ok-known-in-Joins
 known-returns-in_ok-known-in-Joins t c ms = IfOk-weaker c.past-in-Joins.result _ _ (λ f h.
     h
-    ∙ joins_from_outside c.in-Joins.field-0 (nty_of c.in-Joins.field-1.now) c.in-Joins.points.now (surroundings_of ms c.in-Joins.outer.now) c.in_ok-joins-in-Joins.joins c.args.distance (told c.in_ok-known-in-Joins.field-0)
+    ∙ past_points known_moves c.in-Joins.points.now c.in_ok-joins-in-Joins.joins (told c.in_ok-known-in-Joins.field-0) _
     c.in_ok-joins-in-Joins.ensures (c.in_ok-known-in-Joins.ensures ms)
     ∙ ap (λ f. (surroundings_of ms f).locals c.args.distance) (sym c.in-Joins.is)) c.past-in-Joins.ensures
 

@@ -1,13 +1,13 @@
 use Rattle.std.proofs.Common.{◌∙◌, sym, ap, subst}
 use Rattle.std.specs.Option.{option_map}
 use Rattle.std.proofs.lemmas.Result.{IfOk-weaker}
-use Rattle.fc_model.specs.NamelessView.{nbinders_of, nexpr_of, nty_of}
+use Rattle.fc_model.specs.NamelessView.{nbinders_of, nexpr_of}
 use Rattle.fc_rows.specs.Surroundings.{known_of, moved_known}
 use Rattle.fc_subst.specs.Replacements.{renaming_of}
 use Rattle.fc_known.specs.Around.{HasCounts, surroundings_of}
 use Rattle.fc_known.specs.Told.{right_side, told}
-use Rattle.fc_known.proofs.Behind.{alternative_named, group_named, inside_named, joins_named, named_from_outside}
-use Rattle.fc_known.proofs.Moved.{moved_none}
+use Rattle.fc_known.proofs.Behind.{alternative_named, inside_named, named_from_outside}
+use Rattle.fc_known.proofs.Moved.{known_moves, moved_none, past_group, past_points}
 use Rattle.fc_known.proofs.knowing.+known_name.Goals as goal
 
 pub returns-then-is_name : goal.returns-then-is_name
@@ -17,7 +17,7 @@ returns-then-is_name t c ms tells =
 
 pub returns-in-Some : goal.returns-in-Some
 returns-in-Some t c ms tells =
-    sym (moved_none (known_of (nexpr_of c.in-Some.e.now)))
+    sym (moved_none known_moves (known_of (nexpr_of c.in-Some.e.now)))
     ∙ ap (λ o. right_side (option_map (λ e. nexpr_of e.now) o)) (sym c.in-Some.is)
     ∙ tells
     ∙ ap (λ f. (surroundings_of ms f).names c.args.name.now) (sym c.in-Outside.is)
@@ -33,14 +33,14 @@ pub returns-in_ok-known_name-in-Group : goal.returns-in_ok-known_name-in-Group
 returns-in_ok-known_name-in-Group t c ms tells = IfOk-weaker c.past-in-Group.result _ _ (λ f h.
     h
     ∙ ap (λ p. moved_known (renaming_of p) (told c.in_ok-known_name-in-Group.field-0)) c.values.ensures
-    ∙ group_named c.in-Group.field-0 c.in-Group.bindings.now (surroundings_of ms c.in-Group.outer.now) c.in_ok-count-in-Group.count c.args.name.now (told c.in_ok-known_name-in-Group.field-0)
+    ∙ past_group known_moves c.in-Group.bindings.now c.in_ok-count-in-Group.count (told c.in_ok-known_name-in-Group.field-0) _
     c.in_ok-count-in-Group.ensures (c.in_ok-known_name-in-Group.ensures ms tells)
     ∙ ap (λ f. (surroundings_of ms f).names c.args.name.now) (sym c.in-Group.is)) c.past-in-Group.ensures
 
 pub returns-in_ok-known_name-in-Joins : goal.returns-in_ok-known_name-in-Joins
 returns-in_ok-known_name-in-Joins t c ms tells = IfOk-weaker c.past-in-Joins.result _ _ (λ f h.
     h
-    ∙ joins_named c.in-Joins.field-0 (nty_of c.in-Joins.field-1.now) c.in-Joins.points.now (surroundings_of ms c.in-Joins.outer.now) c.in_ok-joins-in-Joins.joins c.args.name.now (told c.in_ok-known_name-in-Joins.field-0)
+    ∙ past_points known_moves c.in-Joins.points.now c.in_ok-joins-in-Joins.joins (told c.in_ok-known_name-in-Joins.field-0) _
     c.in_ok-joins-in-Joins.ensures (c.in_ok-known_name-in-Joins.ensures ms tells)
     ∙ ap (λ f. (surroundings_of ms f).names c.args.name.now) (sym c.in-Joins.is)) c.past-in-Joins.ensures
 

@@ -2,7 +2,7 @@ use Rattle.std.proofs.Common.{◌∙◌, ap, sym}
 use Rattle.fc_model.specs.NamelessView.{nbinders_of}
 use Rattle.fc_rows.specs.Surroundings.{head_binds}
 use Rattle.fc_parts.proofs.PartRules.{default_binds, literal_binds}
-use Rattle.fc_parts.proofs.parts.head_binds.Goals as goal
+use Rattle.fc_parts.proofs.alternatives.head_binds.Goals as goal
 
 pub returns-in-Default : goal.returns-in-Default
 returns-in-Default c = default_binds c.args.a.now.binders c.is_empty.result c.is_empty.ensures ∙ ap (λ h. head_binds h (nbinders_of c.args.a.now.binders)) (sym c.in-Default.is)

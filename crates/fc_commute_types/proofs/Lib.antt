@@ -1,0 +1,4 @@
+mod Lets
+mod Moved
+mod Named
+mod Reached

@@ -1,0 +1,3 @@
+mod Behind
+pub mod InOrder
+mod Steps

@@ -1,0 +1,15 @@
+//! A row of the rewrite table at a place of a right side: the walk down to the place, with what stands around it, and what the row makes of the part there.
+#![tactic(auto)]
+
+mod alternatives;
+mod asked;
+mod binders;
+mod definitions;
+mod groups;
+mod places;
+mod right_sides;
+mod rows;
+
+pub use asked::Asked;
+pub use right_sides::row_of_right_side;
+pub use rows::is_built;

@@ -1,0 +1,75 @@
+//! A row at a place of a right side.
+ghost use Rattle.std.specs.Prelude.{◌≡◌, IfOk};
+ghost use Rattle.std.specs.Option.{option_map};
+ghost use Rattle.fc_model.specs.NamelessView.{nexpr_of};
+ghost use Rattle.fc_parts.specs.PartsAt.{at_place};
+ghost use Rattle.fc_rows.specs.Surroundings.{outside};
+ghost use Rattle.fc_types.specs.ModuleViews.{modules_of};
+ghost use Rattle.fc_type_table.specs.TypeTables.{modules_in, nodes_of};
+ghost use Rattle.fc_lint_context.specs.DeclaredViews.{AreRead, modules_read};
+ghost use Rattle.fc_row_at_place.specs.Sites.{decls_of, row_of};
+
+use crate::asked::{Asked, Site};
+use crate::places::row_at;
+use fc_known::Around;
+use fc_lint_context::{Context, DeclaredTypes};
+use fc_syntax::{Memory, NExpr};
+use fc_type_table::{NumberedKinds, TypeTable};
+use fc_types::Declarations;
+use std::alloc::Global;
+
+/// The same where the types of what is declared are in a table.
+fn row_among_types<'x>(
+    alloc: Global,
+    right: &'x NExpr,
+    place: &[u32],
+    types: &mut TypeTable,
+    declared: &DeclaredTypes<'x>,
+    asked: &'x Asked<'x>,
+) -> Result<Option<NExpr>, Memory>
+    requires read { AreRead (nodes_of types.old) declared.now }
+    requires modules { modules_in types.old ≡ modules_read declared.now }
+    requires same { modules_read declared.now ≡ decls_of asked.now }
+    ensures { IfOk result (λ o. option_map nexpr_of o ≡ at_place (row_of asked.now) place.now (outside (decls_of asked.now)) (nexpr_of right.now)) }
+{
+    let kinds = NumberedKinds::End;
+    let context = Context::closed(&*declared, &kinds);
+    let around = Around::Outside;
+    let site = Site {
+        asked: &*asked,
+        context: &context,
+        around: &around,
+    };
+    row_at(alloc, &*right, place, types, &site)
+}
+
+/// The same where this is declared, which is read into a table of its own.
+fn row_among<'x>(
+    alloc: Global,
+    right: &'x NExpr,
+    place: &[u32],
+    declared: &Declarations<'x>,
+    asked: &'x Asked<'x>,
+) -> Result<Option<NExpr>, Memory>
+    requires { modules_of declared.now ≡ decls_of asked.now }
+    ensures { IfOk result (λ o. option_map nexpr_of o ≡ at_place (row_of asked.now) place.now (outside (decls_of asked.now)) (nexpr_of right.now)) }
+{
+    let mut types = TypeTable::new(alloc, &*declared);
+    let read = DeclaredTypes::new(alloc, &*declared, &mut types)?;
+    row_among_types(alloc, &*right, place, &mut types, &read, &*asked)
+}
+
+/// What the row that is asked for makes of the part of a right side at a place, where a row may look. A place is a list of part numbers, from the outermost part inwards; the place
+/// without numbers is that of the whole. Answers none where no expression stands there, where the row does not apply to it, and where it is none of those that are built here.
+/// Fails only where memory runs out, a type names a variable out of scope, a distance or a number of parts has no 32 bits, or calls would go 2^32 deep.
+pub fn row_of_right_side<'x>(
+    alloc: Global,
+    right: &'x NExpr,
+    place: &[u32],
+    asked: &'x Asked<'x>,
+) -> Result<Option<NExpr>, Memory>
+    ensures { IfOk result (λ o. option_map nexpr_of o ≡ at_place (row_of asked.now) place.now (outside (decls_of asked.now)) (nexpr_of right.now)) }
+{
+    let declared = Declarations::new(alloc, asked.modules)?;
+    row_among(alloc, right, place, &declared, asked)
+}

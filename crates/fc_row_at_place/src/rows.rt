@@ -1,0 +1,155 @@
+//! What rows make of an expression where a walk stands.
+ghost use Rattle.std.specs.Prelude.{◌≡◌, IfOk};
+ghost use Rattle.std.specs.Option.{option_map};
+ghost use Rattle.fc_model.specs.NamelessView.{nexpr_of};
+ghost use Rattle.fc_lint_context.specs.ContextViews.{IsContextOver, context_in, modules_of_context};
+ghost use Rattle.fc_rows.specs.Shrinking.{alt_dead as spec_alt_dead, case_evaluated as spec_case_evaluated, known as spec_known};
+ghost use Rattle.fc_rows.specs.Surroundings.{Surroundings};
+ghost use Rattle.fc_known.specs.Around.{HasCounts};
+ghost use Rattle.fc_known.specs.Told.{told};
+ghost use Rattle.fc_shrink_cases.specs.Cases.{is_unlifted_local, scrutinee_of};
+ghost use Rattle.fc_row_at_place.specs.Rows.{is_built as spec_is_built, term_row as spec_term_row};
+ghost use Rattle.fc_row_at_place.specs.Sites.{IsSite, decls_of, modules_at, row_for, surroundings_at};
+
+use crate::asked::Site;
+use crate::definitions::right_side_of;
+use fc_commute::{application_of_let, case_of_let, cast_of_let, let_of_let};
+use fc_commute_types::name_field;
+use fc_forms::as_case;
+use fc_known::{Fact, known, known_name};
+use fc_lint_context::Context;
+use fc_log::Row;
+use fc_model::Flawed;
+use fc_shrink_cases::{alt_dead, case_evaluated};
+use fc_shrink_terms::{case_merge, cast_cast, join_dead, let_atom, let_dead, let_once};
+use fc_shrink_types::{beta, cast_refl, fail_absorb};
+use fc_syntax::{Memory, NExpr, Ref};
+use fc_type_table::TypeTable;
+use std::alloc::Global;
+
+/// Whether a row is one that is built here.
+pub fn is_built(row: Row) -> bool
+    ensures { result ≡ spec_is_built row }
+{
+    match row {
+        Row::Beta | Row::FailAbsorb | Row::CastRefl | Row::NameField => true,
+        Row::AltDead | Row::CaseEvaluated => true,
+        Row::LetDead | Row::LetAtom | Row::LetOnce => true,
+        Row::CaseMerge | Row::CastCast | Row::JoinDead => true,
+        Row::AppOfLet | Row::CaseOfLet | Row::LetOfLet | Row::CastOfLet => true,
+        _ => false,
+    }
+}
+
+/// What a row that reads the expression alone makes of one. Answers none where the row does not apply, and for every other row. Fails only where memory runs out, a
+/// distance or a number of parts has no 32 bits, or calls would go 2^32 deep.
+fn term_row(alloc: Global, row: Row, e: &NExpr) -> Result<Option<NExpr>, Memory>
+    ensures { IfOk result (λ o. option_map nexpr_of o ≡ spec_term_row row (nexpr_of e.now)) }
+{
+    match row {
+        Row::LetDead => let_dead(alloc, e),
+        Row::LetAtom => let_atom(alloc, e),
+        Row::LetOnce => let_once(alloc, e),
+        Row::CaseMerge => case_merge(alloc, e),
+        Row::CastCast => cast_cast(alloc, e),
+        Row::JoinDead => join_dead(alloc, e),
+        Row::AppOfLet => application_of_let(alloc, e),
+        Row::CaseOfLet => case_of_let(alloc, e),
+        Row::LetOfLet => let_of_let(alloc, e),
+        Row::CastOfLet => cast_of_let(alloc, e),
+        _ => Ok(None),
+    }
+}
+
+/// What is known of an expression, which is a variable or of which nothing is known. Fails only where a number of binders has no 32 bits.
+#[tactic(auto, using(fc_syntax::proofs::View::view_rules))]
+fn fact_of<'x>(e: &NExpr, site: &Site<'x>) -> Result<Fact<'x>, Memory>
+    requires counts { HasCounts site.now.around.now }
+    requires declared { decls_of site.now.asked.now ≡ modules_at site.now }
+    ensures { IfOk result (λ f. told f ≡ spec_known (surroundings_at site.now) (nexpr_of e.now)) }
+{
+    match e {
+        NExpr::Var(Ref::Local(distance)) => known(site.around, *distance),
+        NExpr::Var(Ref::Top(name)) => {
+            let asked = site.asked;
+            let right = right_side_of(asked.modules, name);
+            known_name(site.around, name, right)
+        }
+        _ => Ok(Fact::Nothing),
+    }
+}
+
+/// Whether an expression is a local variable of an unlifted type. Fails only where memory runs out.
+#[tactic(auto, using(fc_syntax::proofs::View::view_rules))]
+fn is_unlifted_variable(
+    alloc: Global,
+    e: &NExpr,
+    types: &TypeTable,
+    context: &Context,
+) -> Result<bool, Memory>
+    requires { IsContextOver types.now context.now }
+    ensures { (s : Surroundings) → s.context ≡ context_in types.now context.now → IfOk result (λ b. b ≡ is_unlifted_local (modules_of_context context.now) s (nexpr_of e.now)) }
+{
+    match e {
+        NExpr::Var(Ref::Local(distance)) => match context.local(alloc, *distance) {
+            Ok(t) => Ok(types.is_unlifted(t)),
+            Err(Flawed::Memory) => Err(Memory),
+            Err(Flawed::Flaw(_)) => Ok(false),
+        },
+        _ => Ok(false),
+    }
+}
+
+/// What alt-dead makes of an expression where a walk stands.
+fn without_dead(alloc: Global, e: &NExpr, site: &Site) -> Result<Option<NExpr>, Memory>
+    requires counts { HasCounts site.now.around.now }
+    requires declared { decls_of site.now.asked.now ≡ modules_at site.now }
+    ensures { IfOk result (λ o. option_map nexpr_of o ≡ spec_alt_dead site.now.asked.now.alternative (surroundings_at site.now) (nexpr_of e.now)) }
+{
+    let Some(case) = as_case(e) else {
+        return Ok(None);
+    };
+    let asked = site.asked;
+    let fact = fact_of(case.scrutinee, site)?;
+    alt_dead(alloc, e, asked.alternative, &fact)
+}
+
+/// What case-evaluated makes of an expression where a walk stands.
+fn without_case(
+    alloc: Global,
+    e: &NExpr,
+    types: &TypeTable,
+    site: &Site,
+) -> Result<Option<NExpr>, Memory>
+    requires { IsSite types.now site.now }
+    ensures { IfOk result (λ o. option_map nexpr_of o ≡ spec_case_evaluated (modules_at site.now) (surroundings_at site.now) (nexpr_of e.now)) }
+{
+    let Some(case) = as_case(e) else {
+        return Ok(None);
+    };
+    let fact = fact_of(case.scrutinee, site)?;
+    let unlifted = is_unlifted_variable(alloc, case.scrutinee, types, site.context)?;
+    case_evaluated(alloc, e, &fact, unlifted)
+}
+
+/// What the row that is asked for makes of an expression where a walk stands. Answers none where the row does not apply, and where it is none of those that are built here.
+pub(crate) fn row_here(
+    alloc: Global,
+    e: &NExpr,
+    types: &mut TypeTable,
+    site: &Site,
+) -> Result<Option<NExpr>, Memory>
+    requires { IsSite types.old site.now }
+    ensures { IfOk result (λ o. option_map nexpr_of o ≡ row_for site.now (surroundings_at site.now) (nexpr_of e.now)) }
+{
+    let asked = site.asked;
+    match asked.row {
+        Row::Beta => beta(alloc, e, types, site.context),
+        Row::FailAbsorb => fail_absorb(alloc, e, types, site.context),
+        Row::CastRefl => cast_refl(alloc, e, types, site.context),
+        Row::NameField => name_field(alloc, e, types, site.context),
+        Row::AltDead => without_dead(alloc, e, site),
+        Row::CaseEvaluated => without_case(alloc, e, &*types, site),
+        row => term_row(alloc, row, e),
+    }
+}
