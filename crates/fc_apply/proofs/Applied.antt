@@ -19,12 +19,15 @@ use Rattle.fc_model.proofs.Sameness.{false_true}
 use Rattle.fc_rows.specs.Changing.{made}
 use Rattle.fc_rows.specs.ChangingCoercions.{as_they_are}
 use Rattle.fc_rows.specs.Replaying.{Rewrites, at_a_place, of_the_module}
+use Rattle.fc_rows.specs.ResultLimits.{IsWithinLimits}
 use Rattle.fc_rows.specs.Rewriting.{changed_decls, changed_module, looked_at, rewritten, row_result}
 use Rattle.fc_rows.specs.Surroundings.{Surroundings, outside}
 use Rattle.fc_apply.specs.Definitions.{changed_decl, is_definition}
-use Rattle.fc_apply.specs.Steps.{FirstFits, Makes, Takes, placed}
+use Rattle.fc_apply.specs.Steps.{FirstFits, Makes, Takes, built_at, placed}
 use Rattle.fc_apply.proofs.Decls.{none_changed, one_changed, set_is}
-use Rattle.fc_row_at_place.specs.Rows.{built_row, is_built}
+use Rattle.fc_row_at_place.specs.Rows.{built_row, is_built, row_within}
+use Rattle.fc_row_at_place.proofs.Bounded.{rows_agree}
+use Rattle.fc_result_limits.proofs.Deep.{bounded_is_row, bounded_where_shallow}
 
 -- STEPS
 
@@ -37,26 +40,52 @@ placed_parts (Some v) place.Nowhere a r w q h = absurd (none-some _ h)
 placed_parts (Some v) (place.Byte b) a r w q h = absurd (none-some _ h)
 placed_parts None p a r w q h = absurd (none-some _ h)
 
+module _ (r : Row) (is : is_built r ≡ true) (xs : List NModule) (w : Word) (p : List ℕ) (n k : NModule) where
+  abbrev ms : Modules
+  ms = decls_at (n ∷ xs)
+
+  -- a row that is built is what the table says, where that may be within the limits
+  as_built : (i : ℕ) → row_within ms r i ≡ built_row ms r i
+  as_built i = ap (λ c. λ t e. if c then row_within ms r i t e else None) (sym is)
+
+  pub within_is : rewritten xs r w p n ≡ Some k → IsWithinLimits k → built_at xs r w p n ≡ Some k
+  within_is makes fits = here (looked_at r p) makes
+    where
+      here : (o : Option (List ℕ × ℕ)) → from_some (λ q. changed_module (row_result ms r q.1) as_they_are xs w q.0 n) o ≡ Some k → from_some (λ q. changed_module (built_row ms r q.1) as_they_are xs w q.0 n) o ≡ Some k
+      here None h = h
+      here (Some q) h =
+          sym (ap (λ row. changed_module row as_they_are xs w q.0 n) (as_built q.1))
+          ∙ bounded_where_shallow (row_result ms r q.1) (row_within ms r q.1) (rows_agree ms r q.1) xs w q.0 n k h fits
+
+  pub built_is : built_at xs r w p n ≡ Some k → rewritten xs r w p n ≡ Some k
+  built_is makes = here (looked_at r p) makes
+    where
+      here : (o : Option (List ℕ × ℕ)) → from_some (λ q. changed_module (built_row ms r q.1) as_they_are xs w q.0 n) o ≡ Some k → from_some (λ q. changed_module (row_result ms r q.1) as_they_are xs w q.0 n) o ≡ Some k
+      here None h = h
+      here (Some q) h =
+          bounded_is_row (row_result ms r q.1) (row_within ms r q.1) (rows_agree ms r q.1) xs w q.0 n k (ap (λ row. changed_module row as_they_are xs w q.0 n) (as_built q.1) ∙ h)
+
 -- a step of a row that is built is taken exactly where the row makes something that is within the limits
 pub takes_makes : (s : Step) (before after : List NModule) → is_built s.row ≡ true → Takes s before after → Makes s before after × FirstFits after
 takes_makes s [] after is takes = absurd takes
 takes_makes s (n ∷ xs) [] is takes = absurd takes
-takes_makes s (n ∷ xs) (k ∷ ys) is (same, at_a_place r w p e within) = ((same, (w, (p, (refl, e)))), within)
+takes_makes s (n ∷ xs) (k ∷ ys) is (same, at_a_place r w p e within) = ((same, (is, (w, (p, (refl, within_is r is xs w p n k e within))))), within)
 takes_makes s (n ∷ xs) (k ∷ ys) is (same, of_the_module drops) = false_true is
 
 pub makes_takes : (s : Step) (before after : List NModule) → Makes s before after → FirstFits after → Takes s before after
 makes_takes s [] after makes fits = absurd makes
 makes_takes s (n ∷ xs) [] makes fits = absurd makes
-makes_takes s (n ∷ xs) (k ∷ ys) (same, (w, (p, (at, e)))) fits = (same, subst (λ z. Rewrites xs z n k) (sym (placed_parts s.def s.path s.answer s.row w p at)) (at_a_place s.row w p e fits))
+makes_takes s (n ∷ xs) (k ∷ ys) (same, (is, (w, (p, (at, e))))) fits =
+    (same, subst (λ z. Rewrites xs z n k) (sym (placed_parts s.def s.path s.answer s.row w p at)) (at_a_place s.row w p (built_is s.row is xs w p n k e) fits))
 
 -- it makes one thing
 pub makes_once : (s : Step) (before a b : List NModule) → Makes s before a → Makes s before b → a ≡ b
 makes_once s [] a b first second = absurd first
 makes_once s (n ∷ xs) [] b first second = absurd first
 makes_once s (n ∷ xs) (k ∷ ys) [] first second = absurd second
-makes_once s (n ∷ xs) (k ∷ ys) (l ∷ zs) (same, (w, (p, (at, e)))) (same′, (w′, (p′, (at′, e′)))) =
+makes_once s (n ∷ xs) (k ∷ ys) (l ∷ zs) (same, (is, (w, (p, (at, e))))) (same′, (is′, (w′, (p′, (at′, e′))))) =
     let place : (w, p) ≡ (w′, p′) = same_Some _ _ (sym at ∙ at′) in
-    let module_is : k ≡ l = same_Some _ _ (sym e ∙ ap (λ q. rewritten xs s.row q.0 q.1 n) place ∙ e′) in
+    let module_is : k ≡ l = same_Some _ _ (sym e ∙ ap (λ q. built_at xs s.row q.0 q.1 n) place ∙ e′) in
     ap (λ z. z ∷ ys) module_is ∙ ap (λ zs. l ∷ zs) (same ∙ sym same′)
 
 -- A ROW ON THE FIRST MODULE
@@ -74,32 +103,25 @@ module _ (m : RustModule.Module ℕ Ref) (ms : List (RustModule.Module ℕ Ref))
   abbrev with_decls : List NDecl → NModule
   with_decls ds = NModuleOf m.name m.imports m.exports m.hidden ds
 
-  -- a row that is built is what the table says
-  as_built : (i : ℕ) → row_result declared s.row i ≡ row i
-  as_built i = ap (λ b. λ t e. if b then row_result declared s.row i t e else None) (sym is)
-
   pub not_placed : placed s ≡ None → (after : List NModule) → Makes s (nmodule_of m ∷ others) after → ⊥
   not_placed none [] makes = makes
-  not_placed none (k ∷ ys) (same, (w, (p, (at, e)))) = none-some _ (sym none ∙ at)
+  not_placed none (k ∷ ys) (same, (is, (w, (p, (at, e))))) = none-some _ (sym none ∙ at)
 
   module _ (w : Word) (p : List ℕ) (at : placed s ≡ Some (w, p)) where
     -- nothing is made where no module is
-    none_made : rewritten others s.row w p (nmodule_of m) ≡ None → (after : List NModule) → Makes s (nmodule_of m ∷ others) after → ⊥
+    none_made : built_at others s.row w p (nmodule_of m) ≡ None → (after : List NModule) → Makes s (nmodule_of m ∷ others) after → ⊥
     none_made none [] makes = makes
-    none_made none (k ∷ ys) (same, (w′, (p′, (at′, e)))) =
+    none_made none (k ∷ ys) (same, (is, (w′, (p′, (at′, e))))) =
         let place : (w, p) ≡ (w′, p′) = same_Some _ _ (sym at ∙ at′) in
-        none-some k (sym none ∙ ap (λ q. rewritten others s.row q.0 q.1 (nmodule_of m)) place ∙ e)
+        none-some k (sym none ∙ ap (λ q. built_at others s.row q.0 q.1 (nmodule_of m)) place ∙ e)
 
     pub not_aimed : looked_at s.row p ≡ None → (after : List NModule) → Makes s (nmodule_of m ∷ others) after → ⊥
-    not_aimed none = none_made (ap (from_some (λ q. changed_module (row_result declared s.row q.1) as_they_are others w q.0 (nmodule_of m))) none)
+    not_aimed none = none_made (ap (from_some (λ q. changed_module (row q.1) as_they_are others w q.0 (nmodule_of m))) none)
 
     module _ (q : List ℕ) (i : ℕ) (aim : looked_at s.row p ≡ Some (q, i)) where
       -- what the row makes of the module is what it makes of its declarations
-      by_decls : (o : Option (List NDecl)) → changed_decls (row i) as_they_are (outside declared) w q (ndecls_of m.decls) ≡ o → rewritten others s.row w p (nmodule_of m) ≡ made with_decls o
-      by_decls o h =
-          ap (from_some (λ z. changed_module (row_result declared s.row z.1) as_they_are others w z.0 (nmodule_of m))) aim
-          ∙ ap (λ r. changed_module r as_they_are others w q (nmodule_of m)) (as_built i)
-          ∙ ap (made with_decls) h
+      by_decls : (o : Option (List NDecl)) → changed_decls (row i) as_they_are (outside declared) w q (ndecls_of m.decls) ≡ o → built_at others s.row w p (nmodule_of m) ≡ made with_decls o
+      by_decls o h = ap (from_some (λ z. changed_module (row z.1) as_they_are others w z.0 (nmodule_of m))) aim ∙ ap (made with_decls) h
 
       pub not_defined : position (λ d. is_definition w (ndecl_of d)) m.decls ≡ None → (after : List NModule) → Makes s (nmodule_of m ∷ others) after → ⊥
       not_defined none = none_made (by_decls None (none_changed (row i) as_they_are (outside declared) w q m.decls none))
@@ -114,14 +136,17 @@ module _ (m : RustModule.Module ℕ Ref) (ms : List (RustModule.Module ℕ Ref))
         is_changed e some = (
           refl,
           (
-            w,
+            is,
             (
-              p,
+              w,
               (
-                at,
-                by_decls (Some (slice_set (ndecls_of m.decls) j (ndecl_of e)))
-                    (one_changed (row i) as_they_are (outside declared) w q m.decls j d found there ∙ ap (made (λ y. slice_set (ndecls_of m.decls) j y)) some)
-                    ∙ ap (λ ds. Some (with_decls ds)) (sym (set_is m.decls j e)),
+                p,
+                (
+                  at,
+                  by_decls (Some (slice_set (ndecls_of m.decls) j (ndecl_of e)))
+                      (one_changed (row i) as_they_are (outside declared) w q m.decls j d found there ∙ ap (made (λ y. slice_set (ndecls_of m.decls) j y)) some)
+                      ∙ ap (λ ds. Some (with_decls ds)) (sym (set_is m.decls j e)),
+                ),
               ),
             ),
           ),

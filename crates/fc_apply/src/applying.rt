@@ -11,7 +11,7 @@ use crate::aiming::{aimed, placed};
 use crate::definitions::{changed_definition, definition_of};
 use fc_log::Step;
 use fc_result_limits::is_within_limits;
-use fc_row_at_place::{Asked, is_built};
+use fc_row_at_place::{Asked, Question, is_built};
 use fc_syntax::{Memory, NDecl, NModule};
 use std::alloc::Global;
 use std::mem;
@@ -70,8 +70,7 @@ fn changed(
         return Ok(None);
     };
     let asked = Asked {
-        row: step.row,
-        alternative,
+        question: Question::Row(step.row, alternative),
         modules,
     };
     match changed_definition(alloc, module.decls.at(number), place, &asked)? {

@@ -1,3 +1,5 @@
 mod Behind
+pub mod Deeper
 pub mod InOrder
+pub mod Opened
 mod Steps

@@ -40,7 +40,7 @@ all_depths most (d ∷ ds) h =
 abbrev declared : WModule → List WDecl
 declared (ModuleOf m imports exports hidden ds) = ds
 
-abbrev the_decls : NModule → List NDecl
+abbrev pub the_decls : NModule → List NDecl
 the_decls (NModuleOf n imports exports hidden ds) = ds
 
 module _ (ds cs : List WDecl) (same : bare_decls ds ≡ bare_decls cs) where
@@ -49,6 +49,15 @@ module _ (ds cs : List WDecl) (same : bare_decls ds ≡ bare_decls cs) where
 
   same_size : decls_size ds ≡ decls_size cs
   same_size = (decls_same ds).0 ∙ ap (λ x. decls_size (blank_decls x)) same ∙ sym ((decls_same cs).0)
+
+-- without words no declaration is too deep either
+pub shallow_decls : (n : NModule) → IsWithinLimits n → decls_depth (blank_decls (the_decls n)) ≤ standard_limits.depth
+shallow_decls n within = here within.worded within.is within.shallow
+  where
+    here : (w : WModule) → n ≡ bare_module w → All (λ d. depth_of d ≤ standard_limits.depth) (declared w) → decls_depth (blank_decls (the_decls n)) ≤ standard_limits.depth
+    here (ModuleOf m imports exports hidden cs) same shallow =
+        let depth : decls_depth cs ≤ standard_limits.depth = all_depths standard_limits.depth cs shallow in
+        omega (arith, depth, (decls_same cs).1, ap (λ k. decls_depth (blank_decls (the_decls k))) same)
 
 module _ (n : Word) (imports exports hidden : List Word) (ds : List WDecl) where
   as_measured : IsWithinLimits (bare_module (ModuleOf n imports exports hidden ds)) → (decls_depth ds ≤ standard_limits.depth) × (decls_size ds ≤ standard_limits.result_size)

@@ -1,2 +1,4 @@
+pub mod Bounded
 mod Frames
+mod Joined
 mod Within

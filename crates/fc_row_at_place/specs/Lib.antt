@@ -1,3 +1,4 @@
 pub mod Definitions
+pub mod Joins
 pub mod Rows
 pub mod Sites

@@ -7,16 +7,16 @@ use Rattle.fc_type_table.specs.declared.table.TypeTable.{TypeTable}
 use Rattle.fc_lint_context.specs.ContextViews.{IsContextOver, context_in, modules_of_context}
 use Rattle.fc_rows.specs.Surroundings.{Surroundings}
 use Rattle.fc_known.specs.Around.{HasCounts, surroundings_of}
-use Rattle.fc_row_at_place.specs.Rows.{built_row}
+use Rattle.fc_row_at_place.specs.Rows.{answer}
 use Rattle.fc_row_at_place.specs.declared.asked.Asked.{Asked}
 use Rattle.fc_row_at_place.specs.declared.asked.Site.{Site}
 
--- what the modules declare whose right sides are known, and the row that is asked for among them
+-- what the modules declare whose right sides are known, and what is asked among them
 abbrev pub decls_of : Asked → Modules
 decls_of k = decls_at (nmodules_of k.modules.now)
 
 abbrev pub row_of : Asked → Surroundings → NExpr → Option NExpr
-row_of k = built_row (decls_of k) k.row k.alternative
+row_of k = answer (decls_of k) k.question
 
 -- what is declared
 abbrev pub modules_at : Site → Modules
@@ -25,9 +25,9 @@ modules_at x = modules_of_context x.context.now
 abbrev pub surroundings_at : Site → Surroundings
 surroundings_at x = surroundings_of (modules_at x) x.around.now
 
--- the row that is asked for
+-- what is asked
 abbrev pub row_for : Site → Surroundings → NExpr → Option NExpr
-row_for x = built_row (modules_at x) x.asked.now.row x.asked.now.alternative
+row_for x = answer (modules_at x) x.asked.now.question
 
 -- the numbers of types are of this table, the numbers of binders are right, both say the same of what is in scope, and the right sides are those of what is declared
 pub record IsSite (table : TypeTable) (x : Site) : Type 0 where

@@ -4,13 +4,20 @@ use fc_lint_context::Context;
 use fc_log::Row;
 use fc_syntax::NModule;
 
-/// A row that is asked for.
+/// What is asked of the expression at a place.
+#[derive(Clone, Copy)]
+pub enum Question {
+    /// What a row makes of it. The number is that of the alternative that alt-dead takes away, from 0; it counts for no other row.
+    Row(Row, usize),
+    /// What it becomes where it is the only jump to its join point.
+    Jump,
+}
+
+/// What a walk to a place is for.
 #[derive(Clone, Copy)]
 pub struct Asked<'x> {
-    /// The row.
-    pub row: Row,
-    /// The number of the alternative that alt-dead takes away, from 0; it counts for no other row.
-    pub alternative: usize,
+    /// What is asked there.
+    pub question: Question,
     /// The modules whose right sides are known: the one that is changed and those that it imports. Where several have one name, the first counts.
     pub modules: &'x [NModule],
 }

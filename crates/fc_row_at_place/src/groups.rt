@@ -170,7 +170,7 @@ pub(crate) fn row_in_join<'x>(
 
 /// The same behind join points.
 #[cycle(places)]
-fn row_behind_points<'x>(
+pub(crate) fn row_behind_points<'x>(
     alloc: Global,
     recursive: bool,
     ty: &'x NTy,

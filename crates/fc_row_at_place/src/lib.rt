@@ -6,10 +6,11 @@ mod asked;
 mod binders;
 mod definitions;
 mod groups;
+mod joins;
 mod places;
 mod right_sides;
 mod rows;
 
-pub use asked::Asked;
+pub use asked::{Asked, Question};
 pub use right_sides::row_of_right_side;
 pub use rows::is_built;

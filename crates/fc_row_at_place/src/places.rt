@@ -10,7 +10,7 @@ use crate::alternatives::row_in_case;
 use crate::asked::Site;
 use crate::binders::row_in_lambda;
 use crate::groups::{row_in_join, row_in_let};
-use crate::rows::row_here;
+use crate::joins::answer_here;
 use fc_known::Around;
 use fc_syntax::{Memory, NArg, NExpr, part};
 use fc_type_table::TypeTable;
@@ -33,7 +33,7 @@ pub(crate) fn row_at<'x>(
     ensures { IfOk result (λ o. option_map nexpr_of o ≡ at_place (row_for site.now) place.now (surroundings_at site.now) (nexpr_of e.now)) }
 {
     match place.split_first() {
-        None => row_here(alloc, e, types, site),
+        None => answer_here(alloc, e, types, site),
         Some((number, rest)) => row_within(alloc, e, *number, rest, types, site),
     }
 }

@@ -2,17 +2,20 @@
 ghost use Rattle.std.specs.Prelude.{◌≡◌, IfOk};
 ghost use Rattle.std.specs.Option.{option_map};
 ghost use Rattle.fc_model.specs.NamelessView.{nexpr_of};
+ghost use Rattle.fc_log.specs.declared.log.Row.TheVariants.{JoinOnce};
 ghost use Rattle.fc_lint_context.specs.ContextViews.{IsContextOver, context_in, modules_of_context};
+ghost use Rattle.fc_case_known.specs.Within.{case_known_within};
 ghost use Rattle.fc_rows.specs.Shrinking.{alt_dead as spec_alt_dead, case_evaluated as spec_case_evaluated, known as spec_known};
 ghost use Rattle.fc_rows.specs.Surroundings.{Surroundings};
 ghost use Rattle.fc_known.specs.Around.{HasCounts};
 ghost use Rattle.fc_known.specs.Told.{told};
 ghost use Rattle.fc_shrink_cases.specs.Cases.{is_unlifted_local, scrutinee_of};
-ghost use Rattle.fc_row_at_place.specs.Rows.{is_built as spec_is_built, term_row as spec_term_row};
-ghost use Rattle.fc_row_at_place.specs.Sites.{IsSite, decls_of, modules_at, row_for, surroundings_at};
+ghost use Rattle.fc_row_at_place.specs.Rows.{built_row, is_built as spec_is_built, term_row as spec_term_row};
+ghost use Rattle.fc_row_at_place.specs.Sites.{IsSite, decls_of, modules_at, surroundings_at};
 
 use crate::asked::Site;
 use crate::definitions::right_side_of;
+use fc_case_known::case_known;
 use fc_commute::{application_of_let, case_of_let, cast_of_let, let_of_let};
 use fc_commute_types::name_field;
 use fc_forms::as_case;
@@ -33,7 +36,7 @@ pub fn is_built(row: Row) -> bool
 {
     match row {
         Row::Beta | Row::FailAbsorb | Row::CastRefl | Row::NameField => true,
-        Row::AltDead | Row::CaseEvaluated => true,
+        Row::AltDead | Row::CaseEvaluated | Row::CaseKnown | Row::JoinOnce => true,
         Row::LetDead | Row::LetAtom | Row::LetOnce => true,
         Row::CaseMerge | Row::CastCast | Row::JoinDead => true,
         Row::AppOfLet | Row::CaseOfLet | Row::LetOfLet | Row::CastOfLet => true,
@@ -101,17 +104,21 @@ fn is_unlifted_variable(
 }
 
 /// What alt-dead makes of an expression where a walk stands.
-fn without_dead(alloc: Global, e: &NExpr, site: &Site) -> Result<Option<NExpr>, Memory>
+fn without_dead(
+    alloc: Global,
+    e: &NExpr,
+    alternative: usize,
+    site: &Site,
+) -> Result<Option<NExpr>, Memory>
     requires counts { HasCounts site.now.around.now }
     requires declared { decls_of site.now.asked.now ≡ modules_at site.now }
-    ensures { IfOk result (λ o. option_map nexpr_of o ≡ spec_alt_dead site.now.asked.now.alternative (surroundings_at site.now) (nexpr_of e.now)) }
+    ensures { IfOk result (λ o. option_map nexpr_of o ≡ spec_alt_dead alternative (surroundings_at site.now) (nexpr_of e.now)) }
 {
     let Some(case) = as_case(e) else {
         return Ok(None);
     };
-    let asked = site.asked;
     let fact = fact_of(case.scrutinee, site)?;
-    alt_dead(alloc, e, asked.alternative, &fact)
+    alt_dead(alloc, e, alternative, &fact)
 }
 
 /// What case-evaluated makes of an expression where a walk stands.
@@ -132,23 +139,44 @@ fn without_case(
     case_evaluated(alloc, e, &fact, unlifted)
 }
 
-/// What the row that is asked for makes of an expression where a walk stands. Answers none where the row does not apply, and where it is none of those that are built here.
-pub(crate) fn row_here(
+/// What case-known makes of an expression where a walk stands, unless that is more than 500 lets.
+fn at_alternative(
     alloc: Global,
     e: &NExpr,
     types: &mut TypeTable,
     site: &Site,
 ) -> Result<Option<NExpr>, Memory>
     requires { IsSite types.old site.now }
-    ensures { IfOk result (λ o. option_map nexpr_of o ≡ row_for site.now (surroundings_at site.now) (nexpr_of e.now)) }
+    ensures { IfOk result (λ o. option_map nexpr_of o ≡ case_known_within (modules_at site.now) (surroundings_at site.now) (nexpr_of e.now)) }
 {
-    let asked = site.asked;
-    match asked.row {
+    let Some(case) = as_case(e) else {
+        return Ok(None);
+    };
+    let fact = fact_of(case.scrutinee, site)?;
+    case_known(alloc, e, &fact, types, site.context)
+}
+
+/// What a row but for join-once makes of an expression where a walk stands. Answers none where the row does not apply, where its result would be beyond the limits on
+/// results, and where it is none of those that are built here.
+pub(crate) fn row_alone(
+    alloc: Global,
+    row: Row,
+    alternative: usize,
+    e: &NExpr,
+    types: &mut TypeTable,
+    site: &Site,
+) -> Result<Option<NExpr>, Memory>
+    requires site { IsSite types.old site.now }
+    requires other { row ≡ JoinOnce → ⊥ }
+    ensures { IfOk result (λ o. option_map nexpr_of o ≡ built_row (modules_at site.now) row alternative (surroundings_at site.now) (nexpr_of e.now)) }
+{
+    match row {
         Row::Beta => beta(alloc, e, types, site.context),
         Row::FailAbsorb => fail_absorb(alloc, e, types, site.context),
         Row::CastRefl => cast_refl(alloc, e, types, site.context),
         Row::NameField => name_field(alloc, e, types, site.context),
-        Row::AltDead => without_dead(alloc, e, site),
+        Row::AltDead => without_dead(alloc, e, alternative, site),
+        Row::CaseKnown => at_alternative(alloc, e, types, site),
         Row::CaseEvaluated => without_case(alloc, e, &*types, site),
         row => term_row(alloc, row, e),
     }

@@ -27,7 +27,7 @@ fn without_values(alloc: Global, e: &NExpr, count: u32) -> Result<NExpr, Memory>
 
 /// An expression without so many of its innermost join points, to none of which it jumps. Fails only where memory runs out, a distance or a number of parts has
 /// no 32 bits, or calls would go 2^32 deep.
-fn without_joins(alloc: Global, e: &NExpr, count: u32) -> Result<NExpr, Memory>
+pub fn without_joins(alloc: Global, e: &NExpr, count: u32) -> Result<NExpr, Memory>
     ensures { IfOk result (λ r. nexpr_of r ≡ renamed (before_joins count) (nexpr_of e.now)) }
 {
     let without = Replacement::Without(Shift {

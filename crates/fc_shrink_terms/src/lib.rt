@@ -7,5 +7,5 @@ mod groups;
 mod lets;
 
 pub use cases::{case_merge, cast_cast};
-pub use groups::{join_dead, let_dead};
+pub use groups::{join_dead, let_dead, without_joins};
 pub use lets::{let_atom, let_once};

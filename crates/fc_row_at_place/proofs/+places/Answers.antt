@@ -1,10 +1,8 @@
-use Rattle.std.proofs.Common.{◌≡◌, ◌∙◌, ◌-◌, Option, None, IfOk, length, arith, sym, ap, refl, subst, if◌then◌else◌}
+use Rattle.std.proofs.Common.{◌≡◌, true, false, ◌∙◌, ◌-◌, None, length, arith, sym, ap, refl, subst, if◌then◌else◌}
 use Rattle.std.specs.Option.{option_map}
 use Rattle.std.proofs.lemmas.Option.{slice_get_read}
 use Rattle.std.proofs.lemmas.Result.{IfOk-weaker}
-use Rattle.fc_model.specs.Kinding.{Modules}
-use Rattle.fc_model.specs.Nameless.{NExpr}
-use Rattle.fc_model.specs.NamelessView.{nalts_of, nbinders_of, nbinds_of, nexpr_of, njoins_of, nty_of}
+use Rattle.fc_model.specs.NamelessView.{nalts_of, nbind_of, nbinders_of, nbinds_of, nexpr_of, njoin_of, njoins_of, nty_of}
 use Rattle.fc_model.specs.Typing.{with_binders, with_binds, with_joins, with_value}
 use Rattle.fc_type_scope.specs.Behind.{IsEntered}
 use Rattle.fc_type_scope.specs.Scopes.{AreTypesAt, scope_in, shown_all_at}
@@ -17,12 +15,16 @@ use Rattle.fc_lint_context.specs.LocalViews.{bind_types}
 use Rattle.fc_lint_context.proofs.Growing.{stays}
 use Rattle.fc_parts.specs.PartsAt.{at_place, at_place_of_alt, at_place_of_bind, at_place_of_join, of_alt, of_term}
 use Rattle.fc_parts.proofs.PartRules.{alt_there, arg_there, bind_there, binds_counted, expr_there, join_there, joins_counted}
-use Rattle.fc_rows.specs.Surroundings.{Unknown, apart, at_join_sides, at_right_sides, behind_value, listed_heads}
+use Rattle.fc_rows.specs.Surroundings.{behind_binds, behind_joins, Unknown, apart, at_join_sides, at_right_sides, behind_value, listed_heads}
 use Rattle.fc_known.specs.Around.{behind_alternative, surroundings_of}
 use Rattle.fc_row_types.proofs.ChangesKept.{binders_context}
-use Rattle.fc_row_at_place.specs.Rows.{built_row}
+use Rattle.fc_row_at_place.specs.Rows.{answer}
 use Rattle.fc_row_at_place.specs.Sites.{modules_at, row_for, surroundings_at}
-use Rattle.fc_row_at_place.proofs.Frames.{behind, site_grows, site_scope}
+use Rattle.fc_row_at_place.proofs.Frames.{answered_here, behind, site_grows, site_scope}
+use Rattle.fc_forms.specs.Forms.{joining_of}
+use Rattle.fc_jump_once.specs.Within.{jump_once_within}
+use Rattle.fc_syntax.specs.View.{expr_of}
+use Rattle.fc_row_at_place.proofs.Joined.{none_taken, one_jump, several}
 use Rattle.fc_row_at_place.proofs.Within.{in_join_body, in_join_side, in_let_body, in_right_side, not_below}
 use Rattle.fc_row_at_place.proofs.+places.Goals as goal
 
@@ -84,15 +86,12 @@ alternatives::row_past_branch-row_at-requires t c =
 pub alternatives::row_past_branch-returns : goal.alternatives::row_past_branch-returns
 alternatives::row_past_branch-returns t c =
     let x = c.args.site.now in
-    let asked = x.asked.now in
     let branch = c.args.branch.now in
     let there = modules_of_context c.behind_binders-context.result in
-    let row : Modules → Option NExpr = λ ms. at_place (built_row ms asked.row asked.alternative) c.args.place.now (behind_alternative branch (surroundings_of ms x.around.now)) (nexpr_of branch.alternative.now.body) in
-    let found : IfOk c.row_at.result (λ o. option_map nexpr_of o ≡ row there) = c.row_at.ensures in
     let inward : there ≡ modules_of_context c.behind_value-outer.result = c.behind_binders-context.ensures.declared in
     let outward : modules_of_context c.behind_value-outer.result ≡ modules_at x = c.behind_value-outer.ensures.declared in
-    let same : there ≡ modules_at x = inward ∙ outward in
-    IfOk-weaker c.row_at.result (λ o. option_map nexpr_of o ≡ row there) (λ o. option_map nexpr_of o ≡ row (modules_at x)) (λ o h. h ∙ ap row same) found
+    answered_here c.row_at.result (λ ms. at_place (answer ms x.asked.now.question) c.args.place.now (behind_alternative branch (surroundings_of ms x.around.now)) (nexpr_of branch.alternative.now.body)) there (modules_at x)
+    (inward ∙ outward) c.row_at.ensures
 
 pub binders::row_behind_binders-row_past_binders-requires : goal.binders::row_behind_binders-row_past_binders-requires
 binders::row_behind_binders-row_past_binders-requires t c =
@@ -132,6 +131,13 @@ groups::row_behind_bindings-row_at-requires t c =
           refl,
     )
 
+pub groups::row_behind_bindings-returns : goal.groups::row_behind_bindings-returns
+groups::row_behind_bindings-returns t c =
+    let x = c.args.site.now in
+    answered_here c.row_at.result
+    (λ ms. at_place (answer ms x.asked.now.question) c.args.place.now (behind_binds c.args.recursive (nbinds_of c.args.bindings.now) (surroundings_of ms x.around.now)) (nexpr_of c.args.body.now))
+    (modules_of_context c.behind_binds-context.result) (modules_at x) c.behind_binds-context.ensures.declared c.row_at.ensures
+
 pub groups::row_behind_points-join_points-requires-clause-scope : goal.groups::row_behind_points-join_points-requires-clause-scope
 groups::row_behind_points-join_points-requires-clause-scope t c = site_scope c.args.types.now c.read.new.types c.args.site.now c.in_ok-answer.ensures.grows c.requires
 
@@ -155,6 +161,13 @@ groups::row_behind_points-row_at-requires t c =
           c.requires.counts
           refl,
     )
+
+pub groups::row_behind_points-returns : goal.groups::row_behind_points-returns
+groups::row_behind_points-returns t c =
+    let x = c.args.site.now in
+    answered_here c.row_at.result
+    (λ ms. at_place (answer ms x.asked.now.question) c.args.place.now (behind_joins c.args.recursive (nty_of c.args.ty.now) (njoins_of c.args.points.now) (surroundings_of ms x.around.now)) (nexpr_of c.args.body.now))
+    (modules_of_context c.behind_joins-context.result) (modules_at x) c.behind_joins-context.ensures.declared c.row_at.ensures
 
 pub groups::row_in_join-returns-then-number-points : goal.groups::row_in_join-returns-then-number-points
 groups::row_in_join-returns-then-number-points t c = IfOk-weaker c.row_behind_points.result _ _ (λ o h.
@@ -208,6 +221,13 @@ groups::row_of_member-row_of_binding-requires t c =
           refl,
     )
 
+pub groups::row_of_member-returns : goal.groups::row_of_member-returns
+groups::row_of_member-returns t c =
+    let x = c.args.site.now in
+    answered_here c.row_of_binding.result
+    (λ ms. at_place_of_bind (answer ms x.asked.now.question) c.args.place.now (apart (behind_binds true (nbinds_of c.args.bindings.now) (surroundings_of ms x.around.now))) (nbind_of c.args.binding.now))
+    (modules_of_context c.behind_binds-context.result) (modules_at x) c.behind_binds-context.ensures.declared c.row_of_binding.ensures
+
 pub groups::row_of_recursive_point-join_points-requires-clause-scope : goal.groups::row_of_recursive_point-join_points-requires-clause-scope
 groups::row_of_recursive_point-join_points-requires-clause-scope t c = site_scope c.args.types.now c.read.new.types c.args.site.now c.in_ok-answer.ensures.grows c.requires
 
@@ -231,6 +251,37 @@ groups::row_of_recursive_point-row_of_point-requires t c =
           c.requires.counts
           refl,
     )
+
+pub groups::row_of_recursive_point-returns : goal.groups::row_of_recursive_point-returns
+groups::row_of_recursive_point-returns t c =
+    let x = c.args.site.now in
+    answered_here c.row_of_point.result
+    (λ ms. at_place_of_join (answer ms x.asked.now.question) c.args.place.now (behind_joins true (nty_of c.args.ty.now) (njoins_of c.args.points.now) (surroundings_of ms x.around.now)) (njoin_of c.args.point.now))
+    (modules_of_context c.behind_joins-context.result) (modules_at x) c.behind_joins-context.ensures.declared c.row_of_point.ensures
+
+pub joins::join_once-returns-then-joining-ne1 : goal.joins::join_once-returns-then-joining-ne1
+joins::join_once-returns-then-joining-ne1 t c =
+    let joining = c.in-Some.joining in
+    several (surroundings_at c.args.site.now) (nexpr_of c.args.e.now) (joining_of joining) c.in-Some.ensures (λ one. c.if-joining-ne1.true (sym (joins_counted joining.points.now) ∙ one))
+
+pub joins::join_once-returns : goal.joins::join_once-returns
+joins::join_once-returns t c =
+    let joining = c.in-Some.joining in
+    let once = sym c.in_ok-has_one_jump.ensures ∙ c.if-not-branch.false in
+    IfOk-weaker c.joined_once.result _ _ (λ o h.
+    h
+    ∙ one_jump (surroundings_at c.args.site.now) (nexpr_of c.args.e.now) (joining_of joining) c.in-Some.ensures c.if-joining.false (joins_counted joining.points.now ∙ c.if-joining-ne1.false) once)
+    c.joined_once.ensures
+
+pub joins::joined_once-returns : goal.joins::joined_once-returns
+joins::joined_once-returns t c =
+    let joining = c.args.joining.now in
+    let ty = nty_of joining.answer.now in
+    let points = njoins_of joining.points.now in
+    let s = surroundings_at c.args.site.now in
+    let place = c.in-Some.place.items in
+    none_taken ty points (expr_of joining.body.now) s place (sym c.in_ok-place.ensures ∙ ap (option_map (λ p. p.items)) c.in-Some.is)
+    (subst (λ p. at_place jump_once_within p (behind_joins false ty points s) (nexpr_of joining.body.now) ≡ None) c.as_slice.ensures.value (sym c.in_ok-found.ensures ∙ ap (option_map nexpr_of) c.in-None.is))
 
 pub places::row_among_arguments-returns-in-Some : goal.places::row_among_arguments-returns-in-Some
 places::row_among_arguments-returns-in-Some t c =

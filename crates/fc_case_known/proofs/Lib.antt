@@ -1,0 +1,4 @@
+pub mod Deep
+mod Opened
+mod Parts
+mod Rows
