@@ -5,7 +5,7 @@ use Rattle.fc_rows.specs.Changing.{made}
 use Rattle.fc_rows.specs.Rewriting.{alternative_number, before_last, last_part}
 use Rattle.fc_apply.specs.Steps.{case_around}
 
-last_is : (before : List ℕ) (x : ℕ) → last_part (before ++ x ∷ []) ≡ Some (before, x)
+pub last_is : (before : List ℕ) (x : ℕ) → last_part (before ++ x ∷ []) ≡ Some (before, x)
 last_is [] x = refl
 last_is (y ∷ before) x = ap (before_last y) (last_is before x)
 

@@ -59,12 +59,12 @@ never_first (Some i) h = cc
 
 -- ONE DECLARATION AND THE OTHERS
 
-made_again : {X Y Z : Type 0} (f : Y → Z) (g : X → Y) (o : Option X) → made (λ x. f (g x)) o ≡ made f (made g o)
+pub made_again : {X Y Z : Type 0} (f : Y → Z) (g : X → Y) (o : Option X) → made (λ x. f (g x)) o ≡ made f (made g o)
 made_again f g None = refl
 made_again f g (Some x) = refl
 
 module _ (row : Surroundings → NExpr → Option NExpr) (co : List Kind → List Ends → NCo → Option NCo) (s : Surroundings) (w : Word) (p : List ℕ) where
-  first_is : (x : NDecl) (ds : List NDecl) → is_definition w x ≡ true → changed_decls row co s w p (x ∷ ds) ≡ made (λ y. y ∷ ds) (changed_decl row co s p x)
+  pub first_is : (x : NDecl) (ds : List NDecl) → is_definition w x ≡ true → changed_decls row co s w p (x ∷ ds) ≡ made (λ y. y ∷ ds) (changed_decl row co s p x)
   first_is (NDef n t e) ds is = rw is (made_again (λ y. y ∷ ds) (λ f. NDef n t f) (changed_right row co s p e))
   first_is (NWrap n t e) ds is = rw is (made_again (λ y. y ∷ ds) (λ f. NWrap n t f) (changed_right row co s p e))
   first_is (NData n ps cs) ds is = cc
@@ -72,7 +72,7 @@ module _ (row : Surroundings → NExpr → Option NExpr) (co : List Kind → Lis
   first_is (NFamily n ps k) ds is = cc
   first_is (NAxiom n ps t u) ds is = cc
 
-  first_is_not : (x : NDecl) (ds : List NDecl) → is_definition w x ≡ false → changed_decls row co s w p (x ∷ ds) ≡ made (λ rest. x ∷ rest) (changed_decls row co s w p ds)
+  pub first_is_not : (x : NDecl) (ds : List NDecl) → is_definition w x ≡ false → changed_decls row co s w p (x ∷ ds) ≡ made (λ rest. x ∷ rest) (changed_decls row co s w p ds)
   first_is_not (NDef n t e) ds is = rw is refl
   first_is_not (NWrap n t e) ds is = rw is refl
   first_is_not (NData n ps cs) ds is = refl

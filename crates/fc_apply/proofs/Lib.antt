@@ -1,4 +1,5 @@
-mod Applied
-mod CasesAround
-mod Decls
-mod InDefinitions
+pub mod Applied
+pub mod CasesAround
+pub mod Decls
+pub mod InDefinitions
+mod OfTheModule

@@ -5,11 +5,12 @@ ghost use Rattle.fc_model.specs.NamelessView.{nmodule_of, nmodules_of};
 ghost use Rattle.fc_rows.specs.ResultLimits.{IsWithinLimits};
 ghost use Rattle.fc_row_at_place.specs.Rows.{is_built as spec_is_built};
 ghost use Rattle.fc_apply.specs.Definitions.{HasDecl, with_decl};
-ghost use Rattle.fc_apply.specs.Steps.{FirstFits, Makes, Takes};
+ghost use Rattle.fc_apply.specs.Steps.{FirstFits, Makes, Takes, is_run as spec_is_run};
 
 use crate::aiming::{aimed, placed};
 use crate::definitions::{changed_definition, definition_of};
-use fc_log::Step;
+use crate::dropping::{drop_in_first, is_of_the_module};
+use fc_log::{Row, Step};
 use fc_result_limits::is_within_limits;
 use fc_row_at_place::{Asked, Question, is_built};
 use fc_syntax::{Memory, NDecl, NModule};
@@ -79,11 +80,9 @@ fn changed(
     }
 }
 
-/// Takes a step of a row at a place of a definition of the first of some modules; the others are those that it imports, as their interfaces tell them. Answers whether it was
-/// taken: it is not exactly where the row does not apply at the place, its result is beyond the limits on what is made, or the row is none of those that are built; then
-/// nothing has changed. Fails where memory runs out, a type names a variable out of scope, a distance or a number of parts has no 32 bits, or calls would go 2^32 deep; then
-/// nothing has changed either.
-pub fn apply(alloc: Global, modules: &mut [NModule], step: &Step) -> Result<bool, Memory>
+/// Takes a step of a row at a place of a definition of the first of some modules. Answers whether it was taken: it is not exactly where the row does not apply at the place, its result
+/// is beyond the limits on what is made, or the row is none of those that are built; then nothing has changed. Fails as `apply` does.
+fn apply_at_place(alloc: Global, modules: &mut [NModule], step: &Step) -> Result<bool, Memory>
     ensures taken { IfOk result (λ b. IsTrue b → Takes step.now (nmodules_of modules.old) (nmodules_of modules.new)) }
     ensures refused { IfOk result (λ b. IsFalse b → IsTrue (spec_is_built step.now.row) → (after : List Form) → Takes step.now (nmodules_of modules.old) after → ⊥) }
     ensures unchanged { (result ≡ Ok true → ⊥) → modules.new ≡ modules.old }
@@ -91,5 +90,32 @@ pub fn apply(alloc: Global, modules: &mut [NModule], step: &Step) -> Result<bool
     match changed(alloc, &*modules, step)? {
         Some((number, decl)) => put_in_first(modules, number, decl),
         None => Ok(false),
+    }
+}
+
+/// Whether steps of a row are run: of those that are built at a place, and of def-dead.
+pub fn is_run(row: Row) -> bool
+    ensures { result ≡ spec_is_run row }
+{
+    match row {
+        Row::DefDead => true,
+        row => is_built(row),
+    }
+}
+
+/// Takes a step on the first of some modules: of a row at a place of a definition, or def-dead, which takes away all definitions that nothing needs. The other modules are those that
+/// it imports, as their interfaces tell them. Answers whether the step was taken. It is not exactly where its row does not apply at the place, where its result is beyond the limits on
+/// what is made, where nothing needs to go, where a def-dead names a definition, a place or an answer, and where its row is none of those that are run. Then nothing has changed. Fails
+/// where memory runs out, the name of the module is shared too often to be counted, a type names a variable out of scope, a distance or a number of parts has no 32 bits, or calls
+/// would go 2^32 deep. Then nothing has changed either.
+pub fn apply(alloc: Global, modules: &mut [NModule], step: &Step) -> Result<bool, Memory>
+    ensures taken { IfOk result (λ b. IsTrue b → Takes step.now (nmodules_of modules.old) (nmodules_of modules.new)) }
+    ensures refused { IfOk result (λ b. IsFalse b → IsTrue (spec_is_run step.now.row) → (after : List Form) → Takes step.now (nmodules_of modules.old) after → ⊥) }
+    ensures unchanged { (result ≡ Ok true → ⊥) → modules.new ≡ modules.old }
+{
+    if is_of_the_module(step) {
+        drop_in_first(alloc, modules)
+    } else {
+        apply_at_place(alloc, modules, step)
     }
 }

@@ -1,5 +1,5 @@
 //! One step of the rewrite table on a module.
-use fc_apply::{apply, is_built};
+use fc_apply::{apply, is_run};
 use fc_iface::interface;
 use fc_log::{Entry, Log, read as read_log};
 use fc_probe_files::{File, NoAnswer, form_in, form_of, line, module_in};
@@ -53,7 +53,7 @@ pub fn applied(alloc: Global, files: &[File], step: &str) -> Result<Vec<u8>, NoA
     let [Entry::Step(step)] = log.entries.as_slice() else {
         return Err(NoAnswer::Usage);
     };
-    if !is_built(step.row) {
+    if !is_run(step.row) {
         return Err(NoAnswer::Usage);
     }
     let mut modules = modules_in(alloc, files)?;

@@ -1,3 +1,4 @@
+mod FromRoots
 mod Listed
 mod Mentioning
 mod Numbered

@@ -26,10 +26,10 @@ word_of_decl (NDef n t e) = Some n
 word_of_decl (NWrap n t e) = Some n
 
 -- where the first definition of a word stands among declarations, of which the first has the number k, and what it says
-record IsFirst (ds : List NDecl) (k i : ℕ) (w : Word) : Type 0 where
-  place : ℕ
-  number : i ≡ k + place
-  low : place < length ds
+pub record IsFirst (ds : List NDecl) (k i : ℕ) (w : Word) : Type 0 where
+  pub place : ℕ
+  pub number : i ≡ k + place
+  pub low : place < length ds
   decl : NDecl
   here : (z : NDecl) → get_or ds place z ≡ decl
   word : word_of_decl decl ≡ Some w
@@ -78,7 +78,7 @@ first_or_later d ds k i w n e word names right h later =
     first_later d ds k i w (right ∙ ap (λ b. if b then Some e else right_side ds w) other)
     (later (sym (ap (λ b. if b then Some k else number_from (k + 1) ds w) other) ∙ h)))
 
-first_is : (ds : List NDecl) (k i : ℕ) (w : Word) → number_from k ds w ≡ Some i → IsFirst ds k i w
+pub first_is : (ds : List NDecl) (k i : ℕ) (w : Word) → number_from k ds w ≡ Some i → IsFirst ds k i w
 first_is [] k i w h = absurd cc
 first_is (NData n ps cs ∷ ds) k i w h = first_later (NData n ps cs) ds k i w refl (first_is ds (k + 1) i w h)
 first_is (NNew n ps t con ∷ ds) k i w h = first_later (NNew n ps t con) ds k i w refl (first_is ds (k + 1) i w h)
@@ -92,7 +92,7 @@ number_or true k o r e p h later = (k, refl)
 number_or false k o r e p h later = later h
 
 -- a word that has a definition has a number
-has_number : (ds : List NDecl) (k : ℕ) (w : Word) (e : NExpr) → right_side ds w ≡ Some e → (i : ℕ) × (number_from k ds w ≡ Some i)
+pub has_number : (ds : List NDecl) (k : ℕ) (w : Word) (e : NExpr) → right_side ds w ≡ Some e → (i : ℕ) × (number_from k ds w ≡ Some i)
 has_number [] k w e h = absurd cc
 has_number (NData n ps cs ∷ ds) k w e h = has_number ds (k + 1) w e h
 has_number (NNew n ps t con ∷ ds) k w e h = has_number ds (k + 1) w e h
@@ -102,7 +102,7 @@ has_number (NDef n t r ∷ ds) k w e h = number_or (bytes_eq n w) k (number_from
 has_number (NWrap n t r ∷ ds) k w e h = number_or (bytes_eq n w) k (number_from (k + 1) ds w) r e (right_side ds w) h (has_number ds (k + 1) w e)
 
 -- two words of one number are the same
-one_word : (ds : List NDecl) (i : ℕ) (v w : Word) → number_from 0 ds v ≡ Some i → number_from 0 ds w ≡ Some i → v ≡ w
+pub one_word : (ds : List NDecl) (i : ℕ) (v w : Word) → number_from 0 ds v ≡ Some i → number_from 0 ds w ≡ Some i → v ≡ w
 one_word ds i v w h g =
     let a = first_is ds 0 i v h in
     let b = first_is ds 0 i w g in
@@ -113,10 +113,10 @@ one_word ds i v w h g =
 -- NAMES AND NUMBERS
 
 -- a number that may be there is this one
-abbrev hits : ℕ → Option ℕ → Bool
+abbrev pub hits : ℕ → Option ℕ → Bool
 hits j o = option_map_or (nat_eq j) o false
 
-in_cons : (j : ℕ) (o : Option ℕ) (ns : List ℕ) → is_in j (cons_option o ns) ≡ (hits j o || is_in j ns)
+pub in_cons : (j : ℕ) (o : Option ℕ) (ns : List ℕ) → is_in j (cons_option o ns) ≡ (hits j o || is_in j ns)
 in_cons j None ns = refl
 in_cons j (Some i) ns = refl
 
@@ -167,7 +167,7 @@ word_meant own ds j (n ∷ ns) h =
 
 -- EDGES AND MENTIONS
 
-marked_number : (marks : List Bool) (o : Option ℕ) → option_map_or (is_marked marks) o false ≡ true → (j : ℕ) × (o ≡ Some j) × (is_marked marks j ≡ true)
+pub marked_number : (marks : List Bool) (o : Option ℕ) → option_map_or (is_marked marks) o false ≡ true → (j : ℕ) × (o ≡ Some j) × (is_marked marks j ≡ true)
 marked_number marks None h = false_true h
 marked_number marks (Some j) h = (j, refl, h)
 
@@ -222,14 +222,14 @@ module _ (own : Word) (imports exports hidden : List Word) (ds : List NDecl) whe
         },
       )
 
-  reaches_path : {v w : Word} → ReachesDefinition m v w → (i : ℕ) → number v ≡ Some i → (j : ℕ) × (number w ≡ Some j) × HasPath graph i j
+  pub reaches_path : {v w : Word} → ReachesDefinition m v w → (i : ℕ) → number v ≡ Some i → (j : ℕ) × (number w ≡ Some j) × HasPath graph i j
   reaches_path (at_once v w d) i h = let e = mention_edge v w d i h in (e.0, e.1, last_edge i e.0 e.2)
   reaches_path (through u v w d r) i h =
       let e = mention_edge v u d i h in
       let p = reaches_path r e.0 e.1 in
       (p.0, p.1, edge_then e.0 i p.0 e.2 p.2)
 
-  path_reaches : {i j : ℕ} → HasPath graph i j → (v : Word) → number v ≡ Some i → (w : Word) × (number w ≡ Some j) × ReachesDefinition m v w
+  pub path_reaches : {i j : ℕ} → HasPath graph i j → (v : Word) → number v ≡ Some i → (w : Word) × (number w ≡ Some j) × ReachesDefinition m v w
   path_reaches (last_edge i j e) v h = let d = edge_mention v i j h e in (d.0, d.1, at_once v d.0 d.2)
   path_reaches (edge_then k i j e p) v h =
       let d = edge_mention v i k h e in

@@ -37,7 +37,7 @@ pub(crate) fn graph_of(
 }
 
 /// Whether the definition of a word is marked.
-fn is_found(definitions: &Definitions, marks: &[bool], word: &Text) -> bool
+pub(crate) fn is_found(definitions: &Definitions, marks: &[bool], word: &Text) -> bool
     ensures { result ≡ has_mark (number_by definitions.now) marks.now word.now }
 {
     match definitions.number_at(word.as_str()) {

@@ -69,7 +69,7 @@ binders_same [] = (refl, refl)
 binders_same (b ∷ bs) = (rw ((binder_same b).0, (binders_same bs).0) refl, rw ((binder_same b).1, (binders_same bs).1) refl)
 
 mutual
-  expr_same : (e : WExpr) → Same expr_size expr_depth e (blank_expr (bare_expr e))
+  pub expr_same : (e : WExpr) → Same expr_size expr_depth e (blank_expr (bare_expr e))
   expr_same (EVar (ref.Local i)) = (refl, refl)
   expr_same (EVar (ref.Top n)) = (refl, refl)
   expr_same (ELit n) = (refl, refl)

@@ -1,6 +1,6 @@
-mod Back
-mod Bare
-mod Blank
+pub mod Back
+pub mod Bare
+pub mod Blank
 pub mod Deep
 pub mod Renamed
 pub mod Within

@@ -13,4 +13,4 @@ mod rows;
 
 pub use asked::{Asked, Question};
 pub use right_sides::row_of_right_side;
-pub use rows::is_built;
+pub use rows::{fact_at, is_built, term_row};

@@ -1,13 +1,14 @@
 //! What rows make of an expression where a walk stands.
 ghost use Rattle.std.specs.Prelude.{◌≡◌, IfOk};
 ghost use Rattle.std.specs.Option.{option_map};
-ghost use Rattle.fc_model.specs.NamelessView.{nexpr_of};
+ghost use Rattle.fc_model.specs.Kinding.{decls_at};
+ghost use Rattle.fc_model.specs.NamelessView.{nexpr_of, nmodules_of};
 ghost use Rattle.fc_log.specs.declared.log.Row.TheVariants.{JoinOnce};
 ghost use Rattle.fc_lint_context.specs.ContextViews.{IsContextOver, context_in, modules_of_context};
 ghost use Rattle.fc_case_known.specs.Within.{case_known_within};
 ghost use Rattle.fc_rows.specs.Shrinking.{alt_dead as spec_alt_dead, case_evaluated as spec_case_evaluated, known as spec_known};
 ghost use Rattle.fc_rows.specs.Surroundings.{Surroundings};
-ghost use Rattle.fc_known.specs.Around.{HasCounts};
+ghost use Rattle.fc_known.specs.Around.{HasCounts, surroundings_of};
 ghost use Rattle.fc_known.specs.Told.{told};
 ghost use Rattle.fc_shrink_cases.specs.Cases.{is_unlifted_local, scrutinee_of};
 ghost use Rattle.fc_row_at_place.specs.Rows.{built_row, is_built as spec_is_built, term_row as spec_term_row};
@@ -19,14 +20,14 @@ use fc_case_known::case_known;
 use fc_commute::{application_of_let, case_of_let, cast_of_let, let_of_let};
 use fc_commute_types::name_field;
 use fc_forms::as_case;
-use fc_known::{Fact, known, known_name};
+use fc_known::{Around, Fact, known, known_name};
 use fc_lint_context::Context;
 use fc_log::Row;
 use fc_model::Flawed;
 use fc_shrink_cases::{alt_dead, case_evaluated};
 use fc_shrink_terms::{case_merge, cast_cast, join_dead, let_atom, let_dead, let_once};
 use fc_shrink_types::{beta, cast_refl, fail_absorb};
-use fc_syntax::{Memory, NExpr, Ref};
+use fc_syntax::{Memory, NExpr, NModule, Ref};
 use fc_type_table::TypeTable;
 use std::alloc::Global;
 
@@ -46,7 +47,7 @@ pub fn is_built(row: Row) -> bool
 
 /// What a row that reads the expression alone makes of one. Answers none where the row does not apply, and for every other row. Fails only where memory runs out, a
 /// distance or a number of parts has no 32 bits, or calls would go 2^32 deep.
-fn term_row(alloc: Global, row: Row, e: &NExpr) -> Result<Option<NExpr>, Memory>
+pub fn term_row(alloc: Global, row: Row, e: &NExpr) -> Result<Option<NExpr>, Memory>
     ensures { IfOk result (λ o. option_map nexpr_of o ≡ spec_term_row row (nexpr_of e.now)) }
 {
     match row {
@@ -64,22 +65,32 @@ fn term_row(alloc: Global, row: Row, e: &NExpr) -> Result<Option<NExpr>, Memory>
     }
 }
 
-/// What is known of an expression, which is a variable or of which nothing is known. Fails only where a number of binders has no 32 bits.
+/// What is known of an expression, which is a variable or of which nothing is known, where this stands around it, and the right sides of modules are known. Where several have one
+/// name, the first counts. Fails only where a number of binders has no 32 bits.
 #[tactic(auto, using(fc_syntax::proofs::View::view_rules))]
+pub fn fact_at<'x>(
+    e: &NExpr,
+    around: &'x Around<'x>,
+    modules: &'x [NModule],
+) -> Result<Fact<'x>, Memory>
+    requires counts { HasCounts around.now }
+    ensures { IfOk result (λ f. told f ≡ spec_known (surroundings_of (decls_at (nmodules_of modules.now)) around.now) (nexpr_of e.now)) }
+{
+    match e {
+        NExpr::Var(Ref::Local(distance)) => known(around, *distance),
+        NExpr::Var(Ref::Top(name)) => known_name(around, name, right_side_of(modules, name)),
+        _ => Ok(Fact::Nothing),
+    }
+}
+
+/// The same where a walk stands.
 fn fact_of<'x>(e: &NExpr, site: &Site<'x>) -> Result<Fact<'x>, Memory>
     requires counts { HasCounts site.now.around.now }
     requires declared { decls_of site.now.asked.now ≡ modules_at site.now }
     ensures { IfOk result (λ f. told f ≡ spec_known (surroundings_at site.now) (nexpr_of e.now)) }
 {
-    match e {
-        NExpr::Var(Ref::Local(distance)) => known(site.around, *distance),
-        NExpr::Var(Ref::Top(name)) => {
-            let asked = site.asked;
-            let right = right_side_of(asked.modules, name);
-            known_name(site.around, name, right)
-        }
-        _ => Ok(Fact::Nothing),
-    }
+    let asked = site.asked;
+    fact_at(e, site.around, asked.modules)
 }
 
 /// Whether an expression is a local variable of an unlifted type. Fails only where memory runs out.

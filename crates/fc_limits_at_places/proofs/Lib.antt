@@ -1,0 +1,3 @@
+pub mod AtPlaces
+pub mod InModules
+pub mod Unworded
