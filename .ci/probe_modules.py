@@ -26,8 +26,8 @@ def write(folder, name, text):
 
 
 def shape(text):
-    """The text of a module without its imports, and without words in lower case that are neither keywords nor the names of definitions."""
-    tokens = TOKEN.findall(re.sub(r"\(imports[^()]*\)", "", text, count=1))
+    """The text of a module without its comments and imports, and without words in lower case that are neither keywords nor the names of definitions."""
+    tokens = TOKEN.findall(re.sub(r"\(imports[^()]*\)", "", re.sub(r";.*", "", text), count=1))
     before = ["", *tokens]
     return [
         token if token in KEYWORDS or "#" in token or not re.match(r"[a-z_$]", token) or behind in ("def", "wrap") else "_"

@@ -2,4 +2,4 @@ pub mod Applied
 pub mod CasesAround
 pub mod Decls
 pub mod InDefinitions
-mod OfTheModule
+pub mod OfTheModule

@@ -9,7 +9,7 @@ use fc_files::{Files, HostFiles, HostSink};
 use fc_probe_files::{File, NoAnswer, number_in, read_all, tell};
 use fc_probe_forms::changing::Change;
 use fc_probe_forms::{changing, names, reaching};
-use fc_probe_rows::applied;
+use fc_probe_rows::{applied, simplified};
 use fc_probe_texts::named::By;
 use fc_probe_texts::pieces::Asked;
 use fc_probe_texts::texts::Form;
@@ -84,6 +84,7 @@ fn answer_of(alloc: Global, words: &[&str], files: &[File]) -> Result<Vec<u8>, N
         (["print_interface"], [file]) => interfaces::printed(alloc, file),
         (["interface", grow], [file]) => interfaces::told(alloc, grow, file),
         (["imports"], files) => interfaces::imported(alloc, files),
+        (["simplify"], files) => simplified(alloc, files),
         (["print_log"], [file]) => logs::printed(alloc, file),
         (["resolve"], [file]) => names::resolved(alloc, file),
         (["name_back", words], [file]) => names::named_with(alloc, words, file),

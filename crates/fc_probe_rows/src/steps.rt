@@ -34,7 +34,7 @@ fn told_in(alloc: Global, file: &File) -> Result<NModule, NoAnswer> {
 }
 
 /// The nameless form of the module in the last of some files, and then those of the others as their interfaces tell them.
-fn modules_in(alloc: Global, files: &[File]) -> Result<Vec<NModule>, NoAnswer> {
+pub(crate) fn modules_in(alloc: Global, files: &[File]) -> Result<Vec<NModule>, NoAnswer> {
     let Some((last, others)) = files.split_last() else {
         return Err(NoAnswer::Usage);
     };

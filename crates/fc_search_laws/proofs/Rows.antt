@@ -101,7 +101,7 @@ module _ (ms : Modules) (n spare : ℕ) (s : Surroundings) (e : NExpr) where
   loud_by r i None a h = nothing h
   loud_by r i (Some x) a h = subst IsLoud (same_Some _ _ h) tt
 
-  applied_loud : (r : Row) (i : ℕ) → Only IsLoud (applied ms n spare r i s e)
+  pub applied_loud : (r : Row) (i : ℕ) → Only IsLoud (applied ms n spare r i s e)
   applied_loud r i = loud_by r i _
 
   -- what a row makes where it is not found may not stand there
@@ -137,6 +137,9 @@ module _ (ms : Modules) (n spare : ℕ) (s : Surroundings) (e : NExpr) where
 
   pub here_right : Only IsRight (here ms n spare s e)
   here_right = here_only IsRight applied_right
+
+  pub rows_loud : (rs : List Row) → Only IsLoud (first_row ms n spare rs s e)
+  rows_loud rs = rows_only IsLoud applied_loud rs
 
   pub here_loud : Only IsLoud (here ms n spare s e)
   here_loud = here_only IsLoud applied_loud

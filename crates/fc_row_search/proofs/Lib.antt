@@ -1,0 +1,5 @@
+mod Counted
+mod Framed
+mod Sizes
+mod Told
+mod Unasked

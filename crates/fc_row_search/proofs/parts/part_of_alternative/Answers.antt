@@ -1,0 +1,10 @@
+use Rattle.std.proofs.Common.{length, [], ◌∷◌, refl, sym, ap, ◌∙◌}
+use Rattle.std.proofs.lemmas.Option.{slice_get_read}
+use Rattle.fc_row_search.proofs.Counted.{alt_there}
+use Rattle.fc_row_search.proofs.parts.part_of_alternative.Goals as goal
+
+pub returns-in_ok-number-in-Some : goal.returns-in_ok-number-in-Some
+returns-in_ok-number-in-Some c =
+    let found = c.in-Some.ensures.lookup in
+    let there = slice_get_read c.args.alternatives.now (length c.args.alternatives.now) c.args.at c.in-Some.alternative.now refl found.3.0 found.1 in
+    c.further.ensures ∙ ap (λ n. c.args.first ∷ n ∷ []) (c.in_ok-number-in-Some.ensures ∙ c.len.ensures) ∙ sym (alt_there c.args.first c.args.at c.args.alternatives.now c.in-Some.alternative.now there)

@@ -1,0 +1,12 @@
+mod Exchanged
+mod First
+mod InFirst
+mod Kept
+mod Logs
+mod Looking
+mod Marked
+mod Next
+mod OneRound
+mod Quieted
+mod Taken
+mod Words

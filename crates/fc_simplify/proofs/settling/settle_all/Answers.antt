@@ -1,0 +1,49 @@
+use Rattle.std.proofs.Common.{rules}
+use Rattle.fc_model.specs.NamelessView.{nmodules_of}
+use Rattle.fc_simplify.proofs.Logs.{continues_both}
+use Rattle.fc_simplify.proofs.Marked.{defines_first, settled_all, settled_more, settled_past}
+use Rattle.fc_simplify.proofs.Words.{keeps_both}
+use Rattle.fc_simplify.proofs.settling.settle_all.Goals.{then-first+in_ok-one+then-all, then-first+in_ok-one+else-all, else-first}
+use Rattle.fc_simplify.proofs.settling.settle_all.Goals as goal
+
+pub settle-requires-clause-first : goal.settle-requires-clause-first
+settle-requires-clause-first c =
+    defines_first (nmodules_of c.args.modules.now) (nmodules_of c.loop-number.modules) c.args.firsts.now c.loop-number.number c.requires.firsts c.loop-number.invariant.words c.loop-number-test.true c.if-first.true
+
+pub returns-in_err-one-clause-continues : goal.returns-in_err-one-clause-continues
+returns-in_err-one-clause-continues c =
+    continues_both (nmodules_of c.args.modules.now) (nmodules_of c.loop-number.modules) (nmodules_of c.settle.new.modules) c.args.log.now c.loop-number.log c.settle.new.log
+    c.loop-number.invariant.continues c.in_err-one.ensures.continues
+
+pub loop-number-preserved : goal.loop-number-preserved
+loop-number-preserved c =
+    let before = nmodules_of c.args.modules.now in
+    let so_far = nmodules_of c.loop-number.modules in
+    let marks = c.args.firsts.now in
+    let number = c.loop-number.number in
+    elim c.if-first.branch [
+      | then-first+in_ok-one+then-all w ↦ record {
+        continues = continues_both before so_far (nmodules_of c.if-first.modules) c.args.log.now c.loop-number.log c.if-first.log c.loop-number.invariant.continues (search rules);
+        words = keeps_both before so_far (nmodules_of c.if-first.modules) c.loop-number.invariant.words (search rules);
+        spare = search rules;
+        unchanged = search rules;
+        settled = search rules;
+      }
+      | then-first+in_ok-one+else-all w ↦ record {
+        continues = continues_both before so_far (nmodules_of c.if-first.modules) c.args.log.now c.loop-number.log c.if-first.log c.loop-number.invariant.continues (search rules);
+        words = keeps_both before so_far (nmodules_of c.if-first.modules) c.loop-number.invariant.words (search rules);
+        spare = search rules;
+        unchanged = search rules;
+        settled = λ false. settled_more c.args.spare marks c.args.modules.now number c.loop-number.all.spare c.loop-number.modules (search rules) (search rules) (search rules) (search rules);
+      }
+      | else-first w ↦ record {
+        continues = search rules;
+        words = search rules;
+        spare = search rules;
+        unchanged = search rules;
+        settled = λ false. settled_past c.args.spare marks c.args.modules.now number (search rules) c.loop-number-test.true (search rules);
+      }
+    ]
+
+pub returns-clause-settled : goal.returns-clause-settled
+returns-clause-settled c = λ false. settled_all c.args.spare c.args.firsts.now c.args.modules.now c.loop-number.number (c.loop-number.invariant.settled false) c.loop-number-test.false

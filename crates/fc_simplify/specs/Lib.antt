@@ -1,0 +1,3 @@
+pub mod Phase
+pub mod Steps
+pub mod Taking

@@ -1,0 +1,10 @@
+//! The simplify phase on one module: rows of the rewrite table are taken, shrinking and commuting ones, until none applies any more.
+#![tactic(auto)]
+
+mod dropping;
+mod rounds;
+mod settling;
+mod steps;
+mod taking;
+
+pub use rounds::simplify;
