@@ -17,6 +17,7 @@ use Rattle.fc_model.proofs.ResolvedModulesAre.{module_is_resolved}
 use Rattle.fc_model.proofs.SetWritten.{HideMore, all_written_alone, set_forms_hide, set_written_lints}
 use Rattle.fc_model.proofs.SetWritten.{no_modules as none_hide, one_module as one_hides}
 use Rattle.fc_model.proofs.UnderHeader.{written_is_formed}
+use Rattle.fc_formed.proofs.WithWords.{formed_without_words}
 use Rattle.fc_headers.specs.NamelessHeaders.{form_written_among}
 use Rattle.fc_headers.proofs.Agreeing.{headers_agree}
 use Rattle.fc_kept_forms.proofs.KeptWords.{forms_are_kept}
@@ -127,7 +128,7 @@ writable (one_resolves {m = m} {n = n} {ms = ms} {ns = ns} resolves rest) formed
     let kept : hints_kept f ≡ module_hints m = cc in
     let first : IsWritable (module_of f) = record {
       scoped = subst IsScoped (sym form) (resolved_are_scoped m n resolves (All-head ImportsOthers n ns others));
-      formed = forms_are_kept m (module_of f) (All-head IsFormed m ms formed) (subst (Resolves m) (sym form) resolves) kept;
+      formed = formed_without_words (module_of f) (forms_are_kept m (module_of f) (All-head IsFormed m ms formed) (subst (Resolves m) (sym form) resolves) kept);
     } in
     let forms_more : nmodules_of fs ≡ ns = cc in
     let words_more : map hints_kept fs ≡ map module_hints ms = cc in

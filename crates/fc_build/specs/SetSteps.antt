@@ -2,12 +2,13 @@
 use Rattle.std.specs.Prelude.{◌≡◌, ℕ, List, [], ◌∷◌, map, slice_get}
 use Rattle.std.specs.List.{filter_map}
 use Rattle.fc_syntax.specs.Tree.{Module}
-use Rattle.fc_model.specs.Formed.{IsFormed, IsNamelessFormed}
+use Rattle.fc_model.specs.Formed.{IsFormed}
 use Rattle.fc_model.specs.Headers.{name_of}
 use Rattle.fc_model.specs.Nameless.{NModule}
 use Rattle.fc_model.specs.NamelessView.{nmodules_of}
 use Rattle.fc_model.specs.ResolutionRules.{Resolves}
 use Rattle.fc_model.specs.Worded.{WModule, bare_module}
+use Rattle.fc_formed.specs.FormedTrees.{IsFormedModule}
 use Rattle.fc_headers.specs.NamelessHeaders.{form_written_among}
 use Rattle.fc_reaching.specs.Numbering.{word_of}
 use Rattle.fc_used_words.specs.Scoped.{IsScoped}
@@ -21,7 +22,7 @@ use Rattle.fc_build.specs.declared.judge.Set.{Set}
 -- a nameless module that can be written: its names mean something, and it is of the text form
 pub record IsWritable (n : WModule) : Type 0 where
   pub scoped : IsScoped (bare_module n)
-  pub formed : IsNamelessFormed n
+  pub formed : IsFormedModule (bare_module n)
 
 -- nameless modules in the order in which they are built, each under the header that is written
 abbrev pub forms_written : List NModule → List NModule

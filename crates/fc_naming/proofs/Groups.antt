@@ -3,47 +3,49 @@ use Rattle.std.proofs.Common.{◌≡◌, ◌<◌, ◌≤◌, ◌+◌, ◌++◌, 
 use Rattle.std.specs.List.{list_all}
 use Rattle.std.proofs.lemmas.Bool.{and_parts}
 use Rattle.std.proofs.lemmas.List.{take_all}
+use Rattle.std.proofs.lemmas.List.Folds.{list_all-append}
 use Rattle.fc_syntax.specs.declared.ty.Role.{Role}
 use Rattle.fc_syntax.specs.declared.expr.Binder as RustBinder
 use Rattle.fc_syntax.specs.View.{binder_of, binders_of}
 use Rattle.fc_syntax.specs.Tree.{Word, Kind, Ty, Binder, BValue, BType, BCo, Expr, ELam}
-use Rattle.fc_model.specs.Formed.{binder_formed, is_empty_list, is_lower_word, named_words, nameless_words}
+use Rattle.fc_model.specs.Formed.{binder_formed, is_empty_list, is_lower_word, named_words}
 use Rattle.fc_model.specs.Nameless.{NTy, NBinder, NExpr}
 use Rattle.fc_model.specs.Resolution.{Top, Locals, Value, Join, Words, WordSet, no_words, plus, plus_all, with_type, with_term, with_coercion, enter, enter_all, enter_values, enter_joins, is_new, with_binder}
 use Rattle.fc_model.specs.ResolutionRules.{AreDistinct, no_words_left, one_word_more, ResolvesBinder, ResolvesBinders, ResolvesExpr, resolves_value_binder, resolves_type_binder, resolves_coercion_binder, resolves_no_binders, resolves_binders, resolves_lambda}
 use Rattle.fc_model.specs.Worded.{WTy, WBinder, WExpr, bare_binder, bare_binders, bare_expr}
 use Rattle.fc_model.proofs.Sameness.{false_true}
+use Rattle.fc_formed.specs.FormedTrees.{bare_words}
 use Rattle.fc_used_words.specs.Scoped.{Counts, HoldsTys, HoldsBinder, HoldsBinders, HoldsExpr, in_binder, in_binders, in_type, in_value, in_coercion, nothing_around}
 use Rattle.fc_used_words.specs.Standing.{AreWithin, is_found, is_found_by, more_coercions, more_terms, more_types}
 use Rattle.fc_used_words.proofs.Both.{below_binders, both_binder, both_binders, both_expr, both_tys}
 use Rattle.fc_used_words.proofs.Collecting.{take_item}
 use Rattle.fc_used_words.proofs.Keeping.{by_test}
 use Rattle.fc_naming.specs.Groups.{IsGroup}
-use Rattle.fc_naming.specs.Named.{AreLower, BelowUses, LamUses, IsChosen, IsNamedBelow, IsNamedExpr, IsNamedTy, TakeWords, none_take, more_take, TakesWord, value_takes, type_takes, coercion_takes}
+use Rattle.fc_naming.specs.Named.{AreLower, BelowUses, LamUses, IsNamedBelow, IsNamedExpr, IsNamedTy, IsWordFor, TakeWords, none_take, more_take, TakesWord, value_takes, type_takes, coercion_takes}
 use Rattle.fc_naming.specs.Taken.{hint_of, more_words, space_of, words_of}
-use Rattle.fc_naming.proofs.Lower.{and_keeps, both, chosen_lower, coercion_lower, end_keeps, term_lower, type_lower}
+use Rattle.fc_naming.proofs.Lower.{and_keeps, both, coercion_lower, term_lower, type_lower}
 use Rattle.fc_naming.proofs.Naming.{found_by, takes_coercion, takes_type, takes_value}
 
 -- ONE BINDER
 
-pub worded_value : {top : Top} {s : Locals} (w : Word) {v : Word} {a : WTy} {t : Ty} {c : WBinder} → c ≡ BValue w a → IsNamedTy top s a t → (taken more : Words) → IsChosen (words_of (space_of c) taken) (hint_of c) v
+pub worded_value : {top : Top} {s : Locals} (w : Word) {v : Word} {a : WTy} {t : Ty} {c : WBinder} → c ≡ BValue w a → IsNamedTy top s a t → (taken more : Words) → IsWordFor (words_of (space_of c) taken) (hint_of c) v
     → more ≡ more_words (space_of c) v taken → TakesWord top s taken c (BValue v t) (with_term (Value v) s) more
 worded_value {top = top} {s = s} w {v = v} {a = a} {t = t} {c = c} same p taken more =
-    subst (λ (x : WBinder). IsChosen (words_of (space_of x) taken) (hint_of x) v → more ≡ more_words (space_of x) v taken → TakesWord top s taken x (BValue v t) (with_term (Value v) s) more) (sym same)
-    (λ (i : IsChosen taken.terms w v) (is : more ≡ more_terms v taken). subst (TakesWord top s taken (BValue w a) (BValue v t) (with_term (Value v) s)) (sym is) (value_takes i.free (chosen_lower i) p))
+    subst (λ (x : WBinder). IsWordFor (words_of (space_of x) taken) (hint_of x) v → more ≡ more_words (space_of x) v taken → TakesWord top s taken x (BValue v t) (with_term (Value v) s) more) (sym same)
+    (λ (i : IsWordFor taken.terms w v) (is : more ≡ more_terms v taken). subst (TakesWord top s taken (BValue w a) (BValue v t) (with_term (Value v) s)) (sym is) (value_takes i.free i.lower p))
 
-pub worded_type : {top : Top} {s : Locals} (w : Word) {v : Word} {k : Kind} {c : WBinder} → c ≡ BType w k → (taken more : Words) → IsChosen (words_of (space_of c) taken) (hint_of c) v
+pub worded_type : {top : Top} {s : Locals} (w : Word) {v : Word} {k : Kind} {c : WBinder} → c ≡ BType w k → (taken more : Words) → IsWordFor (words_of (space_of c) taken) (hint_of c) v
     → more ≡ more_words (space_of c) v taken → TakesWord top s taken c (BType v k) (with_type v s) more
 worded_type {top = top} {s = s} w {v = v} {k = k} {c = c} same taken more =
-    subst (λ (x : WBinder). IsChosen (words_of (space_of x) taken) (hint_of x) v → more ≡ more_words (space_of x) v taken → TakesWord top s taken x (BType v k) (with_type v s) more) (sym same)
-    (λ (i : IsChosen taken.types w v) (is : more ≡ more_types v taken). subst (TakesWord top s taken (BType w k) (BType v k) (with_type v s)) (sym is) (type_takes i.free (chosen_lower i)))
+    subst (λ (x : WBinder). IsWordFor (words_of (space_of x) taken) (hint_of x) v → more ≡ more_words (space_of x) v taken → TakesWord top s taken x (BType v k) (with_type v s) more) (sym same)
+    (λ (i : IsWordFor taken.types w v) (is : more ≡ more_types v taken). subst (TakesWord top s taken (BType w k) (BType v k) (with_type v s)) (sym is) (type_takes i.free i.lower))
 
 pub worded_coercion : {top : Top} {s : Locals} (w : Word) {v : Word} {r : Role} {a b : WTy} {t u : Ty} {c : WBinder} → c ≡ BCo w r a b → IsNamedTy top s a t → IsNamedTy top s b u → (taken more : Words)
-    → IsChosen (words_of (space_of c) taken) (hint_of c) v → more ≡ more_words (space_of c) v taken → TakesWord top s taken c (BCo v r t u) (with_coercion v s) more
+    → IsWordFor (words_of (space_of c) taken) (hint_of c) v → more ≡ more_words (space_of c) v taken → TakesWord top s taken c (BCo v r t u) (with_coercion v s) more
 worded_coercion {top = top} {s = s} w {v = v} {r = r} {a = a} {b = b} {t = t} {u = u} {c = c} same p q taken more =
-    subst (λ (x : WBinder). IsChosen (words_of (space_of x) taken) (hint_of x) v → more ≡ more_words (space_of x) v taken → TakesWord top s taken x (BCo v r t u) (with_coercion v s) more) (sym same)
-    (λ (i : IsChosen taken.coercions w v) (is : more ≡ more_coercions v taken).
-    subst (TakesWord top s taken (BCo w r a b) (BCo v r t u) (with_coercion v s)) (sym is) (coercion_takes i.free (chosen_lower i) p q))
+    subst (λ (x : WBinder). IsWordFor (words_of (space_of x) taken) (hint_of x) v → more ≡ more_words (space_of x) v taken → TakesWord top s taken x (BCo v r t u) (with_coercion v s) more) (sym same)
+    (λ (i : IsWordFor taken.coercions w v) (is : more ≡ more_coercions v taken).
+    subst (TakesWord top s taken (BCo w r a b) (BCo v r t u) (with_coercion v s)) (sym is) (coercion_takes i.free i.lower p q))
 
 -- what is found below a binder without a word, is found below it with its word
 module _ (top : Top) where
@@ -83,15 +85,15 @@ module _ (top : Top) where
   word_enters s _ taken _ _ _ (coercion_takes free low p q) = refl
 
   -- and of the text form, if what it was read from is
-  pub word_formed : {s t : Locals} {taken more : Words} {c : WBinder} {b : Binder} → TakesWord top s taken c b t more → AreLower s → binder_formed nameless_words c ≡ true → binder_formed named_words b ≡ true
-  word_formed (value_takes free low p) l = and_keeps low (p.formed l)
-  word_formed (type_takes free low) l = low
-  word_formed (coercion_takes free low p q) l = and_keeps low (and_keeps (λ h. h) (and_keeps (p.formed l) (q.formed l)))
+  pub word_formed : {s t : Locals} {taken more : Words} {c : WBinder} {b : Binder} → TakesWord top s taken c b t more → AreLower s → binder_formed bare_words c ≡ true → binder_formed named_words b ≡ true
+  word_formed (value_takes free low p) l h = both low (p.formed l h)
+  word_formed (type_takes free low) l h = low
+  word_formed (coercion_takes free low p q) l h = both low (and_keeps (λ e. e) (and_keeps (p.formed l) (q.formed l)) h)
 
-  pub word_lower : {s t : Locals} {taken more : Words} {c : WBinder} {b : Binder} → TakesWord top s taken c b t more → AreLower s → binder_formed nameless_words c ≡ true → AreLower t
-  word_lower (value_takes {v = v} free low p) l h = term_lower (Value v) l (low (and_parts _ _ h).0)
-  word_lower (type_takes free low) l h = type_lower l (low h)
-  word_lower (coercion_takes free low p q) l h = coercion_lower l (low (and_parts _ _ h).0)
+  pub word_lower : {s t : Locals} {taken more : Words} {c : WBinder} {b : Binder} → TakesWord top s taken c b t more → AreLower s → AreLower t
+  word_lower (value_takes {v = v} free low p) l = term_lower (Value v) l low
+  word_lower (type_takes free low) l = type_lower l low
+  word_lower (coercion_takes free low p q) l = coercion_lower l low
 
   -- SETS
 
@@ -138,12 +140,12 @@ module _ (top : Top) where
       (subst (λ (z : Locals). ResolvesBinders top z (with_binder b ws) bs (bare_binders cs)) (sym (word_enters _ _ _ _ _ _ d))
       (words_resolve _ _ _ _ _ _ rest (with_binder b ws) (word_within _ _ _ _ _ _ d ws within) (word_binders _ _ _ _ _ _ d nothing_around (bare_binders cs) h.1)))
 
-  pub words_formed : {s t : Locals} {taken more : Words} {cs : List WBinder} {bs : List Binder} → TakeWords top s taken cs bs t more → AreLower s → list_all (binder_formed nameless_words) cs ≡ true
+  pub words_formed : {s t : Locals} {taken more : Words} {cs : List WBinder} {bs : List Binder} → TakeWords top s taken cs bs t more → AreLower s → list_all (binder_formed bare_words) cs ≡ true
       → (list_all (binder_formed named_words) bs ≡ true) × AreLower t
   words_formed none_take l h = (refl, l)
   words_formed (more_take d rest) l h =
       let k = and_parts _ _ h in
-      let r = words_formed rest (word_lower d l k.0) k.1 in
+      let r = words_formed rest (word_lower d l) k.1 in
       (both (word_formed d l k.0) r.0, r.1)
 
   words_none : {s t : Locals} {taken more : Words} {cs : List WBinder} {bs : List Binder} → TakeWords top s taken cs bs t more → is_empty_list cs ≡ true → is_empty_list bs ≡ true
@@ -168,7 +170,7 @@ pub named_lambda : {top : Top} {s t : Locals} {taken more : Words} {c : WBinder}
 named_lambda {top = top} {s = s} {t = t} {taken = taken} {more = more} {c = c} {b = b} {e = e} {f = f} u d n = record {
   resolves = λ h. resolves_lambda (word_resolves top s t taken more c b d h.0) (subst (λ (z : Locals). ResolvesExpr top z f (bare_expr e)) (sym (word_enters top s t taken more c b d))
       (n.resolves (words_expr top s t taken more (c ∷ []) (b ∷ []) (more_take d none_take) (bare_expr e) (u.body h.1))));
-  formed = λ l h. let k = and_parts _ _ h in both (word_formed top d l k.0) (n.formed (word_lower top d l k.0) k.1);
+  formed = λ l h. let k = and_parts _ _ h in both (word_formed top d l k.0) (n.formed (word_lower top d l) k.1);
 }
 
 -- BINDERS THAT ARE NAMED IN A LOOP
@@ -218,41 +220,41 @@ length_end : {X : Type 0} (xs : List X) (x : X) → length (xs ++ x ∷ []) ≡ 
 length_end [] x = refl
 length_end (y ∷ xs) x = let r = length_end xs x in omega arith
 
-pub group_start : {X : Type 0} (taken : WordSet) (items : List X) (hint : X → Word) (words names : List Word) → words ≡ [] → names ≡ [] → IsGroup taken (take 0 items) hint words names taken
-group_start taken items hint words names e f =
-    subst (λ (ws : List Word). IsGroup taken (take 0 items) hint ws names taken) (sym e) (subst (λ (ns : List Word). IsGroup taken (take 0 items) hint [] ns taken) (sym f) (record {
+pub group_start : {X : Type 0} (taken : WordSet) (items : List X) (words names : List Word) → words ≡ [] → names ≡ [] → IsGroup taken (take 0 items) words names taken
+group_start taken items words names e f =
+    subst (λ (ws : List Word). IsGroup taken (take 0 items) ws names taken) (sym e) (subst (λ (ns : List Word). IsGroup taken (take 0 items) [] ns taken) (sym f) (record {
       distinct = no_words_left;
       counted = refl;
-      lower = λ h. refl;
+      lower = refl;
       values = λ s. refl;
       joins = λ s. refl;
       taken_then = refl;
     }))
 
 -- the same where what is taken is told by the words for look-ups
-pub group_start_at : {X : Type 0} (taken : List Word → WordSet) (items : List X) (hint : X → Word) (words names : List Word) → words ≡ [] → names ≡ [] → IsGroup (taken []) (take 0 items) hint words names (taken names)
-group_start_at taken items hint words names e f =
-    subst (λ (ns : List Word). IsGroup (taken []) (take 0 items) hint words ns (taken ns)) (sym f) (group_start (taken []) items hint words [] e refl)
+pub group_start_at : {X : Type 0} (taken : List Word → WordSet) (items : List X) (words names : List Word) → words ≡ [] → names ≡ [] → IsGroup (taken []) (take 0 items) words names (taken names)
+group_start_at taken items words names e f =
+    subst (λ (ns : List Word). IsGroup (taken []) (take 0 items) words ns (taken ns)) (sym f) (group_start (taken []) items words [] e refl)
 
-group_end : {X : Type 0} {hint : X → Word} {taken mid : WordSet} (items : List X) {words names : List Word} (x : X) (v : Word) → IsGroup taken items hint words names mid → IsChosen mid (hint x) v
-    → IsGroup taken (items ++ x ∷ []) hint (words ++ v ∷ []) (v ∷ names) (plus v mid)
-group_end {hint = hint} {taken = taken} items {words = words} x v g c = record {
+group_end : {X : Type 0} {taken mid : WordSet} (items : List X) {words names : List Word} (x : X) {w : Word} (v : Word) → IsGroup taken items words names mid → IsWordFor mid w v
+    → IsGroup taken (items ++ x ∷ []) (words ++ v ∷ []) (v ∷ names) (plus v mid)
+group_end {taken = taken} items {words = words} x v g c = record {
   distinct = distinct_end taken words v g.distinct (ap (λ (z : WordSet). z v) (sym g.taken_then) ∙ c.free);
   counted = length_end words v ∙ ap (λ n. n + 1) g.counted ∙ sym (length_end items x);
-  lower = end_keeps (λ y. is_lower_word (hint y)) is_lower_word items x words v g.lower (chosen_lower c);
+  lower = list_all-append is_lower_word words (v ∷ []) ∙ both g.lower (both c.lower refl);
   values = λ s. ap (with_term (Value v)) (g.values s) ∙ sym (values_end s words v);
   joins = λ s. ap (with_term (Join v)) (g.joins s) ∙ sym (joins_end s words v);
   taken_then = ap (plus v) g.taken_then ∙ sym (plus_all_end taken words v);
 }
 
-pub group_step : {X : Type 0} (taken mid more : WordSet) (items : List X) (hint : X → Word) (i : ℕ) (x : X) (words longer names further : List Word) (v : Word) → i < length items → x ≡ get_or items i x
-    → IsGroup taken (take i items) hint words names mid → IsChosen mid (hint x) v → more ≡ plus v mid → longer ≡ words ++ v ∷ [] → further ≡ v ∷ names → IsGroup taken (take (i + 1) items) hint longer further more
-group_step {X = X} taken mid more items hint i x words longer names further v low is g c grown pushed added =
-    subst (λ (xs : List X). IsGroup taken xs hint longer further more) (sym (take_item items i x low is))
-    (subst (λ (ws : List Word). IsGroup taken (take i items ++ x ∷ []) hint ws further more) (sym pushed)
-    (subst (λ (ns : List Word). IsGroup taken (take i items ++ x ∷ []) hint (words ++ v ∷ []) ns more) (sym added)
-    (subst (λ (z : WordSet). IsGroup taken (take i items ++ x ∷ []) hint (words ++ v ∷ []) (v ∷ names) z) (sym grown) (group_end (take i items) x v g c))))
+pub group_step : {X : Type 0} (taken mid more : WordSet) (items : List X) (i : ℕ) (x : X) (words longer names further : List Word) {w : Word} (v : Word) → i < length items → x ≡ get_or items i x
+    → IsGroup taken (take i items) words names mid → IsWordFor mid w v → more ≡ plus v mid → longer ≡ words ++ v ∷ [] → further ≡ v ∷ names → IsGroup taken (take (i + 1) items) longer further more
+group_step {X = X} taken mid more items i x words longer names further v low is g c grown pushed added =
+    subst (λ (xs : List X). IsGroup taken xs longer further more) (sym (take_item items i x low is))
+    (subst (λ (ws : List Word). IsGroup taken (take i items ++ x ∷ []) ws further more) (sym pushed)
+    (subst (λ (ns : List Word). IsGroup taken (take i items ++ x ∷ []) (words ++ v ∷ []) ns more) (sym added)
+    (subst (λ (z : WordSet). IsGroup taken (take i items ++ x ∷ []) (words ++ v ∷ []) (v ∷ names) z) (sym grown) (group_end (take i items) x v g c))))
 
-pub group_all : {X : Type 0} {hint : X → Word} {taken more : WordSet} {words names : List Word} (items : List X) (i : ℕ) → length items ≤ i → IsGroup taken (take i items) hint words names more
-    → IsGroup taken items hint words names more
-group_all {X = X} {hint = hint} {taken = taken} {more = more} {words = words} {names = names} items i h g = subst (λ (xs : List X). IsGroup taken xs hint words names more) (take_all i items h) g
+pub group_all : {X : Type 0} {taken more : WordSet} {words names : List Word} (items : List X) (i : ℕ) → length items ≤ i → IsGroup taken (take i items) words names more
+    → IsGroup taken items words names more
+group_all {X = X} {taken = taken} {more = more} {words = words} {names = names} items i h g = subst (λ (xs : List X). IsGroup taken xs words names more) (take_all i items h) g

@@ -16,8 +16,9 @@ use Rattle.fc_model.specs.Formed.{is_lower_formed, is_lower_word, is_module_form
 use Rattle.fc_model.specs.Resolution.{Locals, TermWord, Value, Join, WordSet, enter_joins, enter_values, no_locals, with_coercion, with_term, with_type}
 use Rattle.fc_model.specs.Words.{keyword_of}
 use Rattle.fc_scope.specs.WordsAt.{join_word, value_word}
+use Rattle.fc_used_words.proofs.Keeping.{by_test}
 use Rattle.fc_used_words.specs.Standing.{outside, short}
-use Rattle.fc_naming.specs.Named.{AreLower, IsChosen, IsLower, IsWritten, candidate, term_word}
+use Rattle.fc_naming.specs.Named.{AreLower, IsChosen, IsLower, IsWordFor, IsWritten, candidate, term_word}
 
 -- TESTS
 
@@ -27,10 +28,6 @@ both {a = a} {b = b} e f = and_from a b e f
 -- of two tests each stays true
 pub and_keeps : {a b c d : Bool} → (a ≡ true → c ≡ true) → (b ≡ true → d ≡ true) → (a && b) ≡ true → (c && d) ≡ true
 and_keeps {a = a} {b = b} f g h = let k = and_parts a b h in both (f k.0) (g k.1)
-
-pub end_keeps : {X Y : Type 0} (p : X → Bool) (q : Y → Bool) (xs : List X) (x : X) (ys : List Y) (y : Y) → (list_all p xs ≡ true → list_all q ys ≡ true) → (p x ≡ true → q y ≡ true)
-    → list_all p (xs ++ x ∷ []) ≡ true → list_all q (ys ++ y ∷ []) ≡ true
-end_keeps p q xs x ys y f g h = list_all-append q ys (y ∷ []) ∙ and_keeps f (and_keeps g (λ e. e)) (sym (list_all-append p xs (x ∷ [])) ∙ h)
 
 -- THE CANDIDATES FOR A BINDER
 
@@ -72,8 +69,24 @@ candidate_lower : (w : Word) (i : ℕ) → IsLower w → IsLower (candidate w i)
 candidate_lower w zero h = h
 candidate_lower w (suc i) h = both (name_goes_on w (95 ∷ decimal (suc i)) (and_parts _ _ h).0 (number_of_name (suc i))) (lined_is_no_keyword w (decimal (suc i)))
 
-pub chosen_lower : {taken : WordSet} {w v : Word} → IsChosen taken w v → IsLower w → IsLower v
+other_lower : IsLower (codes "x")
+unfolding keyword_of
+other_lower = refl
+
+chosen_lower : {taken : WordSet} {w v : Word} → IsChosen taken w v → IsLower w → IsLower v
 chosen_lower {w = w} c h = subst IsLower (sym c.is) (candidate_lower w c.number h)
+
+-- the first candidate for a word, if that is a lower word, and for `x`, if it is not
+pub chosen_for : {taken : WordSet} (w : Word) {u v : Word} → u ≡ (if is_lower_word w then w else codes "x") → IsChosen taken u v → IsWordFor taken w v
+chosen_for {taken = taken} w {u = u} {v = v} is c =
+    by_test (is_lower_word w)
+    (λ h. let same : u ≡ w = is ∙ ap (λ (b : Bool). if b then w else codes "x") h in
+    record { free = c.free; lower = chosen_lower c (ap is_lower_word same ∙ h); chosen = λ low. subst (λ (x : Word). IsChosen taken x v) same c })
+    (λ h. record {
+      free = c.free;
+      lower = chosen_lower c (ap is_lower_word (is ∙ ap (λ (b : Bool). if b then w else codes "x") h) ∙ other_lower);
+      chosen = λ low. absurd (true≢false (sym low ∙ h));
+    })
 
 -- WORDS IN SCOPE
 

@@ -6,6 +6,7 @@ use Rattle.fc_model.specs.Nameless.{NModuleOf}
 use Rattle.fc_model.specs.Resolution.{Top, no_word, no_words, offers_all, plus_all, top_of, ntop_of}
 use Rattle.fc_model.specs.ResolutionRules.{AreDistinct, Resolves, ResolvesDecls, resolves_module}
 use Rattle.fc_model.specs.Worded.{WDecl, bare_decls}
+use Rattle.fc_formed.proofs.WithWords.{formed_with_words}
 use Rattle.fc_used_words.specs.Scoped.{HoldsDecls, IsScoped, is_meant}
 use Rattle.fc_naming.specs.Declarations.{IsNamedDecls, IsNamedModule}
 use Rattle.fc_naming.proofs.Lower.{and_keeps}
@@ -28,7 +29,10 @@ resolved {top = top} {m = m} {imports = imports} {exports = exports} {hidden = h
 
 named_module : {top : Top} {m : Word} {imports exports hidden : List Word} {ns : List WDecl} {ds : List Decl} → IsNamedDecls top ns ds
     → IsNamedModule top (ModuleOf m imports exports hidden ns) (ModuleOf m imports exports hidden ds)
-named_module p = record { resolves = λ is scoped. resolved p is scoped; formed = and_keeps (λ h. h) (and_keeps (λ h. h) p.formed) }
+named_module {m = m} {imports = imports} {exports = exports} {hidden = hidden} {ns = ns} p = record {
+  resolves = λ is scoped. resolved p is scoped;
+  formed = λ h. and_keeps (λ e. e) (and_keeps (λ e. e) p.formed) ((formed_with_words (ModuleOf m imports exports hidden ns)).1 h);
+}
 
 pub named_back : {top : Top} {m n : Word} {imports exports hidden is es hs : List Word} {ms ns : List WDecl} {ds : List Decl} → IsNamedDecls top ms ds → ms ≡ ns
     → n ≡ m → is ≡ imports → es ≡ exports → hs ≡ hidden → IsNamedModule top (ModuleOf m imports exports hidden ns) (ModuleOf n is es hs ds)

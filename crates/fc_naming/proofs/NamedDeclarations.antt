@@ -4,6 +4,7 @@ use Rattle.std.specs.Prelude.{◌&&◌}
 use Rattle.std.specs.List.{list_all}
 use Rattle.std.proofs.lemmas.Bool.{and_parts}
 use Rattle.std.proofs.lemmas.List.{append-nil, append_assoc, map-append, reverse-append, take_all}
+use Rattle.std.proofs.lemmas.List.Folds.{list_all-append}
 use Rattle.fc_syntax.specs.Hints.{param_hint, plain_hint}
 use Rattle.fc_syntax.specs.declared.module.ConDecl as RustConDecl
 use Rattle.fc_syntax.specs.declared.module.Decl as RustDecl
@@ -12,7 +13,7 @@ use Rattle.fc_syntax.specs.View.{con_of, cons_of, decl_of, decls_of}
 use Rattle.fc_syntax.specs.declared.ty.Name.{Name}
 use Rattle.fc_syntax.specs.Tree.{Word, Kind, Ty, Binder, Expr, Param, ParamOf, Plain, PlainOf, ConDecl, ConOf, Decl, DData, DNew, DFamily, DAxiom, DDef, DWrap}
 use Rattle.fc_model.specs.Declaring.{coercion_words, term_words, type_words, words_by}
-use Rattle.fc_model.specs.Formed.{field_binders_formed, field_coercions_formed, is_lower_word, named_words, nameless_words, param_formed, plain_formed}
+use Rattle.fc_model.specs.Formed.{field_binders_formed, field_coercions_formed, is_lower_word, named_words, param_formed, plain_formed}
 use Rattle.fc_model.specs.Nameless.{NTy, NExpr, NParam, NConDecl, NData, NNew, NFamily, NAxiom}
 use Rattle.fc_model.specs.Resolution.{Top, Locals, Words, WordSet, no_locals, no_word, no_words, plus, plus_all, with_type, in_params, behind}
 use Rattle.fc_model.specs.ResolutionRules.{AreDistinct, no_words_left, one_word_more, ResolvesTys, ResolvesTy, ResolvesCons, ResolvesDecl}
@@ -20,44 +21,44 @@ use Rattle.fc_model.specs.ResolutionRules.{resolves_no_constructors, resolves_co
 use Rattle.fc_model.specs.Worded.{WTy, WBinder, WConDecl, WDecl, WExpr, bare_binders, bare_con, bare_expr, bare_param, bare_plain, bare_ty, bare_tys}
 use Rattle.fc_model.proofs.Sameness.{false_true}
 use Rattle.fc_scope.specs.ScopeWords.{with_types}
+use Rattle.fc_formed.specs.FormedTrees.{bare_words}
 use Rattle.fc_used_words.specs.Scoped.{Counts, Saying, HoldsTy, HoldsCons, HoldsExpr, in_parameters, in_type, nothing_around, is_meant}
 use Rattle.fc_used_words.specs.Standing.{is_found, is_found_by, more_types}
 use Rattle.fc_used_words.proofs.Both.{Follows, both_cons, both_expr, both_ty}
 use Rattle.fc_used_words.proofs.Collecting.{take_item}
 use Rattle.fc_used_words.proofs.Keeping.{Same, below_same, beyond_near}
-use Rattle.fc_naming.specs.Named.{AreLower, IsChosen, IsNamedTy, IsNamedTys, IsNamedExpr, TakeWords, none_take, more_take, value_takes, type_takes, coercion_takes}
+use Rattle.fc_naming.specs.Named.{AreLower, IsNamedTy, IsNamedTys, IsNamedExpr, IsWordFor, TakeWords, none_take, more_take, value_takes, type_takes, coercion_takes}
 use Rattle.fc_naming.specs.BinderWords.{FieldWords}
 use Rattle.fc_naming.specs.Declarations.{FieldsUse, IsNamedCon, con_named, IsNamedCons, HaveWords, IsNamedDecl, IsNamedDecls}
 use Rattle.fc_naming.proofs.Each.{AreEach, each_more, each_none}
 use Rattle.fc_naming.proofs.Groups.{distinct_end, none_within, plus_all_end, words_enter, words_resolve, words_tys}
-use Rattle.fc_naming.proofs.Lower.{and_keeps, both, chosen_lower, coercion_lower, end_keeps, none_lower, type_lower}
+use Rattle.fc_naming.proofs.Lower.{and_keeps, both, coercion_lower, none_lower, type_lower}
 use Rattle.fc_naming.proofs.Naming.{By, found_by, found_meant, is_declared, takes_type}
 
 -- CONSTRUCTORS
 
 -- the types and then the coercions before the fields
-coercions_formed : {top : Top} {s t : Locals} {taken more : Words} {cs : List WBinder} {bs : List Binder} → TakeWords top s taken cs bs t more → AreLower s → field_coercions_formed nameless_words cs ≡ true
+coercions_formed : {top : Top} {s t : Locals} {taken more : Words} {cs : List WBinder} {bs : List Binder} → TakeWords top s taken cs bs t more → AreLower s → field_coercions_formed bare_words cs ≡ true
     → (field_coercions_formed named_words bs ≡ true) × AreLower t
 coercions_formed none_take l h = (refl, l)
 coercions_formed (more_take (value_takes free low p) rest) l h = false_true h
 coercions_formed (more_take (type_takes free low) rest) l h = false_true h
 coercions_formed (more_take (coercion_takes free low p q) rest) l h =
     let k = and_parts _ _ h in
-    let r = coercions_formed rest (coercion_lower l (low (and_parts _ _ k.0).0)) k.1 in
-    (both (and_keeps low (and_keeps (λ e. e) (and_keeps (p.formed l) (q.formed l))) k.0) r.0, r.1)
+    let r = coercions_formed rest (coercion_lower l low) k.1 in
+    (both (both low (and_keeps (λ e. e) (and_keeps (p.formed l) (q.formed l)) k.0)) r.0, r.1)
 
-binders_formed : {top : Top} {s t : Locals} {taken more : Words} {cs : List WBinder} {bs : List Binder} → TakeWords top s taken cs bs t more → AreLower s → field_binders_formed nameless_words cs ≡ true
+binders_formed : {top : Top} {s t : Locals} {taken more : Words} {cs : List WBinder} {bs : List Binder} → TakeWords top s taken cs bs t more → AreLower s → field_binders_formed bare_words cs ≡ true
     → (field_binders_formed named_words bs ≡ true) × AreLower t
 binders_formed none_take l h = (refl, l)
 binders_formed (more_take (value_takes free low p) rest) l h = false_true h
 binders_formed (more_take (type_takes free low) rest) l h =
-    let k = and_parts _ _ h in
-    let r = binders_formed rest (type_lower l (low k.0)) k.1 in
-    (both (low k.0) r.0, r.1)
+    let r = binders_formed rest (type_lower l low) h in
+    (both low r.0, r.1)
 binders_formed (more_take (coercion_takes free low p q) rest) l h =
     let k = and_parts _ _ h in
-    let r = coercions_formed rest (coercion_lower l (low (and_parts _ _ k.0).0)) k.1 in
-    (both (and_keeps low (and_keeps (λ e. e) (and_keeps (p.formed l) (q.formed l))) k.0) r.0, r.1)
+    let r = coercions_formed rest (coercion_lower l low) k.1 in
+    (both (both low (and_keeps (λ e. e) (and_keeps (p.formed l) (q.formed l)) k.0)) r.0, r.1)
 
 con_from : {top : Top} {s t : Locals} {taken more : Words} (n : Word) {cs : List WBinder} {bs : List Binder} {ts : List WTy} {fields : List Ty} → FieldsUse top s (bare_binders cs) (bare_tys ts) taken
     → TakeWords top s taken cs bs t more → IsNamedTys top t ts fields → IsNamedCon top s (ConOf n cs ts) (ConOf n bs fields)
@@ -104,14 +105,14 @@ pub record TookWords {I X Y : Type 0} (of : I → Y) (word : Y → Word) (bare :
 pub took_start : {I X Y : Type 0} (of : I → Y) (word : Y → Word) (bare : Y → X) (items out : List I) (names : List Word) (taken : WordSet) → out ≡ [] → names ≡ [] → taken ≡ no_word
     → TookWords of word bare (take 0 items) out names taken
 took_start of word bare items out names taken e f g =
-    subst (λ (o : List _). TookWords of word bare [] o names taken) (sym e) (record { own = record { distinct = no_words_left; same = refl; lower = λ h. refl; reversed = f }; taken_then = g })
+    subst (λ (o : List _). TookWords of word bare [] o names taken) (sym e) (record { own = record { distinct = no_words_left; same = refl; lower = refl; reversed = f }; taken_then = g })
 
 -- one item more at the end
 mapped_end : {I Y Z : Type 0} (of : I → Y) (f : Y → Z) (items longer : List I) (x : I) → longer ≡ items ++ x ∷ [] → map f (map of longer) ≡ map f (map of items) ++ f (of x) ∷ []
 mapped_end of f items longer x e = ap (λ o. map f (map of o)) e ∙ ap (map f) (map-append of items (x ∷ [])) ∙ map-append f (map of items) (of x ∷ [])
 
 pub took_step : {I X Y : Type 0} (of : I → Y) (word : Y → Word) (bare : Y → X) (items : List I) (i : ℕ) (x : I) (out longer : List I) (y : I) (names further : List Word) (mid more : WordSet)
-    → i < length items → x ≡ get_or items i x → TookWords of word bare (take i items) out names mid → bare (of y) ≡ bare (of x) → IsChosen mid (word (of x)) (word (of y)) → more ≡ plus (word (of y)) mid
+    → i < length items → x ≡ get_or items i x → TookWords of word bare (take i items) out names mid → bare (of y) ≡ bare (of x) → IsWordFor mid (word (of x)) (word (of y)) → more ≡ plus (word (of y)) mid
     → longer ≡ out ++ y ∷ [] → further ≡ word (of y) ∷ names → TookWords of word bare (take (i + 1) items) longer further more
 took_step of word bare items i x out longer y names further mid more low is a same c grown pushed added =
     let v = word (of y) in
@@ -122,8 +123,7 @@ took_step of word bare items i x out longer y names further mid more low is a sa
         distinct = subst (λ (ws : List Word). AreDistinct no_word ws) (sym here) (distinct_end no_word (map word (map of out)) v a.own.distinct (ap (λ (z : WordSet). z v) (sym a.taken_then) ∙ c.free));
         same = mapped_end of bare out longer y pushed ∙ ap (λ b. map bare (map of out) ++ b ∷ []) same ∙ ap (λ bs. bs ++ bare (of x) ∷ []) a.own.same
             ∙ sym (mapped_end of bare (take i items) (take (i + 1) items) x one);
-        lower = λ h. ap (list_all is_lower_word) here ∙ end_keeps is_lower_word is_lower_word (map word (map of (take i items))) (word (of x)) (map word (map of out)) v a.own.lower (chosen_lower c)
-            (ap (list_all is_lower_word) (sym (mapped_end of word (take i items) (take (i + 1) items) x one)) ∙ h);
+        lower = ap (list_all is_lower_word) here ∙ list_all-append is_lower_word (map word (map of out)) (v ∷ []) ∙ both a.own.lower (both c.lower refl);
         reversed = added ∙ ap (λ ns. v ∷ ns) a.own.reversed ∙ sym (ap reverse here ∙ reverse-append (map word (map of out)) (v ∷ []));
       };
       taken_then = grown ∙ ap (plus v) a.taken_then ∙ sym (ap (λ ws. plus_all ws no_word) here ∙ plus_all_end no_word (map word (map of out)) v);
@@ -150,10 +150,9 @@ types_lower : (ws : List Word) {s : Locals} → AreLower s → list_all is_lower
 types_lower [] l h = l
 types_lower (w ∷ ws) l h = let k = and_parts _ _ h in types_lower ws (type_lower l k.0) k.1
 
-params_lower : {X Y : Type 0} {word : Y → Word} {bare : Y → X} {n t : List Y} {names : List Word} → HaveWords word bare n t names → list_all is_lower_word (map word n) ≡ true
-    → AreLower (with_types names no_locals)
-params_lower {word = word} {t = t} w h =
-    subst AreLower (types_entered (map word t) no_locals ∙ ap (λ (ns : List Word). with_types ns no_locals) (sym w.reversed)) (types_lower (map word t) none_lower (w.lower h))
+params_lower : {X Y : Type 0} {word : Y → Word} {bare : Y → X} {n t : List Y} {names : List Word} → HaveWords word bare n t names → AreLower (with_types names no_locals)
+params_lower {word = word} {t = t} w =
+    subst AreLower (types_entered (map word t) no_locals ∙ ap (λ (ns : List Word). with_types ns no_locals) (sym w.reversed)) (types_lower (map word t) none_lower w.lower)
 
 params_test : (ps : List Param) → list_all (param_formed named_words) ps ≡ list_all is_lower_word (map param_hint ps)
 params_test [] = refl
@@ -223,8 +222,7 @@ named_data {top = top} {n = n} {ns = ns} {ps = ps} {names = names} {ncs = ncs} {
       formed = λ h.
           let k = and_parts _ _ h in
           let j = and_parts _ _ k.1 in
-          let low = sym (params_test ns) ∙ j.0 in
-          both k.0 (both (params_test ps ∙ w.lower low) (c.formed (params_lower w low) j.1));
+          both k.0 (both (params_test ps ∙ w.lower) (c.formed (params_lower w) j.1));
     })
 
 pub named_newtype : {top : Top} {n con : Word} {ns ps : List Param} {names : List Word} {a : WTy} {t : Ty} → HaveWords param_hint bare_param ns ps names
@@ -239,8 +237,7 @@ named_newtype {top = top} {n = n} {con = con} {ns = ns} {ps = ps} {names = names
       formed = λ h.
           let k = and_parts _ _ h in
           let j = and_parts _ _ k.1 in
-          let low = sym (params_test ns) ∙ j.0 in
-          both k.0 (both (params_test ps ∙ w.lower low) (p.formed (params_lower w low) j.1));
+          both k.0 (both (params_test ps ∙ w.lower) (p.formed (params_lower w) j.1));
     })
 
 pub named_family : {top : Top} {n : Word} {ns ps : List Plain} {names : List Word} {k : Kind} → HaveWords plain_hint bare_plain ns ps names
@@ -251,7 +248,7 @@ named_family {top = top} {n = n} {ns = ns} {ps = ps} {k = k} w is =
       terms = refl;
       coercions = refl;
       resolves = λ ws x b e h. subst (λ (xs : List Kind). ResolvesDecl top ws (DFamily n ps k) (NFamily n xs k)) w.same (resolves_family (first_new x) w.distinct);
-      formed = and_keeps (λ h. h) (λ h. plains_test ps ∙ w.lower (sym (plains_test ns) ∙ h));
+      formed = and_keeps (λ h. h) (λ h. plains_test ps ∙ w.lower);
     })
 
 pub named_equation : {top : Top} {n : Word} {ns ps : List Plain} {names : List Word} {a b : WTy} {t u : Ty} → HaveWords plain_hint bare_plain ns ps names
@@ -267,9 +264,8 @@ named_equation {top = top} {n = n} {ns = ns} {ps = ps} {names = names} {a = a} {
       formed = λ h.
           let k = and_parts _ _ h in
           let j = and_parts _ _ k.1 in
-          let low = sym (plains_test ns) ∙ j.0 in
-          let l = params_lower w low in
-          both k.0 (both (plains_test ps ∙ w.lower low) (and_keeps (p.formed l) (q.formed l) j.1));
+          let l = params_lower w in
+          both k.0 (both (plains_test ps ∙ w.lower) (and_keeps (p.formed l) (q.formed l) j.1));
     })
 
 ty_meant : (top : Top) (t : NTy) → HoldsTy (is_meant top) nothing_around t → HoldsTy (is_found top no_locals) nothing_around t

@@ -16,7 +16,7 @@ use Rattle.fc_syntax.specs.declared.expr.Expr as E
 use Rattle.fc_syntax.specs.View.{ty_of, binders_of, expr_of, exprs_of, arg_of, args_of, binds_of, joins_of, alts_of}
 use Rattle.fc_syntax.specs.Tree.{Word, Ty, Co, Arg, ATerm, AType, ACo}
 use Rattle.fc_syntax.specs.Tree.{Expr, EVar, ELit, EApp, ELet, ECase, ECast, ECon, EPrim, EFail, EJoin, EJump, Exprs, Args, Binds, Joins, Alts}
-use Rattle.fc_model.specs.Formed.{binder_formed, binds_formed, expr_formed, head_formed, joins_formed, is_bind_group, is_empty_list, is_join_group, is_literal_formed, is_lower_word, is_module_formed, is_upper_formed, named_words, nameless_words}
+use Rattle.fc_model.specs.Formed.{binder_formed, expr_formed, head_formed, joins_formed, is_bind_group, is_empty_list, is_join_group, is_literal_formed, is_lower_word, is_module_formed, is_upper_formed, named_words}
 use Rattle.fc_model.specs.Nameless.{NExpr, NVar, NCon, NBinds, NJoins}
 use Rattle.fc_model.specs.NamelessView.{nbinds_of, njoins_of}
 use Rattle.fc_model.specs.Resolution.{Top, Locals, Value, Join, IsValue, IsJoin, Words, WordSet, no_word, plus, declared_name, found_term, with_term, enter_values, enter_joins, bind_words, join_words}
@@ -26,6 +26,7 @@ use Rattle.fc_model.specs.ResolutionRules.{resolves_term, resolves_type, resolve
 use Rattle.fc_model.specs.Worded.{WTy, WCo, WBinder, WExpr, WArg, WArgs, WExprs, WBinds, WJoins, WAlts, bare_expr, bare_args, bare_joins, bare_alts}
 use Rattle.fc_model.proofs.Sameness.{false_true}
 use Rattle.fc_scope.specs.WordsAt.{join_word, value_word}
+use Rattle.fc_formed.specs.FormedTrees.{bare_words}
 use Rattle.fc_used_words.specs.Scoped.{HoldsExpr, HoldsBinds, HoldsJoins, in_group, in_joins, in_value, in_join, nothing_around}
 use Rattle.fc_used_words.specs.Standing.{is_found, is_found_by, more_terms, outside, short}
 use Rattle.fc_used_words.proofs.Both.{below_group, below_joins, both_binds, both_expr, both_joins}
@@ -42,8 +43,8 @@ pub record IsNamedPoints (top : Top) (s : Locals) (r : Bool) (ns : WJoins) (n : 
       → HoldsExpr (is_found top s) (in_joins (bare_joins ns) nothing_around) (bare_expr n) → ResolvesJoins top (if r then enter_joins (join_words js) s else s) no_word js (bare_joins ns)
   pub body : HoldsExpr (is_found top s) (in_joins (bare_joins ns) nothing_around) (bare_expr n) → ResolvesExpr top (enter_joins (join_words js) s) t (bare_expr n)
   pub group : is_join_group r ns ≡ true → is_join_group r js ≡ true
-  pub joins_stay : AreLower s → joins_formed nameless_words ns ≡ true → joins_formed named_words js ≡ true
-  pub body_stays : AreLower s → joins_formed nameless_words ns ≡ true → expr_formed nameless_words n ≡ true → expr_formed named_words t ≡ true
+  pub joins_stay : AreLower s → joins_formed bare_words ns ≡ true → joins_formed named_words js ≡ true
+  pub body_stays : AreLower s → joins_formed bare_words ns ≡ true → expr_formed bare_words n ≡ true → expr_formed named_words t ≡ true
 
 -- a name of the module itself, or another one
 by_module : {Y : Type 0} (m : Option Word) → (m ≡ None → Y) → ((w : Word) → m ≡ Some w → Y) → Y
@@ -51,14 +52,14 @@ by_module None f g = f refl
 by_module (Some w) f g = g w refl
 
 -- only a constructor has binders
-empty_binders : (ns : List WBinder) → is_empty_list ns ≡ true → list_all (binder_formed nameless_words) ns ≡ true
+empty_binders : (ns : List WBinder) → is_empty_list ns ≡ true → list_all (binder_formed bare_words) ns ≡ true
 empty_binders [] h = refl
 empty_binders (n ∷ ns) h = false_true h
 
-head_binders : (x : Head) (ns : List WBinder) → head_formed nameless_words x ns ≡ true → list_all (binder_formed nameless_words) ns ≡ true
+head_binders : (x : Head) (ns : List WBinder) → head_formed bare_words x ns ≡ true → list_all (binder_formed bare_words) ns ≡ true
 head_binders head.Default ns h = empty_binders ns h
 head_binders (head.Lit n) ns h = empty_binders ns (and_parts (is_literal_formed n) (is_empty_list ns) h).1
-head_binders (head.Con n) ns h = (and_parts (is_upper_formed n) (list_all (binder_formed nameless_words) ns) h).1
+head_binders (head.Con n) ns h = (and_parts (is_upper_formed n) (list_all (binder_formed bare_words) ns) h).1
 
 -- a group keeps its size
 bind_group : {R : RustBind.Bind ℕ Ref → RustBind.Bind Word Name → Type 0} (r : Bool) (items : List (RustBind.Bind ℕ Ref)) (out : List (RustBind.Bind Word Name)) → AreEach R items out
@@ -124,8 +125,7 @@ module _ {top : Top} {s : Locals} where
     formed = λ l h.
         let k = and_parts _ _ h in
         let j = and_parts _ _ k.1 in
-        let i = and_parts _ _ j.0 in
-        both (p.formed l k.0) (both (both (m.lower i.0) (and_keeps (q.formed l) (o.formed l) i.1)) (n.formed (term_lower (Value v) l (m.lower i.0)) j.1));
+        both (p.formed l k.0) (both (both m.lower (and_keeps (q.formed l) (o.formed l) j.0)) (n.formed (term_lower (Value v) l m.lower) j.1));
   }
 
   pub named_cast : {e : WExpr} {f : Expr} {a : WCo} {g : Co} → IsNamedExpr top s e f → IsNamedCo top s a g → IsNamedExpr top s (ECast e a) (ECast f g)
@@ -200,8 +200,7 @@ module _ {top : Top} {s : Locals} where
         formed = λ l ws h.
             let w = and_parts _ _ ws in
             let k = and_parts _ _ h in
-            let j = and_parts _ _ k.0 in
-            both (both w.0 (and_keeps (p.0.formed l) (p.1.formed l) j.1)) (q.formed l w.1 k.1);
+            both (both w.0 (and_keeps (p.0.formed l) (p.1.formed l) k.0)) (q.formed l w.1 k.1);
       }
 
   join_more : (x : RustJoin.JoinBind ℕ Ref) (y : RustJoin.JoinBind Word Name) (xs : List (RustJoin.JoinBind ℕ Ref)) (ys : List (RustJoin.JoinBind Word Name))
@@ -220,8 +219,7 @@ module _ {top : Top} {s : Locals} where
         formed = λ l ws h.
             let w = and_parts _ _ ws in
             let k = and_parts _ _ h in
-            let j = and_parts _ _ k.0 in
-            let i = and_parts _ _ j.1 in
+            let i = and_parts _ _ k.0 in
             both (both w.0 (both ((p.binders_formed l).formed i.0) (p.body_formed l i.0 i.1))) (q.formed l w.1 k.1);
       }
 
@@ -293,7 +291,7 @@ pub distinct_alone : (taken : WordSet) (vs : List Word) → AreDistinct taken vs
 distinct_alone taken vs d = distinct_less no_word taken vs (λ w h. false_true h) d
 
 pub named_let_group : (top : Top) (s : Locals) (taken : Words) (items : List (RustBind.Bind ℕ Ref)) (vs : List Word) (e : WExpr) (bs : Binds) (f : Expr) → length vs ≡ length items → AreDistinct taken.terms vs
-    → (binds_formed nameless_words (binds_of items) ≡ true → list_all is_lower_word vs ≡ true) → LetUses top s true (nbinds_of items) (bare_expr e) taken → bind_words bs ≡ vs
+    → list_all is_lower_word vs ≡ true → LetUses top s true (nbinds_of items) (bare_expr e) taken → bind_words bs ≡ vs
     → IsNamedBinds top (enter_values vs s) (binds_of items) bs → IsNamedExpr top (enter_values vs s) e f → IsNamedExpr top s (ELet true (binds_of items) e) (ELet true bs f)
 named_let_group top s taken items vs e bs f counted d lower u are p q = record {
   resolves = λ h.
@@ -306,12 +304,12 @@ named_let_group top s taken items vs e bs f counted d lower u are p q = record {
   formed = λ l h.
       let k = and_parts _ _ h in
       let j = and_parts _ _ k.1 in
-      let inner = values_lower vs l (lower j.0) in
-      both (p.group true k.0) (both (p.formed inner (ap (list_all is_lower_word) are ∙ lower j.0) j.0) (q.formed inner j.1));
+      let inner = values_lower vs l lower in
+      both (p.group true k.0) (both (p.formed inner (ap (list_all is_lower_word) are ∙ lower) j.0) (q.formed inner j.1));
 }
 
 pub named_let : (top : Top) (s : Locals) (taken : Words) (items : List (RustBind.Bind ℕ Ref)) (vs : List Word) (e : WExpr) (bs : Binds) (f : Expr) → length vs ≡ length items → AreDistinct taken.terms vs
-    → (binds_formed nameless_words (binds_of items) ≡ true → list_all is_lower_word vs ≡ true) → LetUses top s false (nbinds_of items) (bare_expr e) taken → bind_words bs ≡ vs
+    → list_all is_lower_word vs ≡ true → LetUses top s false (nbinds_of items) (bare_expr e) taken → bind_words bs ≡ vs
     → IsNamedBinds top s (binds_of items) bs → IsNamedExpr top (enter_values vs s) e f → IsNamedExpr top s (ELet false (binds_of items) e) (ELet false bs f)
 named_let top s taken items vs e bs f counted d lower u are p q = record {
   resolves = λ h.
@@ -322,11 +320,11 @@ named_let top s taken items vs e bs f counted d lower u are p q = record {
   formed = λ l h.
       let k = and_parts _ _ h in
       let j = and_parts _ _ k.1 in
-      both (p.group false k.0) (both (p.formed l (ap (list_all is_lower_word) are ∙ lower j.0) j.0) (q.formed (values_lower vs l (lower j.0)) j.1));
+      both (p.group false k.0) (both (p.formed l (ap (list_all is_lower_word) are ∙ lower) j.0) (q.formed (values_lower vs l lower) j.1));
 }
 
 pub named_join_group : (top : Top) (s : Locals) (taken : Words) (items : List (RustJoin.JoinBind ℕ Ref)) (vs : List Word) (e : WExpr) (js : Joins) (f : Expr) → length vs ≡ length items
-    → AreDistinct taken.terms vs → (joins_formed nameless_words (joins_of items) ≡ true → list_all is_lower_word vs ≡ true) → JoinUses top s true (njoins_of items) (bare_expr e) taken → join_words js ≡ vs
+    → AreDistinct taken.terms vs → list_all is_lower_word vs ≡ true → JoinUses top s true (njoins_of items) (bare_expr e) taken → join_words js ≡ vs
     → IsNamedJoins top (enter_joins vs s) (joins_of items) js → IsNamedExpr top (enter_joins vs s) e f → IsNamedPoints top s true (joins_of items) e js f
 named_join_group top s taken items vs e js f counted d lower u are p q = record {
   joins = λ h g.
@@ -337,12 +335,12 @@ named_join_group top s taken items vs e js f counted d lower u are p q = record 
       let body = joins_expr top s taken items vs counted d (bare_expr e) (u.body g) in
       subst (λ (ws : List Word). ResolvesExpr top (enter_joins ws s) f (bare_expr e)) (sym are) (q.resolves body);
   group = p.group true;
-  joins_stay = λ l h. p.formed (joins_lower vs l (lower h)) (ap (list_all is_lower_word) are ∙ lower h) h;
-  body_stays = λ l h. q.formed (joins_lower vs l (lower h));
+  joins_stay = λ l h. p.formed (joins_lower vs l lower) (ap (list_all is_lower_word) are ∙ lower) h;
+  body_stays = λ l h. q.formed (joins_lower vs l lower);
 }
 
 pub named_join_alone : (top : Top) (s : Locals) (taken : Words) (items : List (RustJoin.JoinBind ℕ Ref)) (vs : List Word) (e : WExpr) (js : Joins) (f : Expr) → length vs ≡ length items
-    → AreDistinct taken.terms vs → (joins_formed nameless_words (joins_of items) ≡ true → list_all is_lower_word vs ≡ true) → JoinUses top s false (njoins_of items) (bare_expr e) taken → join_words js ≡ vs
+    → AreDistinct taken.terms vs → list_all is_lower_word vs ≡ true → JoinUses top s false (njoins_of items) (bare_expr e) taken → join_words js ≡ vs
     → IsNamedJoins top s (joins_of items) js → IsNamedExpr top (enter_joins vs s) e f → IsNamedPoints top s false (joins_of items) e js f
 named_join_alone top s taken items vs e js f counted d lower u are p q = record {
   joins = λ h g. p.resolves no_word (subst (λ (ws : List Word). AreDistinct no_word ws) (sym are) (distinct_alone taken.terms vs d)) h;
@@ -350,8 +348,8 @@ named_join_alone top s taken items vs e js f counted d lower u are p q = record 
       let body = joins_expr top s taken items vs counted d (bare_expr e) (u.body g) in
       subst (λ (ws : List Word). ResolvesExpr top (enter_joins ws s) f (bare_expr e)) (sym are) (q.resolves body);
   group = p.group false;
-  joins_stay = λ l h. p.formed l (ap (list_all is_lower_word) are ∙ lower h) h;
-  body_stays = λ l h. q.formed (joins_lower vs l (lower h));
+  joins_stay = λ l h. p.formed l (ap (list_all is_lower_word) are ∙ lower) h;
+  body_stays = λ l h. q.formed (joins_lower vs l lower);
 }
 
 -- the words of members that are named in a loop

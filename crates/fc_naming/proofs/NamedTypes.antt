@@ -1,6 +1,5 @@
 -- Named trees by their parts: one step a form.
 use Rattle.std.proofs.Common.{◌≡◌, ℕ, List, Some, slice_get, refl, sym, subst}
-use Rattle.std.proofs.lemmas.Bool.{and_parts}
 use Rattle.fc_syntax.specs.declared.ty.Name.{Name}
 use Rattle.fc_syntax.specs.declared.ty.Role.{Role}
 use Rattle.fc_syntax.specs.declared.ty.Ty as T
@@ -17,34 +16,34 @@ use Rattle.fc_model.specs.Worded.{WTy, WCo, WCos, bare_ty, bare_co, bare_cos}
 use Rattle.fc_used_words.specs.Scoped.{in_type, in_value, nothing_around}
 use Rattle.fc_used_words.specs.Standing.{more_types, more_terms, short}
 use Rattle.fc_used_words.proofs.Both.{both_ty, both_co, both_alts}
-use Rattle.fc_naming.specs.Named.{AltsUse, CoUses, TyUses, IsChosen, MayTakeTy, MayTakeCo, MayTakeAlts, IsWritten, IsNamedTy, IsNamedTys, IsNamedCo, IsNamedCos}
+use Rattle.fc_naming.specs.Named.{AltsUse, CoUses, TyUses, IsWordFor, MayTakeTy, MayTakeCo, MayTakeAlts, IsWritten, IsNamedTy, IsNamedTys, IsNamedCo, IsNamedCos}
 use Rattle.fc_naming.proofs.Each.{AreEach, each_more, each_none}
-use Rattle.fc_naming.proofs.Lower.{and_keeps, both, chosen_lower, type_lower, upper_written, word_at, written_lower}
+use Rattle.fc_naming.proofs.Lower.{and_keeps, both, type_lower, upper_written, word_at, written_lower}
 use Rattle.fc_naming.proofs.Naming.{found_by, takes_type, takes_value}
 
 -- THE WORD OF A BINDER
 
-pub may_take_ty : {top : Top} {s : Locals} {n : NTy} {ws : Words} {w v : Word} → TyUses top s n ws → IsChosen ws.types w v → MayTakeTy top s w v n
+pub may_take_ty : {top : Top} {s : Locals} {n : NTy} {ws : Words} {w v : Word} → TyUses top s n ws → IsWordFor ws.types w v → MayTakeTy top s w v n
 may_take_ty {top = top} {s = s} {n = n} {ws = ws} {v = v} u c = record {
-  lower = chosen_lower c;
+  lower = c.lower;
   enters = λ h.
       let k = in_type nothing_around in
       let moved = both_ty _ _ _ _ (takes_type top ws s v c.free) k nothing_around refl n (u.body h) (u.body h) in
       both_ty _ _ _ _ (found_by top (more_types v ws) (with_type v s)) nothing_around nothing_around refl n moved moved;
 }
 
-pub may_take_co : {top : Top} {s : Locals} {n : NCo} {ws : Words} {w v : Word} → CoUses top s n ws → IsChosen ws.types w v → MayTakeCo top s w v n
+pub may_take_co : {top : Top} {s : Locals} {n : NCo} {ws : Words} {w v : Word} → CoUses top s n ws → IsWordFor ws.types w v → MayTakeCo top s w v n
 may_take_co {top = top} {s = s} {n = n} {ws = ws} {v = v} u c = record {
-  lower = chosen_lower c;
+  lower = c.lower;
   enters = λ h.
       let k = in_type nothing_around in
       let moved = both_co _ _ _ _ (takes_type top ws s v c.free) k nothing_around refl n (u.body h) (u.body h) in
       both_co _ _ _ _ (found_by top (more_types v ws) (with_type v s)) nothing_around nothing_around refl n moved moved;
 }
 
-pub may_take_alts : {top : Top} {s : Locals} {n : NAlts} {ws : Words} {w v : Word} → AltsUse top s n ws → IsChosen ws.terms w v → MayTakeAlts top s w v n
+pub may_take_alts : {top : Top} {s : Locals} {n : NAlts} {ws : Words} {w v : Word} → AltsUse top s n ws → IsWordFor ws.terms w v → MayTakeAlts top s w v n
 may_take_alts {top = top} {s = s} {n = n} {ws = ws} {v = v} u c = record {
-  lower = chosen_lower c;
+  lower = c.lower;
   enters = λ h.
       let k = in_value nothing_around in
       let moved = both_alts _ _ _ _ (takes_value top ws s v c.free) k nothing_around refl n (u.alts h) (u.alts h) in
@@ -75,7 +74,7 @@ module _ {top : Top} {s : Locals} where
   pub named_forall : {w v : Word} {k : Kind} {a : WTy} {t : Ty} → MayTakeTy top s w v (bare_ty a) → IsNamedTy top (with_type v s) a t → IsNamedTy top s (TForall w k a) (TForall v k t)
   named_forall m p = record {
     resolves = λ h. resolves_forall (p.resolves (m.enters h));
-    formed = λ l h. let k = and_parts _ _ h in both (m.lower k.0) (p.formed (type_lower l (m.lower k.0)) k.1);
+    formed = λ l h. both m.lower (p.formed (type_lower l m.lower) h);
   }
 
   pub named_coforall : {r : Role} {a b c : WTy} {t u v : Ty} → IsNamedTy top s a t → IsNamedTy top s b u → IsNamedTy top s c v → IsNamedTy top s (TCoForall r a b c) (TCoForall r t u v)
@@ -110,7 +109,7 @@ module _ {top : Top} {s : Locals} where
   pub named_allco : {w v : Word} {k : Kind} {a : WCo} {t : Co} → MayTakeCo top s w v (bare_co a) → IsNamedCo top (with_type v s) a t → IsNamedCo top s (GAll w k a) (GAll v k t)
   named_allco m p = record {
     resolves = λ h. resolves_allco (p.resolves (m.enters h));
-    formed = λ l h. let k = and_parts _ _ h in both (m.lower k.0) (p.formed (type_lower l (m.lower k.0)) k.1);
+    formed = λ l h. both m.lower (p.formed (type_lower l m.lower) h);
   }
 
   pub named_coallco : {r e : Role} {a b c : WCo} {t u v : Co} → IsNamedCo top s a t → IsNamedCo top s b u → IsNamedCo top s c v → IsNamedCo top s (GCoAll r e a b c) (GCoAll r e t u v)

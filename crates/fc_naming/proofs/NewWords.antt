@@ -1,32 +1,24 @@
 -- Words that are new: where every word around a binder is taken, the first candidate is free, and behind the binder one word more is taken.
-use Rattle.std.proofs.Common.{◌≡◌, ◌+◌, ℕ, Bool, true, false, ◌||◌, List, ◌∷◌, Option, Some, None, if◌then◌else◌, bytes_eq, is_some, option_map, refl, sym, ap, ◌∙◌, subst, arith}
+use Rattle.std.proofs.Common.{◌≡◌, ◌+◌, ℕ, Bool, true, false, ◌||◌, List, ◌∷◌, Option, Some, None, if◌then◌else◌, bytes_eq, is_some, option_map, refl, sym, ap, subst, arith}
 use Rattle.std.proofs.Math.Path.{fun_ext}
 use Rattle.fc_syntax.specs.Tree.{Word, Binder}
 use Rattle.fc_model.specs.Resolution.{Top, Locals, Value, Found, IsValue, IsJoin, Nowhere, Words, WordSet, found_term, index_of, past_value, plus, with_coercion, with_term, with_type}
 use Rattle.fc_model.specs.Worded.{WBinder}
-use Rattle.fc_used_words.proofs.Keeping.{by_test}
 use Rattle.fc_used_words.specs.Standing.{more_coercions, more_terms, more_types}
 use Rattle.fc_naming.specs.declared.taken.Space.{Space}
-use Rattle.fc_naming.specs.Named.{IsChosen, TakesWord, value_takes, type_takes, coercion_takes}
+use Rattle.fc_naming.specs.Named.{IsLower, IsWordFor, TakesWord, value_takes, type_takes, coercion_takes}
 use Rattle.fc_naming.specs.Taken.{is_somewhere, words_around, words_of}
 
--- THE FIRST CANDIDATE
+-- A WORD THAT IS KEPT
 
-pub new_chosen : {taken : WordSet} {w v : Word} {o : Option Word} → o ≡ (if taken w then None else Some w) → o ≡ Some v → IsChosen taken w v
-new_chosen {taken = taken} {w = w} {v = v} {o = o} is some =
-    by_test (taken w)
-    (λ h. let none : o ≡ None = is ∙ ap (λ (b : Bool). if b then None else Some w) h in absurd (cc))
-    (λ h. let same : o ≡ Some w = is ∙ ap (λ (b : Bool). if b then None else Some w) h in
-    let e : w ≡ v = cc in
-    subst (λ (u : Word). IsChosen taken w u) e (record { number = 0; is = refl; free = h; first = λ j low. absurd (omega arith) }))
+pub kept_word : {taken : WordSet} {w v : Word} → v ≡ w → IsLower w → taken w ≡ false → IsWordFor taken w v
+kept_word {taken = taken} {w = w} is lower free =
+    subst (λ (u : Word). IsWordFor taken w u) (sym is) (record { free = free; lower = lower; chosen = λ low. record { number = 0; is = refl; free = free; first = λ j below. absurd (omega arith) } })
 
 -- where space and word are those of a binder
-pub chosen_of : (taken : Words) {a b : Space} {w u v : Word} → a ≡ b → w ≡ u → IsChosen (words_of a taken) w v → IsChosen (words_of b taken) u v
-chosen_of taken {b = b} {w = w} {v = v} e f c =
-    subst (λ (x : Word). IsChosen (words_of b taken) x v) f (subst (λ (x : Space). IsChosen (words_of x taken) w v) e c)
-
-pub new_chosen_of : (taken : Words) {a b : Space} {w u v : Word} {o : Option Word} → a ≡ b → w ≡ u → o ≡ (if words_of a taken w then None else Some w) → o ≡ Some v → IsChosen (words_of b taken) u v
-new_chosen_of taken {w = w} {u = u} {v = v} e f is some = chosen_of taken e f (new_chosen is some)
+pub word_of_binder : (taken : Words) {a b : Space} {w u v : Word} → a ≡ b → w ≡ u → IsWordFor (words_of a taken) w v → IsWordFor (words_of b taken) u v
+word_of_binder taken {b = b} {w = w} {v = v} e f c =
+    subst (λ (x : Word). IsWordFor (words_of b taken) x v) f (subst (λ (x : Space). IsWordFor (words_of x taken) w v) e c)
 
 -- BEHIND A BINDER
 

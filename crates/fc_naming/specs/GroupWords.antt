@@ -5,7 +5,7 @@ use Rattle.fc_syntax.specs.declared.ty.Ref.{Ref}
 use Rattle.fc_syntax.specs.declared.expr.Bind as RustBind
 use Rattle.fc_syntax.specs.declared.expr.JoinBind as RustJoin
 use Rattle.fc_syntax.specs.View.{binds_of, joins_of}
-use Rattle.fc_model.specs.Formed.{binds_formed, is_lower_word, joins_formed, nameless_words}
+use Rattle.fc_model.specs.Formed.{is_lower_word}
 use Rattle.fc_model.specs.Nameless.{NExpr}
 use Rattle.fc_model.specs.NamelessView.{nbinds_of, njoins_of}
 use Rattle.fc_model.specs.Resolution.{Locals, Top, Words, enter_joins, enter_values}
@@ -21,7 +21,7 @@ pub record LetWords (top : Top) (s : Locals) (r : Bool) (ns : WBinds) (n : NExpr
   pub taken : Words
   pub distinct : AreDistinct taken.terms g.words
   pub counted : length g.words ≡ length items
-  pub lower : binds_formed nameless_words ns ≡ true → list_all is_lower_word g.words ≡ true
+  pub lower : list_all is_lower_word g.words ≡ true
   pub values : with_values g.names s ≡ enter_values g.words s
   pub uses : LetUses top s r (nbinds_of items) n taken
 
@@ -31,6 +31,6 @@ pub record JoinWords (top : Top) (s : Locals) (r : Bool) (ns : WJoins) (n : NExp
   pub taken : Words
   pub distinct : AreDistinct taken.terms g.words
   pub counted : length g.words ≡ length items
-  pub lower : joins_formed nameless_words ns ≡ true → list_all is_lower_word g.words ≡ true
+  pub lower : list_all is_lower_word g.words ≡ true
   pub joins : with_joins g.names s ≡ enter_joins g.words s
   pub uses : JoinUses top s r (njoins_of items) n taken

@@ -7,12 +7,11 @@ use Rattle.fc_model.specs.Resolution.{Locals, WordSet, enter_joins, enter_values
 use Rattle.fc_model.specs.ResolutionRules.{AreDistinct}
 use Rattle.fc_scope.specs.ScopeWords.{with_joins, with_values}
 
--- For each item a word that is not taken and differs from those before, and the same words for look-ups; then they are taken. They are
--- lower words if those are that the items were read with.
-pub record IsGroup {X : Type 0} (taken : WordSet) (items : List X) (hint : X → Word) (words names : List Word) (more : WordSet) : Type 0 where
+-- For each item a lower word that is not taken and differs from those before, and the same words for look-ups; then they are taken.
+pub record IsGroup {X : Type 0} (taken : WordSet) (items : List X) (words names : List Word) (more : WordSet) : Type 0 where
   pub distinct : AreDistinct taken words
   pub counted : length words ≡ length items
-  pub lower : list_all (λ x. is_lower_word (hint x)) items ≡ true → list_all is_lower_word words ≡ true
+  pub lower : list_all is_lower_word words ≡ true
   pub values : (s : Locals) → with_values names s ≡ enter_values words s
   pub joins : (s : Locals) → with_joins names s ≡ enter_joins words s
   pub taken_then : more ≡ plus_all words taken

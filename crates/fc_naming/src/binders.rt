@@ -6,7 +6,7 @@ ghost use Rattle.fc_model.specs.Resolution.{Locals, Words, enter};
 ghost use Rattle.fc_model.specs.DeclaredWords.{top_by, words_by_space};
 ghost use Rattle.fc_scope.specs.ScopeWords.{locals_of, with_binders};
 ghost use Rattle.fc_naming.specs.BinderWords.{BelowWords, FieldWords, LambdaWord};
-ghost use Rattle.fc_naming.specs.Named.{IsChosen, TakeWords, TakesWord};
+ghost use Rattle.fc_naming.specs.Named.{IsWordFor, TakeWords, TakesWord};
 ghost use Rattle.fc_naming.specs.Taken.{hint_of, more_words, space_of, words_around, words_of};
 
 use crate::choose::{new_word, take_word};
@@ -50,7 +50,7 @@ fn worded<'x>(
     scope: &'x Scope<'x>,
     word: Text,
 ) -> Result<Binder, Memory>
-    ensures { IfOk result (λ b. (taken more : Words) → IsChosen (words_of (space_of (binder_of binder.now)) taken) (hint_of (binder_of binder.now)) word → more ≡ more_words (space_of (binder_of binder.now)) word taken → TakesWord (top_by top.now) (locals_of scope.now) taken (binder_of binder.now) (binder_of b) (enter (binder_of b) (locals_of scope.now)) more) }
+    ensures { IfOk result (λ b. (taken more : Words) → IsWordFor (words_of (space_of (binder_of binder.now)) taken) (hint_of (binder_of binder.now)) word → more ≡ more_words (space_of (binder_of binder.now)) word taken → TakesWord (top_by top.now) (locals_of scope.now) taken (binder_of binder.now) (binder_of b) (enter (binder_of b) (locals_of scope.now)) more) }
 {
     match binder {
         NBinder::Value(_, t) => {

@@ -1,6 +1,5 @@
 //! The members of groups with the words that they take.
 ghost use Rattle.std.specs.Prelude.{◌≡◌, length, IfOk, IfSome};
-ghost use Rattle.fc_syntax.specs.Tree.{Word};
 ghost use Rattle.fc_syntax.specs.View.{binds_of, joins_of};
 ghost use Rattle.fc_model.specs.NamelessView.{nexpr_of};
 ghost use Rattle.fc_model.specs.DeclaredWords.{top_by, words_by_space};
@@ -19,24 +18,17 @@ use std::alloc::Global;
 
 /// A member of a group: a bind of a let, or a join point.
 trait Member {
-    ghost hint: { Self → Word };
-
     /// The word that it was read with.
-    fn hint(&self) -> &Text
-        ensures { result.now ≡ hint self.now };
+    fn hint(&self) -> &Text;
 }
 
 impl Member for NBind {
-    ghost hint = { λ b. b.name };
-
     fn hint(&self) -> &Text {
         &self.name
     }
 }
 
 impl Member for NJoinBind {
-    ghost hint = { λ j. j.name };
-
     fn hint(&self) -> &Text {
         &self.name
     }
@@ -59,7 +51,7 @@ fn new_group<'x, M: Member>(
     top: &Declared,
     scope: &'x Scope<'x>,
 ) -> Result<Option<Group>, Memory>
-    ensures { IfOk result (λ o. IfSome o (λ r. IsGroup (words_around (top_by top.now) (locals_of scope.now)).terms members.now M.hint r.words r.names (words_around (top_by top.now) (with_values r.names (locals_of scope.now))).terms)) }
+    ensures { IfOk result (λ o. IfSome o (λ r. IsGroup (words_around (top_by top.now) (locals_of scope.now)).terms members.now r.words r.names (words_around (top_by top.now) (with_values r.names (locals_of scope.now))).terms)) }
 {
     let mut words = Seq::new(alloc);
     let mut names = Names::new(alloc);
@@ -76,7 +68,7 @@ fn new_group<'x, M: Member>(
 
 /// The words of members, each not taken by a name in its scope or by a member before it.
 fn named_group<M: Member>(alloc: Global, members: &[M], taken: &mut Spaces) -> Result<Group, Memory>
-    ensures { IfOk result (λ r. IsGroup (words_by_space taken.old).terms members.now M.hint r.words r.names (words_by_space taken.new).terms) }
+    ensures { IfOk result (λ r. IsGroup (words_by_space taken.old).terms members.now r.words r.names (words_by_space taken.new).terms) }
 {
     let mut words = Seq::new(alloc);
     let mut names = Names::new(alloc);

@@ -2,9 +2,10 @@
 ghost use Rattle.std.specs.Prelude.{◌≡◌, IfErr, IfOk, OnOk, option_map};
 ghost use Rattle.fc_syntax.specs.View.{module_of};
 ghost use Rattle.fc_model.specs.DeclaredWords.{top_by};
-ghost use Rattle.fc_model.specs.Formed.{IsFormed, IsNamelessFormed};
+ghost use Rattle.fc_model.specs.Formed.{IsFormed};
 ghost use Rattle.fc_model.specs.NamelessView.{nmodule_of};
 ghost use Rattle.fc_model.specs.ResolutionRules.{Resolves};
+ghost use Rattle.fc_formed.specs.FormedTrees.{IsFormedModule};
 ghost use Rattle.fc_used_words.specs.Scoped.{IsScoped};
 ghost use Rattle.fc_naming.specs.Declarations.{IsNamedBack, IsNamedModule};
 ghost use Rattle.fc_naming.specs.declared.error.NotNamed.TheVariants.{Unscoped};
@@ -46,13 +47,13 @@ fn named_if_scoped(alloc: Global, m: &NModule) -> Result<Option<Module>, Memory>
     Ok(Some(named))
 }
 
-/// The named module in which a nameless one is written: each binder has the word that it was read with, or that with a number where
-/// the word would hide one that is used in its scope, or where another binder beside it has it. It is one of the text form, if the
-/// nameless one is. Fails with `Unscoped` exactly where the module is not scoped, memory aside.
+/// The named module in which a nameless one is written: each binder has the word that it was read with, or `x` where that is no word that a
+/// binder may have in a text, or one of these with a number where the word would hide one that is used in its scope, or where another binder
+/// beside it has it. It is one of the text form, if the nameless one is, whatever the words of its binders. Fails with `Unscoped` exactly where the module is not scoped, memory aside.
 pub fn name_back(alloc: Global, m: &NModule) -> Result<Module, NotNamed>
     ensures scoped { OnOk result (IsScoped (nmodule_of m.now)) }
     ensures resolves { IfOk result (λ r. Resolves (module_of r) (nmodule_of m.now)) }
-    ensures formed { IfOk result (λ r. IsNamelessFormed (module_of m.now) → IsFormed (module_of r)) }
+    ensures formed { IfOk result (λ r. IsFormedModule (nmodule_of m.now) → IsFormed (module_of r)) }
     ensures unscoped { IfErr result (λ e. e ≡ Unscoped → IsScoped (nmodule_of m.now) → ⊥) }
 {
     match named_if_scoped(alloc, m) {

@@ -55,7 +55,7 @@ module _ (ms ns : Modules) (alike : DeclareAlike ms ns) where
   families_alike args (NTForall k t) = refl
   families_alike args (NTCoForall r t u v) = refl
 
-  parts_alike : (r : Role) (a b : Shape) → parts_of ms r a b ≡ parts_of ns r a b
+  pub parts_alike : (r : Role) (a b : Shape) → parts_of ms r a b ≡ parts_of ns r a b
   parts_alike r (Named n ts) (Named m us) = rw (alike.types n.module n.text) refl
   parts_alike r (Named n ts) (Function t u) = refl
   parts_alike r (Named n ts) (Equality o t u v) = refl

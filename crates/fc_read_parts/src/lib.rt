@@ -13,3 +13,4 @@ pub use parts::{
 };
 pub use refusing::refusal_at;
 pub use terminal::{Terminal, module_text, name_text, terminals};
+pub use words::keyword_of;

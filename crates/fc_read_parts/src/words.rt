@@ -120,7 +120,7 @@ fn of_eight(word: &[u8]) -> Option<Keyword>
 }
 
 /// The word of a form that these bytes are, which is looked for among those of as many bytes.
-pub(crate) fn keyword_of(word: &[u8]) -> Option<Keyword>
+pub fn keyword_of(word: &[u8]) -> Option<Keyword>
     ensures { result ≡ spec.keyword_of word.now }
 {
     match word.len() {

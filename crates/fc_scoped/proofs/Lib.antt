@@ -1,5 +1,6 @@
 mod Counting
-mod Knowing
+mod Declared
+pub mod LintedNames
 mod Parameters
-mod Scoping
+pub mod Scoping
 pub mod Tested

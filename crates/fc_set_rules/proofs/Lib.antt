@@ -1,4 +1,4 @@
 pub mod FormsLint
-mod FoundAmong
+pub mod FoundAmong
 mod NamesOffered
 pub mod SetsAre

@@ -27,8 +27,8 @@ use Rattle.fc_apply.proofs.InDefinitions.{decl_put}
 use Rattle.fc_row_search.specs.declared.spots.Applying.{Applying}
 use Rattle.fc_simplify.specs.Phase.{Continues, FirstDefines, FirstHasSpare, KeepsWords, room}
 use Rattle.fc_simplify.specs.Taking.{IsFound, IsNext, IsNowhere, IsPut}
-use Rattle.fc_simplify.proofs.Logs.{continues_same, replays_step}
-use Rattle.fc_simplify.proofs.Taken.{spare_after, spare_left, step_rewrites, words_kept}
+use Rattle.fc_simplify.proofs.Logs.{continues_same, simplifies_once}
+use Rattle.fc_simplify.proofs.Taken.{spare_after, spare_left, step_in_phase, step_rewrites, words_kept}
 use Rattle.fc_simplify.proofs.Words.{is_below, keeps_same, located}
 
 -- WHAT A STEP DOES
@@ -45,7 +45,7 @@ taken : (spare i : ℕ) (a : Applying) (s : Step) (old : WExpr) (ms ks : List (R
 taken spare i a s old [] ks first has found put = absurd put
 taken spare i a s old (m ∷ ms) [] first has found put = absurd put
 taken spare i a s old (m ∷ ms) (k ∷ ks) (w, first) has found (same, put) = record {
-  continues = λ es. (ap nmodules_of same, (entry.Step s ∷ [], (refl, replays_step (nmodules_of ms) s (nmodule_of m) (nmodule_of k) (step_rewrites m k (nmodules_of ms) spare i a s old w first has found put))));
+  continues = λ es. (ap nmodules_of same, (entry.Step s ∷ [], (refl, simplifies_once (nmodules_of ms) s (nmodule_of m) (nmodule_of k) (step_in_phase m k (nmodules_of ms) spare i a s old w first has found put) (step_rewrites m k (nmodules_of ms) spare i a s old w first has found put))));
   words = words_kept m k (nmodules_of ms) spare i a s old w first has found put;
   left = spare_left m k (nmodules_of ms) spare i a s old w first has found put;
   spare_then = spare_after m k (nmodules_of ms) spare i a s old w first has found put;

@@ -1,8 +1,8 @@
 mod Exchanged
 mod First
 mod InFirst
-mod Kept
-mod Logs
+pub mod Kept
+pub mod Logs
 mod Looking
 mod Marked
 mod Next

@@ -11,14 +11,14 @@ use Rattle.fc_apply.specs.Steps.{FirstDrops, FirstFits}
 use Rattle.fc_simplify.specs.Phase.{AreSettled, Continues, FirstHasSpare, FirstIsQuiet, FirstsAre}
 use Rattle.fc_simplify.specs.Steps.{dead_step}
 use Rattle.fc_simplify.proofs.Kept.{drops_within}
-use Rattle.fc_simplify.proofs.Logs.{replays_step}
+use Rattle.fc_simplify.proofs.Logs.{simplifies_once}
 use Rattle.fc_simplify.proofs.Quieted.{is_quiet}
 use Rattle.fc_simplify.proofs.Words.{is_marked}
 
 pub dropped_continues : (ms ks : List NModule) (es : List Entry) → FirstDrops ms ks → Continues ms ks es (es ++ entry.Step dead_step ∷ [])
 dropped_continues [] ks es drops = absurd drops
 dropped_continues (n ∷ xs) [] es drops = absurd drops
-dropped_continues (n ∷ xs) (k ∷ ys) es (same, drops) = (same, (entry.Step dead_step ∷ [], (refl, replays_step xs dead_step n k (of_the_module drops))))
+dropped_continues (n ∷ xs) (k ∷ ys) es (same, drops) = (same, (entry.Step dead_step ∷ [], (refl, simplifies_once xs dead_step n k refl (of_the_module drops))))
 
 pub dropped_fits : (ms ks : List NModule) → FirstDrops ms ks → FirstFits ms → FirstFits ks
 dropped_fits [] ks drops fits = absurd drops

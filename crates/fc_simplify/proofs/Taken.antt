@@ -8,6 +8,8 @@ use Rattle.fc_syntax.specs.View.{decl_of, expr_of}
 use Rattle.fc_syntax.specs.declared.module.Decl as RustDecl
 use Rattle.fc_syntax.specs.declared.module.Module as RustModule
 use Rattle.fc_syntax.specs.declared.ty.Ref.{Ref}
+use Rattle.fc_log.specs.Shapes.{phase_of_row}
+use Rattle.fc_log.specs.declared.log.Phase.TheVariants as phase
 use Rattle.fc_log.specs.declared.log.Step.{Step}
 use Rattle.fc_model.specs.Calling.{from_some}
 use Rattle.fc_model.specs.Kinding.{Modules, decls_at}
@@ -43,6 +45,7 @@ use Rattle.fc_simplify.specs.Phase.{HasSpare, room}
 use Rattle.fc_simplify.specs.Steps.{path_told, step_of}
 use Rattle.fc_simplify.specs.Taking.{IsExchanged, IsFound, word_of}
 use Rattle.fc_simplify.proofs.Exchanged.{part_is, word_stays}
+use Rattle.fc_simplify.proofs.Logs.{built_in_phase}
 use Rattle.fc_simplify.proofs.Looking.{made_built, told_is}
 use Rattle.fc_simplify.proofs.Words.{IsLocated, is_changed, is_right, is_there, is_word, located, words_stay}
 
@@ -169,6 +172,10 @@ module _ (m k : RustModule.Module ℕ Ref) (xs : List NModule) (spare i : ℕ) (
       (told_is xs v n a.row a.alternative q ∙ changed_is)) within
       )
       )
+
+  -- it is a step of the phase
+  pub step_in_phase : phase_of_row s.row ≡ phase.Simplify
+  step_in_phase = ap (λ (z : Step). phase_of_row z.row) f.step ∙ built_in_phase a.row (made_built declared a.row a.alternative applies.around applies.part (nexpr_of a.new) applies.makes)
 
   -- what stood there
   old_is : bare_expr old ≡ applies.part

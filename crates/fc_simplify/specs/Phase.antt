@@ -2,14 +2,18 @@
 use Rattle.std.specs.Prelude.{◌≡◌, ⊤, ◌+◌, ℕ, Bool, true, List, [], ◌∷◌, ◌++◌, Some, slice_get}
 use Rattle.fc_syntax.specs.Limits.{standard_limits}
 use Rattle.fc_syntax.specs.Tree.{Word}
+use Rattle.fc_log.specs.Shapes.{phase_of_row}
 use Rattle.fc_log.specs.declared.log.Entry.{Entry}
+use Rattle.fc_log.specs.declared.log.Entry.TheVariants as entry
+use Rattle.fc_log.specs.declared.log.Phase.TheVariants as phase
+use Rattle.fc_log.specs.declared.log.Step.{Step}
 use Rattle.fc_model.specs.Kinding.{decls_at}
 use Rattle.fc_model.specs.Nameless.{NDecl, NExpr, NModule}
 use Rattle.fc_reaching.specs.Firsts.{AreFirst}
 use Rattle.fc_reaching.specs.Numbering.{number_in}
 use Rattle.fc_reaching.specs.Reaching.{decls_in}
 use Rattle.fc_rows.specs.NormalForms.{IsQuiet}
-use Rattle.fc_rows.specs.Replaying.{Replays}
+use Rattle.fc_rows.specs.Replaying.{Rewrites}
 use Rattle.fc_rows.specs.ResultLimits.{IsWithinLimits}
 use Rattle.fc_rows.specs.Surroundings.{outside}
 use Rattle.fc_limits_at_places.specs.Fitting.{nmodule_size}
@@ -18,11 +22,16 @@ use Rattle.fc_apply.specs.Definitions.{right_side}
 
 -- THE LOG
 
--- the first module became another, the others stayed, and the lines that the log got replay the one to the other
+-- the lines of a log are steps of rows that the phase takes, which make one module of another, one after the other
+pub data Simplifies (xs : List NModule) : List Entry → NModule → NModule → Type 0 where
+  no_step : {n : NModule} → Simplifies xs [] n n
+  takes_step : {es : List Entry} {m n k : NModule} (s : Step) → phase_of_row s.row ≡ phase.Simplify → Rewrites xs s n m → Simplifies xs es m k → Simplifies xs (entry.Step s ∷ es) n k
+
+-- the first module became another, the others stayed, and the lines that the log got are the steps from the one to the other
 abbrev pub Continues : List NModule → List NModule → List Entry → List Entry → Type 0
 Continues [] after es fs = (after ≡ []) × (fs ≡ es)
 Continues (n ∷ xs) [] es fs = ⊥
-Continues (n ∷ xs) (k ∷ ys) es fs = (ys ≡ xs) × ((gs : List Entry) × ((fs ≡ es ++ gs) × Replays xs gs n k))
+Continues (n ∷ xs) (k ∷ ys) es fs = (ys ≡ xs) × ((gs : List Entry) × ((fs ≡ es ++ gs) × Simplifies xs gs n k))
 
 -- no shrinking and no commuting row applies in the first module
 abbrev pub FirstIsQuiet : List NModule → Type 0

@@ -59,6 +59,7 @@ fn round(alloc: Global, modules: &mut [NModule], log: &mut Seq<Entry>) -> Result
 pub fn simplify(alloc: Global, modules: &mut [NModule], log: &mut Seq<Entry>) -> Result<(), Memory>
     requires { FirstFits (nmodules_of modules.old) }
     ensures continues { Continues (nmodules_of modules.old) (nmodules_of modules.new) log.old log.new }
+    ensures fits { OnOk result (FirstFits (nmodules_of modules.new)) }
     ensures quiet { OnOk result (FirstIsQuiet (nmodules_of modules.new)) }
 {
     for _ in 0..u64::MAX {

@@ -4,4 +4,4 @@ use Rattle.fc_naming.specs.Groups.{IsGroup}
 use Rattle.fc_naming.proofs.members.named_group.Given as goal
 
 abbrev pub invariant-loop-member : goal.invariant-loop-member
-invariant-loop-member g l = IsGroup (words_by_space l.fn.taken).terms (take l.member-index l.members) g.M.Member.hint l.words l.names (words_by_space l.taken).terms
+invariant-loop-member g l = IsGroup (words_by_space l.fn.taken).terms (take l.member-index l.members) l.words l.names (words_by_space l.taken).terms

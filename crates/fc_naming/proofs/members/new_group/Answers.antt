@@ -1,17 +1,16 @@
-use Rattle.std.proofs.Common.{◌≡◌, ◌∷◌, ◌∙◌, arith, refl, ap, rules}
+use Rattle.std.proofs.Common.{◌≡◌, ◌∷◌, ◌∙◌, arith, ap, rules}
 use Rattle.fc_model.specs.DeclaredWords.{top_by}
 use Rattle.fc_model.specs.Resolution.{Words}
 use Rattle.fc_scope.specs.ScopeWords.{locals_of, with_values}
 use Rattle.fc_naming.specs.Taken.{words_around}
-use Rattle.fc_naming.specs.declared.taken.Space.TheVariants as space
 use Rattle.fc_naming.proofs.Groups.{group_all, group_start_at, group_step}
-use Rattle.fc_naming.proofs.NewWords.{around_value, new_chosen_of}
+use Rattle.fc_naming.proofs.NewWords.{around_value}
 use Rattle.fc_naming.proofs.members.new_group.Goals as goal
 
 pub loop-member-init : goal.loop-member-init
 loop-member-init g c =
     let s = locals_of c.args.scope.now in
-    group_start_at (λ ns. (words_around (top_by c.args.top.now) (with_values ns s)).terms) c.args.members.now _ _ _ c.new-words.ensures c.new-names.ensures
+    group_start_at (λ ns. (words_around (top_by c.args.top.now) (with_values ns s)).terms) c.args.members.now _ _ c.new-words.ensures c.new-names.ensures
 
 pub loop-member-preserved : goal.loop-member-preserved
 loop-member-preserved g c =
@@ -19,8 +18,8 @@ loop-member-preserved g c =
     let s = locals_of c.args.scope.now in
     let before = with_values c.loop-member.names s in
     let added : c.add.new.self ≡ c.in-Some.word ∷ c.loop-member.names = search rules in
-    group_step _ _ _ c.args.members.now _ c.loop-member.member-index c.member-item.result _ _ _ _ c.in-Some.word (omega arith) c.member-item.is c.loop-member.invariant
-    (new_chosen_of (words_around t before) {a = space.Terms} refl c.hint.ensures c.in_ok-word.ensures c.in-Some.is)
+    group_step _ _ _ c.args.members.now c.loop-member.member-index c.member-item.result _ _ _ _ c.in-Some.word (omega arith) c.member-item.is c.loop-member.invariant
+    (rw c.in-Some.is at c.in_ok-word.ensures)
     (ap (λ ns. (words_around t (with_values ns s)).terms) added ∙ ap (λ (ws : Words). ws.terms) (around_value t before c.in-Some.word)) (search rules) added
 
 pub returns : goal.returns

@@ -7,5 +7,5 @@ use Rattle.fc_naming.proofs.members.new_group.Given as goal
 
 abbrev pub invariant-loop-member : goal.invariant-loop-member
 invariant-loop-member g l =
-    IsGroup (words_around (top_by l.top) (locals_of l.scope)).terms (take l.member-index l.members) g.M.Member.hint l.words l.names
+    IsGroup (words_around (top_by l.top) (locals_of l.scope)).terms (take l.member-index l.members) l.words l.names
     (words_around (top_by l.top) (with_values l.names (locals_of l.scope))).terms

@@ -1,0 +1,2 @@
+pub mod FormedTrees
+pub mod Laws

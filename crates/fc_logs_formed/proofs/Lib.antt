@@ -1,0 +1,4 @@
+pub mod LogsFormed
+mod PartNumbers
+mod Pieces
+mod StepsFormed

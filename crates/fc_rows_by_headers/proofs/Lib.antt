@@ -1,0 +1,3 @@
+mod KindsTold
+mod EndsTold
+mod RowsTold

@@ -1,0 +1,2 @@
+mod ReachedSoFar
+mod ToldSoFar

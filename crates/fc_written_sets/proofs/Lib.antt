@@ -1,0 +1,2 @@
+pub mod SetsLint
+mod ToldWords
