@@ -5,7 +5,7 @@ use Rattle.fc_syntax.specs.Tree.{Decl, DDef, DWrap, Module}
 use Rattle.fc_model.specs.Formed.{IsFormed, IsInterfaceFormed, definition_count, is_sig_formed}
 use Rattle.fc_model.specs.Headers.{decls_in}
 use Rattle.fc_iface.proofs.InterfacesFormed.{interface_is_formed}
-use Rattle.fc_build.specs.Product.{interface_written, unknown_sigs}
+use Rattle.fc_product.specs.Interfaces.{interface_written, unknown_sigs}
 
 one_sig : (ds : List Decl) → length (unknown_sigs ds) ≡ definition_count ds
 one_sig [] = refl

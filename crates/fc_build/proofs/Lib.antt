@@ -1,13 +1,10 @@
 pub mod Delivered
-pub mod Faithful
+pub mod InOrder
 pub mod InterfacesWritten
 pub mod JudgeLemmas
 pub mod LineLemmas
 pub mod OneAnswer
-pub mod Ordered
 pub mod Products
-pub mod Replayed
 pub mod RunLemmas
 pub mod SomeAnswer
 pub mod Standing
-pub mod Written

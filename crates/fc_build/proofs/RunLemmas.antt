@@ -9,7 +9,8 @@ use Rattle.fc_words.specs.Asking.{Asked, Order, Building, Explaining, Linting, a
 use Rattle.fc_log.specs.declared.log.Log.{Log}
 use Rattle.fc_words.specs.declared.Tuning.{Tuning}
 use Rattle.fc_build.specs.Acceptance.{Accepted, FirstFault}
-use Rattle.fc_build.specs.Building.{AreFaithful, AreSteps, IsBuild, IsReading, Leaves, Stand}
+use Rattle.fc_replayed_sets.specs.Faithful.{AreFaithful}
+use Rattle.fc_build.specs.Building.{AreSteps, IsBuild, IsReading, Leaves, Stand}
 use Rattle.fc_build.specs.Delivering.{Delivers, IsSameDevice}
 use Rattle.fc_build.specs.Preparing.{IsAccepted, IsProduct, Stops, files_in}
 use Rattle.fc_build.specs.Product.{Step, all_files, explained_step, linted_step, put_all}
@@ -20,7 +21,7 @@ use Rattle.fc_build.specs.declared.deliver.Delivery.TheVariants as delivery
 use Rattle.fc_build.specs.declared.prepare.Stop.{Stop}
 use Rattle.fc_build.specs.declared.prepare.Stop.TheVariants as stop
 use Rattle.fc_build.proofs.OneAnswer.{exclusive}
-use Rattle.fc_build.proofs.Ordered.{AreDistinctWords, built_names_differ}
+use Rattle.fc_replayed_sets.proofs.Ordered.{AreDistinctWords, built_names_differ}
 use Rattle.fc_build.proofs.Standing.{stand}
 
 -- A SET WITH A FAULT IS NOT ACCEPTED

@@ -17,7 +17,7 @@ use Rattle.fc_log.specs.declared.log.Log.{Log}
 use Rattle.fc_words.specs.declared.Tuning.{Tuning}
 use Rattle.fc_build.specs.Building.{AreBuilt, HoldInterfaces, HoldLogs, HoldModules, IsBuilt, Stand, no_interfaces, no_logs, no_modules, none_built, one_built, one_interface, one_log, one_module}
 use Rattle.fc_build.specs.Product.{Step, all_files, core_name, file_name, interface_name, log_name, put_all}
-use Rattle.fc_build.proofs.Ordered.{AreDistinctWords}
+use Rattle.fc_replayed_sets.proofs.Ordered.{AreDistinctWords}
 
 -- NAMES OF FILES
 

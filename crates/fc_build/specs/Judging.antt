@@ -2,7 +2,6 @@
 use Rattle.std.specs.Prelude.{◌≡◌, ◌≤◌, ⊤, ℕ, List, length, map, slice_get, Some, None}
 use Rattle.std.specs.List.{All}
 use Rattle.fc_files.specs.Outside.{FileMap}
-use Rattle.fc_syntax.specs.Hints.{module_hints}
 use Rattle.fc_syntax.specs.Limits.{standard_limits}
 use Rattle.fc_syntax.specs.Tree.{Module}
 use Rattle.fc_syntax.specs.View.{module_of}
@@ -10,7 +9,6 @@ use Rattle.fc_model.specs.Formed.{IsFormed}
 use Rattle.fc_model.specs.Linting.{SetLints, nameless_forms}
 use Rattle.fc_model.specs.NamelessView.{nmodules_of}
 use Rattle.fc_model.specs.Planning.{build_order, plan_fault}
-use Rattle.fc_lint_set.specs.Sets.{hints_kept}
 use Rattle.fc_load.specs.Answers.{IsAmong, IsReached}
 use Rattle.fc_build.specs.Acceptance.{Accepted, FaultOfSet, FirstFault, IsFaultOfFiles, IsSetOf}
 use Rattle.fc_build.specs.declared.judge.Judged.{Judged}
@@ -47,13 +45,11 @@ pub record IsReady (ms : List Module) : Type 0 where
   pub formed : All IsFormed ms
   pub lints : SetLints (build_order ms)
 
--- an accepted set is ready, its order is the one in which its modules are built, and its nameless forms are those of the modules in that order, and keep the
--- words of their binders
+-- an accepted set is ready, its order is the one in which its modules are built, and its nameless forms are those of the modules in that order
 pub record IsReadySet (s : Set) : Type 0 where
   pub ready : IsReady (modules_in s)
   pub order : map (slice_get (modules_in s)) s.order ≡ map Some (build_order (modules_in s))
   pub forms : nmodules_of s.forms.items ≡ nameless_forms (build_order (modules_in s))
-  pub words : map hints_kept s.forms.items ≡ map module_hints (build_order (modules_in s))
 
 abbrev pub IsReadyAnswer : Judged → Type 0
 IsReadyAnswer (judged.Accepted s) = IsReadySet s

@@ -1,16 +1,12 @@
 -- What is done for each module of a set, in the order in which the modules are built: its files, and then its line on the output.
-use Rattle.std.specs.Prelude.{◌≡◌, ◌⊎◌, ◌≤◌, ℕ, Bool, false, List, [], ◌∷◌, ◌++◌, codes, length, map, take, string_bytes}
+use Rattle.std.specs.Prelude.{◌≡◌, ◌⊎◌, ◌≤◌, ℕ, List, [], ◌∷◌, ◌++◌, codes, length, map, take, string_bytes}
 use Rattle.fc_files.specs.Outside.{FileMap, SameBut, put}
-use Rattle.fc_syntax.specs.Demands.{NoDemands, Sig, SigOf}
-use Rattle.fc_syntax.specs.Tree.{Word, Decl, DDef, DWrap, Module}
+use Rattle.fc_syntax.specs.Tree.{Module}
 use Rattle.fc_model.specs.Canonical.{canonical}
 use Rattle.fc_model.specs.Grammar.{Interface}
-use Rattle.fc_model.specs.Headers.{decls_in, name_of}
+use Rattle.fc_model.specs.Headers.{name_of}
 use Rattle.fc_model.specs.InterfaceTexts.{interface_text}
-use Rattle.fc_iface.specs.Interfaces.{interface_of}
-use Rattle.fc_log.specs.Shapes.{phases_of_build}
 use Rattle.fc_log.specs.Texts.{log_text}
-use Rattle.fc_log.specs.declared.log.Entry.TheVariants as entry
 use Rattle.fc_log.specs.declared.log.Log.{Log}
 use Rattle.fc_build.specs.declared.product.File.{File}
 
@@ -44,24 +40,9 @@ log_name prefix m = file_name prefix m (codes ".why")
 abbrev pub core_output : List ℕ → Module → Output
 core_output prefix m = record { name = core_name prefix m; text = canonical m }
 
--- a signature for each definition, which says nothing: no demands are found yet
-abbrev pub unknown_sigs : List Decl → List Sig
-unknown_sigs [] = []
-unknown_sigs (DDef x t e ∷ ds) = SigOf NoDemands false ∷ unknown_sigs ds
-unknown_sigs (DWrap x t e ∷ ds) = SigOf NoDemands false ∷ unknown_sigs ds
-unknown_sigs (d ∷ ds) = unknown_sigs ds
-
--- the interface of a module, where right sides of so many nodes are told, and truth values say which of its declarations reach themselves
-abbrev pub interface_written : ℕ → List Bool → Module → Interface
-interface_written grow recursive m = interface_of grow recursive m (unknown_sigs (decls_in m))
-
--- its text
+-- the text of its interface
 abbrev pub interface_output : List ℕ → Module → Interface → Output
 interface_output prefix m i = record { name = interface_name prefix m; text = interface_text i }
-
--- the log of a module to which no step was taken: each phase of a build ends
-abbrev pub unchanged_log : Word → Log
-unchanged_log m = record { «module» = m; entries = map entry.Mark phases_of_build }
 
 -- the text of a log
 abbrev pub log_output : List ℕ → Module → Log → Output

@@ -1,50 +1,30 @@
 //! Makes the files of the modules of a set, and writes them.
 ghost use Rattle.std.specs.Prelude.{◌≡◌, ◌≤◌, ◌++◌, ◌∷◌, [], IfOk, map, slice_get, string_bytes};
-ghost use Rattle.std.specs.List.{All, filter_map};
-ghost use Rattle.fc_syntax.specs.View.{decls_of, module_of};
-ghost use Rattle.fc_model.specs.Formed.{IsFormed};
-ghost use Rattle.fc_model.specs.NamelessView.{nmodule_of, nmodules_of};
-ghost use Rattle.fc_model.specs.ResolutionRules.{Resolves};
-ghost use Rattle.fc_headers.specs.NamelessHeaders.{form_written_among};
-ghost use Rattle.fc_lattice.specs.View.{sigs_of};
-ghost use Rattle.fc_log.specs.declared.log.Entry.TheVariants as entry_kind;
+ghost use Rattle.std.specs.List.{filter_map};
+ghost use Rattle.fc_syntax.specs.View.{module_of};
+ghost use Rattle.fc_model.specs.NamelessView.{nmodules_of};
+ghost use Rattle.fc_lattice.specs.View.{as_interface};
 ghost use Rattle.fc_words.specs.Asking.{order_of};
 ghost use Rattle.fc_words.specs.Numbers.{IsWithinRanges};
 ghost use Rattle.fc_build.specs.Delivering.{IsSameDevice, WritesAll, step_in, steps_in};
 ghost use Rattle.fc_plan.specs.Modules.{behind};
-ghost use Rattle.fc_lint_set.specs.Sets.{hints_kept};
 ghost use Rattle.fc_reaching.specs.Numbering.{word_of};
 ghost use Rattle.fc_build.specs.Judging.{IsReadySet, modules_in};
 ghost use Rattle.fc_build.specs.Product as spec;
-ghost use Rattle.fc_build.specs.Product.{core_output, interface_output, interface_written, log_output, output_of, outputs};
-ghost use Rattle.fc_build.specs.SetSteps.{AreBuiltForms, AreStepsOf, IsBuiltForm, IsWritable, explained_form, forms_written};
+ghost use Rattle.fc_build.specs.Product.{core_output, interface_output, log_output, output_of, outputs};
+ghost use Rattle.fc_build.specs.SetSteps.{AllAreMade, AreStepsMade, AreStepsOf, CanBeBuiltInOrder, step_made};
 
 use crate::judge::Set;
 use fc_files::{Files, WriteAnswer};
-use fc_headers::form_written;
-use fc_iface::{interface, print_interface};
-use fc_lattice::Sig;
-use fc_log::{Entry, Log, Phase, print};
-use fc_naming::{NotNamed, name_back};
+use fc_iface::print_interface;
+use fc_lattice::Interface;
+use fc_log::{Log, print};
 use fc_plan::in_order;
 use fc_printer::print_module;
-use fc_reaching::recursive;
-use fc_syntax::{Decl, Memory, Module, NModule, Seq, Text};
-use fc_words::{Command, Tuning};
+use fc_product::{Product, make};
+use fc_syntax::{Memory, Module, NModule, Seq, Text};
+use fc_words::Command;
 use std::alloc::{AllocError, Global};
-
-/// The phases of a build, in their order.
-const PHASES: [Phase; 9] = [
-    Phase::Simplify,
-    Phase::Special,
-    Phase::Simplify,
-    Phase::FloatOut,
-    Phase::Simplify,
-    Phase::FloatIn,
-    Phase::Strict,
-    Phase::Split,
-    Phase::Simplify,
-];
 
 /// A file to be written.
 #[derive(Debug, Drop)]
@@ -94,84 +74,42 @@ fn core_file(alloc: Global, prefix: &str, m: &Module) -> Result<File, Memory>
     Ok(File { name, text })
 }
 
-/// A signature for each definition, which says nothing: no demands are found yet.
-fn unknown_sigs(alloc: Global, decls: &[Decl]) -> Result<Vec<Sig>, Memory>
-    ensures { IfOk result (λ sigs. sigs_of sigs.items ≡ spec.unknown_sigs (decls_of decls.now)) }
-{
-    let mut all = Vec::new(alloc);
-    for decl in decls {
-        if matches!(decl, Decl::Def(_, _, _) | Decl::Wrap(_, _, _)) {
-            all.push(Sig {
-                args: Seq::new(alloc),
-                diverges: false,
-            })?;
-        }
-    }
-    Ok(all)
-}
-
-/// The interface of a module, of which it is said which declarations reach themselves, under its name.
+/// The interface of a module, under its name.
 fn interface_file(
     alloc: Global,
-    grow: u64,
-    recursive: &[bool],
     prefix: &str,
     m: &Module,
+    interface: &Interface,
 ) -> Result<File, Memory>
-    requires { grow ≤ 10000 }
-    ensures { IfOk result (λ f. output_of f ≡ interface_output prefix.now (module_of m.now) (interface_written grow recursive.now (module_of m.now))) }
+    ensures { IfOk result (λ f. output_of f ≡ interface_output prefix.now (module_of m.now) (as_interface interface.now)) }
 {
     let name = file_name(alloc, prefix, m.name.as_str(), ".fci")?;
-    let sigs = unknown_sigs(alloc, m.decls.as_slice())?;
-    let told = interface(alloc, m, recursive, sigs.as_slice(), grow)?;
-    let text = print_interface(alloc, &told)?;
+    let text = print_interface(alloc, interface)?;
     Ok(File { name, text })
 }
 
-/// The marks that end phases, one after the other.
-fn marks_of(alloc: Global, phases: &[Phase]) -> Result<Seq<Entry>, Memory>
-    ensures { IfOk result (λ entries. entries ≡ map entry_kind.Mark phases.now) }
-{
-    let mut entries = Seq::new(alloc);
-    for phase in phases {
-        entries.push(Entry::Mark(*phase))?;
-    }
-    Ok(entries)
-}
-
-/// The log of a module to which no step was taken: each phase of a build ends.
-fn unchanged_log(alloc: Global, name: &Text) -> Result<Log, Memory>
-    ensures { IfOk result (λ l. l ≡ spec.unchanged_log name.now) }
-{
-    let module = name.copy(alloc)?;
-    let entries = marks_of(alloc, PHASES.as_slice())?;
-    Ok(Log { module, entries })
-}
-
 /// The log of a module, under its name.
-fn log_file(alloc: Global, prefix: &str, m: &Module) -> Result<File, Memory>
-    ensures { IfOk result (λ f. output_of f ≡ log_output prefix.now (module_of m.now) (spec.unchanged_log m.now.name)) }
+fn log_file(alloc: Global, prefix: &str, m: &Module, log: &Log) -> Result<File, Memory>
+    ensures { IfOk result (λ f. output_of f ≡ log_output prefix.now (module_of m.now) log.now) }
 {
     let name = file_name(alloc, prefix, m.name.as_str(), ".why")?;
-    let log = unchanged_log(alloc, &m.name)?;
-    let text = print(alloc, &log)?;
+    let text = print(alloc, log)?;
     Ok(File { name, text })
 }
 
 /// The files of a module, in the order in which they are written.
 fn files_of(
     alloc: Global,
-    grow: u64,
-    recursive: &[bool],
     prefix: &str,
     m: &Module,
+    interface: &Interface,
+    log: &Log,
 ) -> Result<Vec<File>, Memory>
-    requires { grow ≤ 10000 }
-    ensures { IfOk result (λ files. outputs files.items ≡ core_output prefix.now (module_of m.now) ∷ interface_output prefix.now (module_of m.now) (interface_written grow recursive.now (module_of m.now)) ∷ log_output prefix.now (module_of m.now) (spec.unchanged_log m.now.name) ∷ []) }
+    ensures { IfOk result (λ files. outputs files.items ≡ core_output prefix.now (module_of m.now) ∷ interface_output prefix.now (module_of m.now) (as_interface interface.now) ∷ log_output prefix.now (module_of m.now) log.now ∷ []) }
 {
     let core = core_file(alloc, prefix, m)?;
-    let interface = interface_file(alloc, grow, recursive, prefix, m)?;
-    let log = log_file(alloc, prefix, m)?;
+    let interface = interface_file(alloc, prefix, m, interface)?;
+    let log = log_file(alloc, prefix, m, log)?;
     Ok(vec![in alloc; core, interface, log]?)
 }
 
@@ -185,64 +123,30 @@ fn line_of(alloc: Global, word: &str, name: &Text) -> Result<Vec<u8>, Memory>
     Ok(line)
 }
 
-/// What a build does for a module under the header that is written, of which it is said which declarations reach themselves.
-fn built_module(
+/// What a build does for a module with its interface and its log.
+fn built_step(
     alloc: Global,
-    tuning: Tuning,
     prefix: &str,
-    recursive: &[bool],
     m: &Module,
+    interface: &Interface,
+    log: &Log,
 ) -> Result<Step, Memory>
-    requires { tuning.grow ≤ 10000 }
-    ensures { IfOk result (λ s. step_in s ≡ spec.built_step prefix.now (module_of m.now) (interface_written tuning.grow recursive.now (module_of m.now)) (spec.unchanged_log m.now.name)) }
+    ensures { IfOk result (λ s. step_in s ≡ spec.built_step prefix.now (module_of m.now) (as_interface interface.now) log.now) }
 {
     let line = line_of(alloc, "built ", &m.name)?;
-    let files = files_of(alloc, tuning.grow, recursive, prefix, m)?;
+    let files = files_of(alloc, prefix, m, interface, log)?;
     Ok(Step { files, line })
 }
 
-/// The named module in which a nameless one is written.
-fn named(alloc: Global, form: &NModule) -> Result<Module, Memory>
-    requires { IsWritable (module_of form.now) }
-    ensures resolves { IfOk result (λ m. Resolves (module_of m) (nmodule_of form.now)) }
-    ensures formed { IfOk result (λ m. IsFormed (module_of m)) }
+/// What an explanation does for a module with its log.
+fn explained_step(alloc: Global, log: &Log) -> Result<Step, Memory>
+    ensures { IfOk result (λ s. step_in s ≡ spec.explained_step log.now) }
 {
-    match name_back(alloc, form) {
-        Ok(m) => Ok(m),
-        Err(NotNamed::Memory) => Err(Memory),
-        Err(NotNamed::Unscoped) => unreachable!(),
-    }
-}
-
-/// What a build does for a module, given by its nameless form under the header that is written.
-fn built_form(alloc: Global, tuning: Tuning, prefix: &str, form: &NModule) -> Result<Step, Memory>
-    requires grow { tuning.grow ≤ 10000 }
-    requires writable { IsWritable (module_of form.now) }
-    ensures { IfOk result (λ s. IsBuiltForm tuning prefix.now (nmodule_of form.now) (step_in s)) }
-{
-    let recursive = recursive(alloc, form)?;
-    let m = named(alloc, form)?;
-    built_module(alloc, tuning, prefix, recursive.as_slice(), &m)
-}
-
-/// What a build does for modules, one after the other.
-#[tactic(auto, using(crate::proofs::Products::one_form_more, crate::proofs::Products::writable_at))]
-fn built_forms(
-    alloc: Global,
-    tuning: Tuning,
-    prefix: &str,
-    forms: &[NModule],
-) -> Result<Vec<Step>, Memory>
-    requires grow { tuning.grow ≤ 10000 }
-    requires writable { All IsWritable (map module_of forms.now) }
-    ensures { IfOk result (λ steps. AreBuiltForms tuning prefix.now (nmodules_of forms.now) (steps_in steps.items)) }
-{
-    let mut steps = Vec::new(alloc);
-    for form in forms {
-        let step = built_form(alloc, tuning, prefix, form)?;
-        steps.push(step)?;
-    }
-    Ok(steps)
+    let line = print(alloc, log)?;
+    Ok(Step {
+        files: Vec::new(alloc),
+        line,
+    })
 }
 
 /// What Lint does for a module.
@@ -256,6 +160,23 @@ fn linted_step(alloc: Global, m: &Module) -> Result<Step, Memory>
     })
 }
 
+/// What is done with a module that is made, its interface and its log.
+fn step_for(
+    alloc: Global,
+    command: Command<'_>,
+    m: &Module,
+    interface: &Interface,
+    log: &Log,
+) -> Result<Step, Memory>
+    ensures { IfOk result (λ s. step_in s ≡ step_made (order_of command.entry) (module_of m.now) (as_interface interface.now) log.now) }
+{
+    match command {
+        Command::Build(_, prefix) => built_step(alloc, prefix, m, interface, log),
+        Command::Why(_) => explained_step(alloc, log),
+        Command::Lint => linted_step(alloc, m),
+    }
+}
+
 /// The names of modules.
 fn names_of(alloc: Global, forms: &[NModule]) -> Result<Seq<Text>, Memory>
     ensures { IfOk result (λ names. names ≡ map word_of (nmodules_of forms.now)) }
@@ -267,25 +188,39 @@ fn names_of(alloc: Global, forms: &[NModule]) -> Result<Seq<Text>, Memory>
     Ok(names)
 }
 
-/// Modules, each under the header that is written among modules of these names. They keep the words of their binders.
-fn under_headers(alloc: Global, order: &[Text], forms: Vec<NModule>) -> Result<Vec<NModule>, Memory>
-    ensures forms { IfOk result (λ all. nmodules_of all.items ≡ map (form_written_among order.now) (nmodules_of forms.items)) }
-    ensures words { IfOk result (λ all. map hints_kept all.items ≡ map hints_kept forms.items) }
+/// What is done with what is made of modules, given by their nameless forms, one after the other. Each is made against the interfaces of those before it, as they were just made.
+fn made_steps(
+    alloc: Global,
+    command: Command<'_>,
+    grow: u64,
+    order: &[Text],
+    forms: Vec<NModule>,
+) -> Result<Vec<Step>, Memory>
+    requires grow { grow ≤ 10000 }
+    requires built { CanBeBuiltInOrder order.now [] (nmodules_of forms.items) }
+    ensures { IfOk result (λ steps. AreStepsMade (order_of command.entry) grow order.now [] (nmodules_of forms.items) (steps_in steps.items)) }
 {
-    let mut all = Vec::new(alloc);
+    let mut before = Vec::new(alloc);
+    let mut steps = Vec::new(alloc);
     for form in forms {
-        let whole = form_written(alloc, order, form)?;
-        all.push(whole)?;
+        let product = make(alloc, grow, order, before.as_slice(), form)?;
+        let Product {
+            module,
+            interface,
+            log,
+            told,
+        } = product;
+        steps.push(step_for(alloc, command, &module, &interface, &log)?)?;
+        before.insert(0, told)?;
     }
-    Ok(all)
+    Ok(steps)
 }
 
-/// What a build does for each module of an accepted set, in the order in which they are built. The modules as they were read are gone before
-/// any is written.
-fn built(alloc: Global, tuning: Tuning, prefix: &str, set: Set) -> Result<Vec<Step>, Memory>
-    requires grow { tuning.grow ≤ 10000 }
+/// What is done with what is made of the modules of an accepted set, in the order in which they are built. The modules as they were read are gone before any is made.
+fn made(alloc: Global, command: Command<'_>, grow: u64, set: Set) -> Result<Vec<Step>, Memory>
+    requires grow { grow ≤ 10000 }
     requires ready { IsReadySet set }
-    ensures { IfOk result (λ steps. AreBuiltForms tuning prefix.now (forms_written (nmodules_of set.forms.items)) (steps_in steps.items)) }
+    ensures { IfOk result (λ steps. AllAreMade (order_of command.entry) grow (nmodules_of set.forms.items) (steps_in steps.items)) }
 {
     let Set {
         modules,
@@ -294,32 +229,7 @@ fn built(alloc: Global, tuning: Tuning, prefix: &str, set: Set) -> Result<Vec<St
     } = set;
     drop(modules);
     let names = names_of(alloc, forms.as_slice())?;
-    let forms = under_headers(alloc, names.as_slice(), forms)?;
-    built_forms(alloc, tuning, prefix, forms.as_slice())
-}
-
-/// What an explanation does for a module, given by its nameless form.
-fn explained_step(alloc: Global, form: &NModule) -> Result<Step, Memory>
-    ensures { IfOk result (λ s. step_in s ≡ explained_form (nmodule_of form.now)) }
-{
-    let log = unchanged_log(alloc, &form.name)?;
-    let line = print(alloc, &log)?;
-    Ok(Step {
-        files: Vec::new(alloc),
-        line,
-    })
-}
-
-/// What an explanation does for modules, one after the other.
-fn explained(alloc: Global, forms: &[NModule]) -> Result<Vec<Step>, Memory>
-    ensures { IfOk result (λ steps. steps_in steps.items ≡ map explained_form (nmodules_of forms.now)) }
-{
-    let mut steps = Vec::new(alloc);
-    for form in forms {
-        let step = explained_step(alloc, form)?;
-        steps.push(step)?;
-    }
-    Ok(steps)
+    made_steps(alloc, command, grow, names.as_slice(), forms)
 }
 
 /// What Lint does for modules, one after the other.
@@ -349,8 +259,7 @@ pub(crate) fn steps_for(alloc: Global, command: Command<'_>, set: Set) -> Result
     ensures { IfOk result (λ steps. AreStepsOf (order_of command.entry) set (steps_in steps.items)) }
 {
     match command {
-        Command::Build(tuning, prefix) => built(alloc, tuning, prefix, set),
-        Command::Why(_) => explained(alloc, set.forms.as_slice()),
+        Command::Build(tuning, _) | Command::Why(tuning) => made(alloc, command, tuning.grow, set),
         Command::Lint => linted(alloc, set),
     }
 }

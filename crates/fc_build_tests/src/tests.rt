@@ -602,11 +602,11 @@ fn declarations_are_written(rt: HostRuntime) -> Result<(), Fail> {
 fn cases_are_written(rt: HostRuntime) -> Result<(), Fail> {
     let alloc = rt.alloc();
     let text =
-        b"(module M (imports) (exports f) (data P () (L ()) (N () Int# P))\n(def f (fun P P) (lam ((x P)) (case x (y P) P\n (default (case 007# (m Int#) P (default y) (-01# x))) (N ((n Int#) (p P)) (con N n p))))))";
+        b"(module M (imports) (exports f) (data P () (L ()) (N () Int# P))\n(def f (fun P Int# P) (lam ((x P) (k Int#)) (case x (y P) P\n (default (case k (m Int#) P (default y) (-01# x) (007# x))) (N ((n Int#) (p P)) (con N n p))))))";
     let mut ran = run_over(&rt, alloc, &["build", "M.fc"], text, &SOUND)?;
     assert_eq!(rt; ran.status, 0);
     let core: &[u8] =
-        b"(module M (imports) (exports f) (hidden P L N)\n (data P () (L ()) (N () Int# P))\n (def f (fun P P) (lam ((x P)) (case x (y P) P (default (case 7# (m Int#) P (default y) (-1# x))) (N ((n Int#) (p P)) (con N n p))))))\n";
+        b"(module M (imports) (exports f) (hidden P L N)\n (data P () (L ()) (N () Int# P))\n (def f (fun P Int# P) (lam ((x P) (k Int#)) (case x (y P) P (default (case k (m Int#) P (default y) (-1# x) (7# x))) (N ((n Int#) (p P)) (con N n p))))))\n";
     assert!(rt; holds(alloc, &mut ran, "./M.opt.fc", Some(core))?);
     Ok(())
 }
@@ -615,14 +615,14 @@ fn cases_are_written(rt: HostRuntime) -> Result<(), Fail> {
 fn functions_are_written(rt: HostRuntime) -> Result<(), Fail> {
     let alloc = rt.alloc();
     let text =
-        b"(module M (imports) (exports compose) (data T () (K ())) (def compose (fun (fun T T) (fun (fun T T) (fun T T))) (lam ((f (fun T T))) (lam ((g (fun T T)) (x T)) (app f (app g x)))))\n(def y T (let (z T (con K)) (app (app (app compose (lam ((x T)) x)) (lam ((x T)) z)) z))))";
+        b"(module M (imports) (exports compose y) (data T () (K ())) (def compose (fun (fun T T) (fun (fun T T) (fun T T))) (lam ((f (fun T T))) (lam ((g (fun T T)) (x T)) (app f (app g x)))))\n(def y T (let (z T (con K)) (app (app (app compose (lam ((x T)) x)) (lam ((x T)) z)) z))))";
     let mut ran = run_over(&rt, alloc, &["build", "M.fc"], text, &SOUND)?;
     assert_eq!(rt; ran.status, 0);
     let core: &[u8] =
-        b"(module M (imports) (exports compose) (hidden T K y)\n (data T () (K ()))\n (def compose (fun (fun T T) (fun T T) T T) (lam ((f (fun T T)) (g (fun T T)) (x T)) (app f (app g x))))\n (def y T (let (z T (con K)) (app compose (lam ((x T)) x) (lam ((x T)) z) z))))\n";
+        b"(module M (imports) (exports compose y) (hidden T K)\n (data T () (K ()))\n (def compose (fun (fun T T) (fun T T) T T) (lam ((f (fun T T)) (g (fun T T)) (x T)) (app f (app g x))))\n (def y T (let (z T (con K)) (app compose (lam ((x T)) x) (lam ((x T)) z) z))))\n";
     assert!(rt; holds(alloc, &mut ran, "./M.opt.fc", Some(core))?);
     let interface: &[u8] =
-        b"(interface 1 M (imports) (exports compose) (hidden T K y)\n (data T () (K ()))\n (value compose (fun (fun T T) (fun T T) T T) (sig) (def (lam ((f (fun T T)) (g (fun T T)) (x T)) (app f (app g x)))))\n (value y T (sig) (def (let (z T (con K)) (app compose (lam ((x T)) x) (lam ((x T)) z) z)))))\n";
+        b"(interface 1 M (imports) (exports compose y) (hidden T K)\n (data T () (K ()))\n (value compose (fun (fun T T) (fun T T) T T) (sig) (def (lam ((f (fun T T)) (g (fun T T)) (x T)) (app f (app g x)))))\n (value y T (sig) (def (let (z T (con K)) (app compose (lam ((x T)) x) (lam ((x T)) z) z)))))\n";
     assert!(rt; holds(alloc, &mut ran, "./M.fci", Some(interface))?);
     Ok(())
 }
@@ -664,9 +664,9 @@ fn loops_are_written(rt: HostRuntime) -> Result<(), Fail> {
 fn right_sides_are_told_up_to_the_bound(rt: HostRuntime) -> Result<(), Fail> {
     let alloc = rt.alloc();
     let text =
-        b"(module M (imports) (exports) (data T () (K ())) (def f T g) (def g T f) (def h (fun T T) (lam ((f T)) f)) (wrap w T (app h w)))";
+        b"(module M (imports) (exports f g h w) (data T () (K ())) (def f T g) (def g T f) (def h (fun T T) (lam ((f T)) f)) (wrap w T (app h w)))";
     let front =
-        "(interface 1 M (imports) (exports) (hidden T K f g h w)\n (data T () (K ()))\n (value f T (sig) none)\n (value g T (sig) none)\n ";
+        "(interface 1 M (imports) (exports f g h w) (hidden T K)\n (data T () (K ()))\n (value f T (sig) none)\n (value g T (sig) none)\n ";
     let cases: [(&str, &str); 5] = [
         (
             "0",

@@ -61,7 +61,7 @@ right_side_sorted (NWrap n u e ∷ ds) w t s h = found_has (IsSorted []) Some (�
 -- SETS
 
 -- the right sides of a formed module are written as literals and alternatives are to be
-form_is_written : {m : Module} {n : NModule} → Resolves m n → IsFormed m → AreDeclsWritten (ndecls_in n)
+pub form_is_written : {m : Module} {n : NModule} → Resolves m n → IsFormed m → AreDeclsWritten (ndecls_in n)
 form_is_written (resolves_module {m = own} {imports = imports} {exports = exports} {hidden = hidden} {ds = ds} decls) f =
     let p = and_parts (is_module_name own && list_all is_module_name imports) ((list_all is_word exports && list_all is_word hidden) && list_all is_decl_formed ds) f in
     let q = and_parts (list_all is_word exports && list_all is_word hidden) (list_all is_decl_formed ds) p.1 in

@@ -97,7 +97,7 @@ AreDeclsWritten [] = Unit {0}
 AreDeclsWritten (d ∷ ds) = IsDeclWritten d × AreDeclsWritten ds
 
 module _ (top : Top) where
-  none_resolved : {s : Locals} {ws : Words} {bs : List Binder} {cs : List NBinder} → ResolvesBinders top s ws bs cs → is_empty_list bs ≡ true → cs ≡ []
+  pub none_resolved : {s : Locals} {ws : Words} {bs : List Binder} {cs : List NBinder} → ResolvesBinders top s ws bs cs → is_empty_list bs ≡ true → cs ≡ []
   none_resolved resolves_no_binders f = refl
   none_resolved (resolves_binders new b rest) f = false_true f
 

@@ -52,7 +52,7 @@ use Rattle.fc_set_meaning.proofs.Written.{replay_written, told_written}
 
 -- WHAT IS REACHED, MENTIONED AND OFFERED
 
-near_each : (P : NModule → Type 0) (n : NModule) (xs : List NModule) → Each P xs → Each P (reached_by_imports n xs)
+pub near_each : (P : NModule → Type 0) (n : NModule) (xs : List NModule) → Each P xs → Each P (reached_by_imports n xs)
 near_each P (NModuleOf m imports exports hidden ds) xs h = each_reached P imports xs h
 
 near_only : (n : NModule) (xs : List NModule) (w : Word) → is_one_of (reached_by_imports n xs) w ≡ true → is_one_of xs w ≡ true

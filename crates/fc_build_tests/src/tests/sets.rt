@@ -11,20 +11,20 @@ const A: &[u8] = b"(module A (imports) (exports T K) (data T () (K ())))";
 const B: &[u8] = b"(module B (imports A) (exports x) (def x A.T (con A.K)))";
 
 /// One that imports both.
-const C: &[u8] = b"(module C (imports B A) (exports) (def y A.T B.x))";
+const C: &[u8] = b"(module C (imports B A) (exports y) (def y A.T B.x))";
 
 const CORE_A: &[u8] = b"(module A (imports) (exports T K)\n (data T () (K ())))\n";
 
 const CORE_B: &[u8] = b"(module B (imports A) (exports x)\n (def x A.T (con A.K)))\n";
 
-const CORE_C: &[u8] = b"(module C (imports B A) (exports) (hidden y)\n (def y A.T B.x))\n";
+const CORE_C: &[u8] = b"(module C (imports B A) (exports y)\n (def y A.T B.x))\n";
 
 /// What stands behind the name of a module in its log, where no step is taken.
 const MARKS: &[u8] =
     b"\nmark simplify\nmark special\nmark simplify\nmark float-out\nmark simplify\nmark float-in\nmark strict\nmark split\nmark simplify\n";
 
 const INTERFACE_C: &[u8] =
-    b"(interface 1 C (imports B A) (exports) (hidden y)\n (value y A.T (sig) (def B.x)))\n";
+    b"(interface 1 C (imports B A) (exports y)\n (value y A.T (sig) (def B.x)))\n";
 
 /// The logs of modules of these names, to which no step is taken.
 fn logs_of(alloc: Global, names: &[&str]) -> Result<Vec<u8>, AllocError> {

@@ -1,14 +1,13 @@
 use Rattle.std.proofs.Common.{rules, ◌≡◌, Ok, Err, map, refl, slice_get, subst}
 use Rattle.std.specs.List.{filter_map}
-use Rattle.fc_syntax.specs.Hints.{module_hints}
 use Rattle.fc_syntax.specs.View.{module_of}
 use Rattle.fc_model.specs.Linting.{In, SetLints, done, nameless_forms, set_judged}
 use Rattle.fc_model.specs.NamelessView.{nmodules_of}
 use Rattle.fc_model.specs.Planning.{build_order}
 use Rattle.fc_model.specs.Says.{fault_of}
-use Rattle.fc_lint_set.specs.Sets.{SetRefuses, hints_kept}
+use Rattle.fc_lint_set.specs.Sets.{SetRefuses}
 use Rattle.fc_build.proofs.JudgeLemmas.{unlinted_as}
-use Rattle.fc_build.proofs.Ordered.{picked}
+use Rattle.fc_replayed_sets.proofs.Ordered.{picked}
 use Rattle.fc_build.proofs.judge.judge_in_order.Goals as goal
 
 pub returns-in-Ok-clause-judged : goal.returns-in-Ok-clause-judged
@@ -22,13 +21,11 @@ returns-in-Ok-clause-ready c =
     let ms = map module_of c.args.modules.items in
     let says : set_judged (filter_map (slice_get ms) c.args.order) ≡ Ok done = search rules in
     let forms : nmodules_of c.in-Ok.forms.items ≡ nameless_forms (filter_map (slice_get ms) c.args.order) = search rules in
-    let words : map hints_kept c.in-Ok.forms.items ≡ map module_hints (filter_map (slice_get ms) c.args.order) = search rules in
     let in_order = picked ms c.args.order (build_order ms) c.requires.order in
     record {
       ready = record { formed = c.requires.formed; lints = subst SetLints in_order says };
       order = c.requires.order;
       forms = subst (λ k. nmodules_of c.in-Ok.forms.items ≡ nameless_forms k) in_order forms;
-      words = subst (λ k. map hints_kept c.in-Ok.forms.items ≡ map module_hints k) in_order words;
     }
 
 pub returns-in-Err-Flaw-clause-judged : goal.returns-in-Err-Flaw-clause-judged

@@ -1,9 +1,0 @@
-use Rattle.std.proofs.Common.{◌≡◌, ◌++◌, drop}
-use Rattle.fc_syntax.specs.View.{decls_of}
-use Rattle.fc_lattice.specs.View.{sigs_of}
-use Rattle.fc_build.specs.Product.{unknown_sigs}
-use Rattle.fc_build.proofs.product.unknown_sigs.Given as goal
-
--- the signatures so far, before those that are still to come, are all
-abbrev pub invariant-loop-decl : goal.invariant-loop-decl
-invariant-loop-decl l = sigs_of l.all.items ++ unknown_sigs (decls_of (drop l.decl-index l.decls)) ≡ unknown_sigs (decls_of l.decls)
