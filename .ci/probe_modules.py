@@ -1,4 +1,4 @@
-"""What .ci/rows and .ci/simplified share: the probe over modules, and what is compared of them. PROBE names the probe, where it is not the one that the gate has built here."""
+"""What .ci/rows, .ci/simplified and .ci/built share: the probe over modules, and what is compared of them. PROBE names the probe, where it is not the one that the gate has built here."""
 import os
 import re
 import subprocess

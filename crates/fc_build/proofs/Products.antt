@@ -21,6 +21,7 @@ use Rattle.fc_reaching.specs.Numbering.{word_of}
 use Rattle.fc_replayed_sets.specs.Replays.{AreOptimised, AreReplays, Telling, TellsAnything, no_replays, one_replay}
 use Rattle.fc_replayed_sets.proofs.Forms.{form_names, resolved_forms, set_resolves}
 use Rattle.fc_replayed_sets.proofs.Ordered.{order_keeps, picked}
+use Rattle.fc_replayed_sets.proofs.NoneLarger.{none_is_larger}
 use Rattle.fc_replayed_sets.proofs.ReplayedSets.{read_are_formed, replayed_sets_are_faithful, replays_can_be_written}
 use Rattle.fc_rows.specs.Telling.{told_module}
 use Rattle.fc_set_rules.specs.FormsDecide.{AllResolve, none_resolve, one_resolves}
@@ -117,6 +118,7 @@ outcome grow ms lint formed made =
       logs = made.logs;
       replayed = both.0;
       optimised = both.1;
+      no_larger = none_is_larger both.0;
       faithful = replayed_sets_are_faithful ms lint formed made.logs made.forms (tell_anything made.replays) made.modules made.resolve;
     }
 

@@ -14,7 +14,7 @@ use Rattle.fc_log.specs.Texts.{SpellsLog, log_text}
 use Rattle.fc_log.specs.declared.log.Log.{Log}
 use Rattle.fc_product.specs.Interfaces.{IsInterfaceFor, TellsInterface}
 use Rattle.fc_replayed_sets.specs.Faithful.{AreFaithful}
-use Rattle.fc_replayed_sets.specs.Replays.{AreOptimised, AreReplays, Telling}
+use Rattle.fc_replayed_sets.specs.Replays.{AreOptimised, AreReplays, NoneIsLarger, Telling}
 use Rattle.fc_words.specs.Asking.{Order, Building, Explaining, Linting}
 use Rattle.fc_words.specs.declared.Tuning.{Tuning}
 use Rattle.fc_build.specs.Product.{Step, built_step, core_name, explained_step, interface_name, linted_step, log_name}
@@ -37,13 +37,14 @@ pub data AreBuilt (tuning : Tuning) (prefix : List ℕ) : List NModule → List 
   one_built : {form : NModule} {l : Log} {m : Module} {s : Step} {forms : List NModule} {ls : List Log} {ms : List Module} {steps : List Step} → IsBuilt tuning prefix form l m s
       → AreBuilt tuning prefix forms ls ms steps → AreBuilt tuning prefix (form ∷ forms) (l ∷ ls) (m ∷ ms) (s ∷ steps)
 
--- What comes of modules that were read, in the order in which they are built: there are logs, and modules that are their replays, optimised, and faithful to what was
--- read.
+-- What comes of modules that were read, in the order in which they are built: there are logs, and modules that are their replays, optimised, no larger than what was read, and faithful
+-- to it.
 pub record Outcome (Tells : Telling) (read : List Module) : Type 0 where
   pub written : List Module
   pub logs : List Log
   pub replayed : AreReplays (map name_of read) Tells [] logs (nameless_forms read) (nameless_forms written)
   pub optimised : AreOptimised replayed
+  pub no_larger : NoneIsLarger (nameless_forms read) (nameless_forms written)
   pub faithful : AreFaithful read written
 
 -- a build writes these modules, their interfaces and the logs; later modules are told what the interfaces tell

@@ -1,5 +1,5 @@
 //! The alternative for a constructor that a case looks at, with lets for the constructor's terms.
-ghost use Rattle.std.specs.Prelude.{◌≡◌, IfOk, None, if◌then◌else◌, nat_le};
+ghost use Rattle.std.specs.Prelude.{◌≡◌, IfOk, OnOk, None, if◌then◌else◌, nat_le};
 ghost use Rattle.std.specs.Option.{option_map};
 ghost use Rattle.fc_model.specs.Calling.{constructor_type};
 ghost use Rattle.fc_model.specs.NamelessView.{nalts_of, nargs_of, nexpr_of, nty_of};
@@ -8,7 +8,7 @@ ghost use Rattle.fc_rows.specs.Shrinking.{alternative_of, at_constructor as spec
 ghost use Rattle.fc_syntax.specs.declared.expr.Head.TheVariants.{Con, Default};
 ghost use Rattle.fc_types.specs.TableViews.{constructor_of};
 ghost use Rattle.fc_type_scope.specs.Scopes.{scope_in};
-ghost use Rattle.fc_type_table.specs.TypeTables.{IsType, shown};
+ghost use Rattle.fc_type_table.specs.TypeTables.{Grows, IsType, shown};
 ghost use Rattle.fc_lint_context.specs.ContextViews.{IsContextOver, modules_of_context};
 ghost use Rattle.fc_case_known.specs.Alternatives.{branch_of};
 ghost use Rattle.fc_case_known.specs.Opening.{bound_in, inside_lets as spec_inside_lets, put_in};
@@ -129,7 +129,8 @@ fn at_constructor(
     requires context { IsContextOver types.old context.now }
     requires type_in { IsType types.old (scope_in context.now.scope) found.now.ty }
     requires type_view { shown types.old (scope_in context.now.scope) found.now.ty ≡ constructor_type taken.now.name.now (constructor_of found.now.con) }
-    ensures { IfOk result (λ o. option_map nexpr_of o ≡ (if nat_le (spec_term_count (nargs_of taken.now.arguments.now)) 500 then spec_at_constructor (nty_of case.now.ty.now) taken.now.name.now (nargs_of taken.now.arguments.now) (constructor_of found.now.con) (branch_of alternative.now) else None)) }
+    ensures view { IfOk result (λ o. option_map nexpr_of o ≡ (if nat_le (spec_term_count (nargs_of taken.now.arguments.now)) 500 then spec_at_constructor (nty_of case.now.ty.now) taken.now.name.now (nargs_of taken.now.arguments.now) (constructor_of found.now.con) (branch_of alternative.now) else None)) }
+    ensures grows { OnOk result (Grows types.old types.new) }
 {
     let lets = term_count(taken.arguments)?;
     if lets > MOST_TERMS {
@@ -171,7 +172,8 @@ pub(crate) fn case_of_constructor(
 ) -> Result<Option<NExpr>, Memory>
     requires context { IsContextOver types.old context.now }
     requires scrutinee { nexpr_of case.now.scrutinee.now ≡ NCon taken.now.name.now (nargs_of taken.now.arguments.now) }
-    ensures { IfOk result (λ o. option_map nexpr_of o ≡ (if are_few_terms (nargs_of taken.now.arguments.now) (alternative_of (Con taken.now.name.now) (nalts_of case.now.alternatives.now)) then spec_case_of_constructor (modules_of_context context.now) (nty_of case.now.ty.now) taken.now.name.now (nargs_of taken.now.arguments.now) (alternative_of (Con taken.now.name.now) (nalts_of case.now.alternatives.now)) (alternative_of Default (nalts_of case.now.alternatives.now)) else None)) }
+    ensures view { IfOk result (λ o. option_map nexpr_of o ≡ (if are_few_terms (nargs_of taken.now.arguments.now) (alternative_of (Con taken.now.name.now) (nalts_of case.now.alternatives.now)) then spec_case_of_constructor (modules_of_context context.now) (nty_of case.now.ty.now) taken.now.name.now (nargs_of taken.now.arguments.now) (alternative_of (Con taken.now.name.now) (nalts_of case.now.alternatives.now)) (alternative_of Default (nalts_of case.now.alternatives.now)) else None)) }
+    ensures grows { OnOk result (Grows types.old types.new) }
 {
     let Some(alternative) = alternative_for(case.alternatives, &Sought::Named(taken.name)) else {
         return at_default(alloc, case);

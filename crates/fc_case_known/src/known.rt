@@ -1,10 +1,11 @@
 //! A case of what is known.
-ghost use Rattle.std.specs.Prelude.{◌≡◌, IfOk};
+ghost use Rattle.std.specs.Prelude.{◌≡◌, IfOk, OnOk};
 ghost use Rattle.std.specs.Option.{option_map};
 ghost use Rattle.fc_model.specs.NamelessView.{nexpr_of};
 ghost use Rattle.fc_rows.specs.Shrinking.{known};
 ghost use Rattle.fc_rows.specs.Surroundings.{Surroundings};
 ghost use Rattle.fc_known.specs.Told.{told};
+ghost use Rattle.fc_type_table.specs.TypeTables.{Grows};
 ghost use Rattle.fc_lint_context.specs.ContextViews.{IsContextOver, modules_of_context};
 ghost use Rattle.fc_shrink_cases.specs.Cases.{scrutinee_of};
 ghost use Rattle.fc_case_known.specs.Within.{case_known_within};
@@ -33,7 +34,8 @@ pub fn case_known(
     context: &Context,
 ) -> Result<Option<NExpr>, Memory>
     requires { IsContextOver types.old context.now }
-    ensures { (s : Surroundings) → told fact.now ≡ known s (scrutinee_of (nexpr_of e.now)) → IfOk result (λ o. option_map nexpr_of o ≡ case_known_within (modules_of_context context.now) s (nexpr_of e.now)) }
+    ensures view { (s : Surroundings) → told fact.now ≡ known s (scrutinee_of (nexpr_of e.now)) → IfOk result (λ o. option_map nexpr_of o ≡ case_known_within (modules_of_context context.now) s (nexpr_of e.now)) }
+    ensures grows { OnOk result (Grows types.old types.new) }
 {
     let Some(case) = as_case(e) else {
         return Ok(None);

@@ -9,6 +9,7 @@ ghost use Rattle.fc_types.specs.TableViews.{axiom_of};
 ghost use Rattle.fc_lint_context.specs.ContextViews.{IsContextOver, modules_of_context};
 ghost use Rattle.fc_coercion_forms.specs.Axioms.{fits_or_fault};
 ghost use Rattle.fc_type_scope.specs.EndViews.{AreEndsAt, IsEnds, shown_all_ends_at, shown_ends};
+ghost use Rattle.fc_type_scope.specs.Refusals.{OnFlaw};
 ghost use Rattle.fc_type_scope.specs.Scopes.{scope_in};
 ghost use Rattle.fc_type_table.specs.TypeTables.{Grows, modules_in, nodes_of};
 
@@ -32,6 +33,7 @@ fn fit_declared(
     requires { AreEndsAt (nodes_of types.old) (scope_in scope.now) group.now }
     ensures says { (m : Option trees.Word) → Says (λ r. r) result (fits_or_fault (modules_in types.old) (scope_in scope.now) (axiom_of m (ndecl_of decl.now)) (shown_all_ends_at (nodes_of types.old) (scope_in scope.now) group.now)) }
     ensures grows { OnOk result (Grows types.old types.new) }
+    ensures refused { OnFlaw result (Grows types.old types.new) }
 {
     match decl {
         NDecl::DataType(_, _, _) => Err(flaw_here(alloc, FaultKind::Unbound)),
@@ -71,6 +73,7 @@ pub(crate) fn axiom_at(
     ensures valid { IfOk result (λ e. IsEnds types.new (scope_in context.now.scope) e) }
     ensures says { Says (λ e. shown_ends types.new (scope_in context.now.scope) e) result (words.axiom_ends (modules_of_context context.now) (scope_in context.now.scope) (axiom_named (modules_of_context context.now) name.now) (shown_all_ends_at (nodes_of types.old) (scope_in context.now.scope) group.now)) }
     ensures grows { OnOk result (Grows types.old types.new) }
+    ensures refused { OnFlaw result (Grows types.old types.new) }
 {
     let Some(found) = context.axiom_named(name) else {
         return Err(flaw_here(alloc, FaultKind::Unbound));

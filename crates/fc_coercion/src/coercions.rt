@@ -9,6 +9,7 @@ ghost use Rattle.fc_model.specs.Says.{Says};
 ghost use Rattle.fc_coercion.specs.Pairs.{two_ends};
 ghost use Rattle.fc_lint_context.specs.ContextViews.{IsContextOver, context_in, modules_of_context};
 ghost use Rattle.fc_type_scope.specs.EndViews.{AreEndsAt, IsEnds, shown_all_ends_at, shown_ends};
+ghost use Rattle.fc_type_scope.specs.Refusals.{OnFlaw};
 ghost use Rattle.fc_type_scope.specs.Scopes.{scope_in};
 ghost use Rattle.fc_type_table.specs.TypeTables.{Grows, modules_in, nodes_of};
 
@@ -38,6 +39,7 @@ fn reflexive(
     ensures says { Says (λ e. shown_ends types.new (scope_in context.now.scope) e) result (ends_or_fault (modules_of_context context.now) (scope_in context.now.scope) (context_in types.old context.now).coercions (NGRefl role (nty_of t.now))) }
     ensures grows { OnOk result (Grows types.old types.new) }
     ensures context { OnOk result (IsContextOver types.new context.now) }
+    ensures refused { OnFlaw result (Grows types.old types.new) }
 {
     let read = context.scope.kinded_part(alloc, t, types, 0)?;
     Ok(Ends {
@@ -61,6 +63,7 @@ fn universal(
     ensures says { Says (λ e. shown_ends types.new (scope_in context.now.scope) e) result (ends_or_fault (modules_of_context context.now) (scope_in context.now.scope) (context_in types.old context.now).coercions (NGUniv (nty_of t.now) (nty_of u.now))) }
     ensures grows { OnOk result (Grows types.old types.new) }
     ensures context { OnOk result (IsContextOver types.new context.now) }
+    ensures refused { OnFlaw result (Grows types.old types.new) }
 {
     let left = context.scope.kinded_part(alloc, t, types, 0)?;
     let right = context.scope.kinded_part(alloc, u, types, 1)?;
@@ -88,6 +91,7 @@ pub fn ends_of_part(
     ensures says { Says (λ e. shown_ends types.new (scope_in context.now.scope) e) result (under part (ends_or_fault (modules_of_context context.now) (scope_in context.now.scope) (context_in types.old context.now).coercions (nco_of g.now))) }
     ensures grows { OnOk result (Grows types.old types.new) }
     ensures context { OnOk result (IsContextOver types.new context.now) }
+    ensures refused { OnFlaw result (Grows types.old types.new) }
 {
     match ends_of(alloc, g, types, &*context) {
         Ok(ends) => Ok(ends),
@@ -109,6 +113,7 @@ fn ends_behind(
     ensures says { Says (λ e. shown_ends types.new (scope_in context.now.scope) e) result (ends_or_fault (modules_of_context context.now) (scope_in context.now.scope) (context_in types.old context.now).coercions (NGAll (kind_of kind.now) (nco_of g.now))) }
     ensures grows { OnOk result (Grows types.old types.new) }
     ensures context { OnOk result (IsContextOver types.new context.now) }
+    ensures refused { OnFlaw result (Grows types.old types.new) }
 {
     let variable = NumberedKind {
         kind,
@@ -134,6 +139,7 @@ fn both_ends(
     ensures says { Says (λ p. (shown_ends types.new (scope_in context.now.scope) p.0, shown_ends types.new (scope_in context.now.scope) p.1)) result (two_ends (modules_of_context context.now) (scope_in context.now.scope) (context_in types.old context.now).coercions (nco_of g.now) (nco_of h.now)) }
     ensures grows { OnOk result (Grows types.old types.new) }
     ensures context { OnOk result (IsContextOver types.new context.now) }
+    ensures refused { OnFlaw result (Grows types.old types.new) }
 {
     let first = ends_of_part(alloc, g, types, &*context, 0)?;
     let second = ends_of_part(alloc, h, types, &*context, 1)?;
@@ -153,6 +159,7 @@ fn each_ends(
     ensures says { Says (λ es. shown_all_ends_at (nodes_of types.new) (scope_in context.now.scope) es) result (all_ends_or_fault (modules_of_context context.now) (scope_in context.now.scope) (context_in types.old context.now).coercions 0 (ncos_of gs.now)) }
     ensures grows { OnOk result (Grows types.old types.new) }
     ensures context { OnOk result (IsContextOver types.new context.now) }
+    ensures refused { OnFlaw result (Grows types.old types.new) }
 {
     let mut group = Seq::new(alloc);
     let mut part = 0u32;
@@ -180,6 +187,7 @@ pub fn ends_of(
     ensures says { Says (λ e. shown_ends types.new (scope_in context.now.scope) e) result (ends_or_fault (modules_of_context context.now) (scope_in context.now.scope) (context_in types.old context.now).coercions (nco_of g.now)) }
     ensures grows { OnOk result (Grows types.old types.new) }
     ensures context { OnOk result (IsContextOver types.new context.now) }
+    ensures refused { OnFlaw result (Grows types.old types.new) }
 {
     match g {
         NCo::Var(distance) => context.coercion(alloc, *distance),

@@ -11,6 +11,7 @@ ghost use Rattle.fc_syntax.specs.Tree.{KStar};
 ghost use Rattle.fc_syntax.specs.declared.fault.FaultKind.TheVariants.{FamilyArity};
 ghost use Rattle.fc_types.specs.ModuleViews.{modules_of};
 ghost use Rattle.fc_type_scope.specs.EndViews.{AreEndsAt, IsEnds, shown_all_ends_at, shown_ends};
+ghost use Rattle.fc_type_scope.specs.Refusals.{OnFlaw};
 ghost use Rattle.fc_type_scope.specs.Scopes.{scope_in};
 ghost use Rattle.fc_type_table.specs.TypeTables.{Grows, IsType, modules_in, nodes_of, shown};
 
@@ -112,6 +113,7 @@ pub fn constructed(
     ensures valid { IfOk result (λ e. IsEnds types.new (scope_in scope.now) e) }
     ensures says { Says (λ e. shown_ends types.new (scope_in scope.now) e) result (words.constructed_ends (modules_of declared.now) (scope_in scope.now) role name.now (shown_all_ends_at (nodes_of types.old) (scope_in scope.now) group.now)) }
     ensures grows { OnOk result (Grows types.old types.new) }
+    ensures refused { OnFlaw result (Grows types.old types.new) }
 {
     if !are_at_roles(role, params_of_name(declared, name), group) {
         return Err(flaw_here(alloc, FaultKind::RoleWrong));

@@ -5,6 +5,7 @@ ghost use Rattle.fc_model.specs.Nameless.{NTApp};
 ghost use Rattle.fc_model.specs.Says.{Says};
 ghost use Rattle.fc_coercion_forms.specs.Kinded.{kinded_or_fault};
 ghost use Rattle.fc_type_scope.specs.EndViews.{IsEnds, shown_ends};
+ghost use Rattle.fc_type_scope.specs.Refusals.{OnFlaw};
 ghost use Rattle.fc_type_scope.specs.Scopes.{scope_in};
 ghost use Rattle.fc_type_table.specs.TypeTables.{Grows, modules_in, shown};
 
@@ -119,6 +120,7 @@ pub fn applied(
     ensures valid { IfOk result (λ e. IsEnds types.new (scope_in scope.now) e) }
     ensures says { Says (λ e. shown_ends types.new (scope_in scope.now) e) result (words.applied_ends (modules_in types.old) (scope_in scope.now) (shown_ends types.old (scope_in scope.now) head) (shown_ends types.old (scope_in scope.now) argument)) }
     ensures grows { OnOk result (Grows types.old types.new) }
+    ensures refused { OnFlaw result (Grows types.old types.new) }
 {
     if is_phantom(head.role) || !is_nominal(argument.role) {
         return Err(flaw_here(alloc, FaultKind::RoleWrong));
@@ -142,6 +144,7 @@ pub fn function(
     ensures valid { IfOk result (λ e. IsEnds types.new (scope_in scope.now) e) }
     ensures says { Says (λ e. shown_ends types.new (scope_in scope.now) e) result (words.arrow_ends (modules_in types.old) (scope_in scope.now) (shown_ends types.old (scope_in scope.now) from) (shown_ends types.old (scope_in scope.now) to)) }
     ensures grows { OnOk result (Grows types.old types.new) }
+    ensures refused { OnFlaw result (Grows types.old types.new) }
 {
     if !same_role(from.role, to.role) || is_phantom(from.role) {
         return Err(flaw_here(alloc, FaultKind::RoleWrong));

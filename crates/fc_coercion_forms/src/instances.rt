@@ -6,6 +6,7 @@ ghost use Rattle.fc_model.specs.Says.{Says};
 ghost use Rattle.fc_model.specs.Calling.{at_type};
 ghost use Rattle.fc_coercion_forms.specs.Foralls.{ends_at_types, one_forall_kind};
 ghost use Rattle.fc_type_scope.specs.EndViews.{IsEnds, shown_ends};
+ghost use Rattle.fc_type_scope.specs.Refusals.{OnFlaw};
 ghost use Rattle.fc_type_scope.specs.Scopes.{scope_in};
 ghost use Rattle.fc_type_table.specs.TypeTables.{Grows, IsKindId, kind_shown, modules_in, shown};
 
@@ -46,6 +47,7 @@ fn instantiated(
     ensures valid { IfOk result (λ e. IsEnds types.new (scope_in scope.now) e) }
     ensures says { Says (λ e. shown_ends types.new (scope_in scope.now) e) result (ends_at_types foralls.role (at_type (shown types.old (scope_in scope.now) foralls.left) (shown types.old (scope_in scope.now) at.left)) (at_type (shown types.old (scope_in scope.now) foralls.right) (shown types.old (scope_in scope.now) at.right))) }
     ensures grows { OnOk result (Grows types.old types.new) }
+    ensures refused { OnFlaw result (Grows types.old types.new) }
 {
     let Some(left) = scope.instantiate(alloc, foralls.left, at.left, types)? else {
         return Err(flaw_here(alloc, FaultKind::EndsDiffer));
@@ -75,6 +77,7 @@ pub fn instance(
     ensures valid { IfOk result (λ e. IsEnds types.new (scope_in scope.now) e) }
     ensures says { Says (λ e. shown_ends types.new (scope_in scope.now) e) result (words.instance_ends (modules_in types.old) (scope_in scope.now) (shown_ends types.old (scope_in scope.now) foralls) (shown_ends types.old (scope_in scope.now) at)) }
     ensures grows { OnOk result (Grows types.old types.new) }
+    ensures refused { OnFlaw result (Grows types.old types.new) }
 {
     let Some(kind) = kind_of_foralls(&foralls, types, scope) else {
         return Err(flaw_here(alloc, FaultKind::EndsDiffer));

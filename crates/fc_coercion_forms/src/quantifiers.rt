@@ -7,6 +7,7 @@ ghost use Rattle.fc_model.specs.Coercing as words;
 ghost use Rattle.fc_model.specs.Nameless.{NTCoForall, NTInt};
 ghost use Rattle.fc_model.specs.Says.{Says};
 ghost use Rattle.fc_type_scope.specs.EndViews.{IsEnds, shown_ends};
+ghost use Rattle.fc_type_scope.specs.Refusals.{OnFlaw};
 ghost use Rattle.fc_type_scope.specs.Scopes.{scope_in};
 ghost use Rattle.fc_type_table.specs.TypeTables.{Grows, IsType, modules_in, shown};
 
@@ -35,6 +36,7 @@ pub fn quantified(
     ensures valid { IfOk result (λ e. IsEnds types.new (scope_in scope.now) e) }
     ensures says { Says (λ e. shown_ends types.new (scope_in scope.now) e) result (words.forall_ends (modules_in types.old) (scope_in scope.now) (kind_of kind.now) (shown_ends types.old (kind_of kind.now ∷ scope_in scope.now) ends)) }
     ensures grows { OnOk result (Grows types.old types.new) }
+    ensures refused { OnFlaw result (Grows types.old types.new) }
 {
     if !is_lifted(kind) {
         return Err(flaw_here(alloc, FaultKind::UnliftedVariable));
@@ -147,6 +149,7 @@ pub fn taking(
     ensures valid { IfOk result (λ e. IsEnds types.new (scope_in scope.now) e) }
     ensures says { Says (λ e. shown_ends types.new (scope_in scope.now) e) result (words.coforall_ends (modules_in types.old) (scope_in scope.now) outer role (shown_ends types.old (scope_in scope.now) left) (shown_ends types.old (scope_in scope.now) right) (shown_ends types.old (scope_in scope.now) body)) }
     ensures grows { OnOk result (Grows types.old types.new) }
+    ensures refused { OnFlaw result (Grows types.old types.new) }
 {
     if !parts_at_roles(outer, role, &left, &right, &body) {
         return Err(flaw_here(alloc, FaultKind::RoleWrong));

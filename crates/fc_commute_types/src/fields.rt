@@ -1,11 +1,12 @@
 //! A field of a constructor gets a let.
-ghost use Rattle.std.specs.Prelude.{◌≡◌, ◌&&◌, not, if◌then◌else◌, IfOk};
+ghost use Rattle.std.specs.Prelude.{◌≡◌, ◌&&◌, not, if◌then◌else◌, IfOk, OnOk};
 ghost use Rattle.std.specs.Option.{is_some, option_map};
 ghost use Rattle.fc_model.specs.Nameless.{NATerm, NCon, NLocal};
 ghost use Rattle.fc_model.specs.NamelessView.{narg_of, nargs_of, nexpr_of, nty_of};
 ghost use Rattle.fc_model.specs.Replacing.{below_values, coercion_variables, past_a_value, renamed, variables};
 ghost use Rattle.fc_rows.specs.Commuting.{name_field as spec_name_field, with_first_named as spec_with_first_named};
 ghost use Rattle.fc_rows.specs.Shrinking.{let_of as spec_let_of, moved_arg};
+ghost use Rattle.fc_type_table.specs.TypeTables.{Grows};
 ghost use Rattle.fc_lint_context.specs.ContextViews.{IsContextOver, modules_of_context};
 ghost use Rattle.fc_commute_types.specs.Fields.{field_in};
 
@@ -111,7 +112,8 @@ pub fn name_field(
     context: &Context,
 ) -> Result<Option<NExpr>, Memory>
     requires { IsContextOver types.old context.now }
-    ensures { IfOk result (λ o. option_map nexpr_of o ≡ spec_name_field (modules_of_context context.now) (nexpr_of e.now)) }
+    ensures view { IfOk result (λ o. option_map nexpr_of o ≡ spec_name_field (modules_of_context context.now) (nexpr_of e.now)) }
+    ensures grows { OnOk result (Grows types.old types.new) }
 {
     let Some(outer) = as_single_binding(e) else {
         return Ok(None);

@@ -1,5 +1,5 @@
 //! A jump as the right side of its join point.
-ghost use Rattle.std.specs.Prelude.{◌≡◌, ◌+◌, IfOk, None, if◌then◌else◌};
+ghost use Rattle.std.specs.Prelude.{◌≡◌, ◌+◌, IfOk, OnOk, None, if◌then◌else◌};
 ghost use Rattle.std.specs.Option.{option_map};
 ghost use Rattle.fc_model.specs.Faulting.{at_distance};
 ghost use Rattle.fc_model.specs.NamelessView.{nargs_of, nexpr_of};
@@ -10,7 +10,7 @@ ghost use Rattle.fc_subst.specs.Replacements.{past_all};
 ghost use Rattle.fc_known.specs.ToldOfPoints.{point_told};
 ghost use Rattle.fc_known.specs.declared.points.KnownPoint.TheVariants.{Bound};
 ghost use Rattle.fc_type_scope.specs.Scopes.{IsScope, scope_in};
-ghost use Rattle.fc_type_table.specs.TypeTables.{IsType, shown};
+ghost use Rattle.fc_type_table.specs.TypeTables.{Grows, IsType, shown};
 ghost use Rattle.fc_lint_context.specs.ContextViews.{IsContextOver, context_in};
 ghost use Rattle.fc_jump_once.specs.Within.{IsPointOf, are_few_terms, jump_once_within};
 
@@ -58,7 +58,8 @@ fn at_arguments(
 ) -> Result<Option<NExpr>, Memory>
     requires scope { IsScope types.old scope.now }
     requires ty_in { IsType types.old (scope_in scope.now) ty }
-    ensures { IfOk result (λ o. option_map nexpr_of o ≡ (if are_few_terms (nargs_of args.now) then jump_taken (point_told (Bound point.entry own)) (shown types.old (scope_in scope.now) ty) (nargs_of args.now) else None)) }
+    ensures view { IfOk result (λ o. option_map nexpr_of o ≡ (if are_few_terms (nargs_of args.now) then jump_taken (point_told (Bound point.entry own)) (shown types.old (scope_in scope.now) ty) (nargs_of args.now) else None)) }
+    ensures grows { OnOk result (Grows types.old types.new) }
 {
     let lets = term_count(args)?;
     if lets > MOST_TERMS {
@@ -81,7 +82,8 @@ fn jump_to(
     context: &Context,
 ) -> Result<Option<NExpr>, Memory>
     requires { IsContextOver types.old context.now }
-    ensures { IfOk result (λ o. option_map nexpr_of o ≡ (if are_few_terms (nargs_of args.now) then jump_made (at_distance (context_in types.old context.now).joins distance) (point_told point.now) (nargs_of args.now) else None)) }
+    ensures view { IfOk result (λ o. option_map nexpr_of o ≡ (if are_few_terms (nargs_of args.now) then jump_made (at_distance (context_in types.old context.now).joins distance) (point_told point.now) (nargs_of args.now) else None)) }
+    ensures grows { OnOk result (Grows types.old types.new) }
 {
     let Some(join) = context.join(distance) else {
         return Ok(None);
@@ -107,7 +109,8 @@ pub fn jump_once(
     context: &Context,
 ) -> Result<Option<NExpr>, Memory>
     requires { IsContextOver types.old context.now }
-    ensures { (s : Surroundings) → s.context ≡ context_in types.old context.now → IsPointOf point.now s (nexpr_of e.now) → IfOk result (λ o. option_map nexpr_of o ≡ jump_once_within s (nexpr_of e.now)) }
+    ensures view { (s : Surroundings) → s.context ≡ context_in types.old context.now → IsPointOf point.now s (nexpr_of e.now) → IfOk result (λ o. option_map nexpr_of o ≡ jump_once_within s (nexpr_of e.now)) }
+    ensures grows { OnOk result (Grows types.old types.new) }
 {
     let NExpr::Jump(distance, args) = e else {
         return Ok(None);

@@ -142,6 +142,7 @@ pub(crate) fn terms_asked<'a>(
     requires ty_in { IsType types.old (scope_in scope.now) ty }
     ensures valid { IfOk result (λ r. IfSome r (λ found. AreAsked types.new (scope_in scope.now) found)) }
     ensures view { IfOk result (λ r. option_map (λ found. asked_all types.new (scope_in scope.now) found) r ≡ asked_terms (shown types.old (scope_in scope.now) ty) (nargs_of args.now)) }
+    ensures grows { OnOk result (Grows types.old types.new) }
 {
     let mut found = Seq::new(alloc);
     let mut whole = ty;

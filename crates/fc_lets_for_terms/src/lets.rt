@@ -1,12 +1,12 @@
 //! A body behind lets.
-ghost use Rattle.std.specs.Prelude.{◌≡◌, IfOk};
+ghost use Rattle.std.specs.Prelude.{◌≡◌, IfOk, OnOk};
 ghost use Rattle.std.specs.Option.{option_map};
 ghost use Rattle.fc_model.specs.NamelessView.{nargs_of, nexpr_of};
 ghost use Rattle.fc_model.specs.Replacing.{renamed};
 ghost use Rattle.fc_rows.specs.Shrinking.{behind_lets as spec_behind_lets, let_of as spec_let_of};
 ghost use Rattle.fc_rows.specs.Surroundings.{past_values};
 ghost use Rattle.fc_type_scope.specs.Scopes.{IsScope, scope_in};
-ghost use Rattle.fc_type_table.specs.TypeTables.{IsType, shown};
+ghost use Rattle.fc_type_table.specs.TypeTables.{Grows, IsType, shown};
 ghost use Rattle.fc_lets_for_terms.specs.Asking.{AreAsked, asked_all, lets_around as spec_lets_around};
 
 use crate::asking::{AskedTerm, terms_asked};
@@ -93,7 +93,8 @@ pub fn behind_lets(
 ) -> Result<Option<NExpr>, Memory>
     requires scope { IsScope types.old scope.now }
     requires ty_in { IsType types.old (scope_in scope.now) ty }
-    ensures { IfOk result (λ o. option_map nexpr_of o ≡ spec_behind_lets 0 (shown types.old (scope_in scope.now) ty) (nargs_of args.now) (nexpr_of body)) }
+    ensures view { IfOk result (λ o. option_map nexpr_of o ≡ spec_behind_lets 0 (shown types.old (scope_in scope.now) ty) (nargs_of args.now) (nexpr_of body)) }
+    ensures grows { OnOk result (Grows types.old types.new) }
 {
     match terms_asked(alloc, args, ty, types, scope)? {
         None => Ok(None),

@@ -3,6 +3,7 @@ ghost use Rattle.std.specs.Prelude.{◌≡◌, ◌↔◌, IfOk, IsTrue, OnOk, ma
 ghost use Rattle.fc_log.specs.declared.log.Entry.TheVariants as entry_kind;
 ghost use Rattle.fc_model.specs.NamelessView.{nmodules_of};
 ghost use Rattle.fc_apply.specs.Steps.{FirstFits};
+ghost use Rattle.fc_simplify.specs.Phase.{Continues, FirstIsQuiet};
 ghost use Rattle.fc_optimise.specs.Optimised.{FirstIsMadeBy, FirstIsOptimised};
 ghost use Rattle.fc_optimise.specs.Phases.{RunsPhase};
 
@@ -25,24 +26,51 @@ const PHASES: [Phase; 9] = [
     Phase::Simplify,
 ];
 
-/// Runs a phase on the first of some modules, and marks its end in the log. Only simplifying has rows yet.
-fn run_phase(
+/// Simplifies the first of some modules, unless it is told that no row of the phase applies.
+#[tactic(auto, using(fc_simplify::proofs::Logs::continues_same))]
+fn simplify_unless_quiet(
     alloc: Global,
-    phase: Phase,
+    quiet: bool,
     modules: &mut [NModule],
     log: &mut Seq<Entry>,
 ) -> Result<(), Memory>
-    requires { FirstFits (nmodules_of modules.old) }
+    requires fits { FirstFits (nmodules_of modules.old) }
+    requires quiet { IsTrue quiet → FirstIsQuiet (nmodules_of modules.old) }
+    ensures continues { OnOk result (Continues (nmodules_of modules.old) (nmodules_of modules.new) log.old log.new) }
+    ensures fits { OnOk result (FirstFits (nmodules_of modules.new)) }
+    ensures quiet { OnOk result (FirstIsQuiet (nmodules_of modules.new)) }
+{
+    if quiet {
+        Ok(())
+    } else {
+        simplify(alloc, modules, log)
+    }
+}
+
+/// Runs a phase on the first of some modules, and marks its end in the log. Answers whether it is known that no row of the simplify phase applies there, which is told before of the module
+/// as it was. Only simplifying has rows yet.
+fn run_phase(
+    alloc: Global,
+    phase: Phase,
+    quiet: bool,
+    modules: &mut [NModule],
+    log: &mut Seq<Entry>,
+) -> Result<bool, Memory>
+    requires fits { FirstFits (nmodules_of modules.old) }
+    requires quiet { IsTrue quiet → FirstIsQuiet (nmodules_of modules.old) }
     ensures runs { OnOk result (RunsPhase phase (nmodules_of modules.old) (nmodules_of modules.new) log.old log.new) }
     ensures fits { OnOk result (FirstFits (nmodules_of modules.new)) }
+    ensures quiet { IfOk result (λ b. IsTrue b → FirstIsQuiet (nmodules_of modules.new)) }
 {
     match phase {
         Phase::Simplify => {
-            simplify(alloc, modules, log)?;
-            log.push(Entry::Mark(Phase::Simplify))
+            simplify_unless_quiet(alloc, quiet, modules, log)?;
+            log.push(Entry::Mark(Phase::Simplify))?;
+            Ok(true)
         }
         Phase::Special | Phase::FloatOut | Phase::FloatIn | Phase::Strict | Phase::Split => {
-            log.push(Entry::Mark(phase))
+            log.push(Entry::Mark(phase))?;
+            Ok(quiet)
         }
     }
 }
@@ -57,8 +85,9 @@ fn run_phases(
     ensures { IfOk result (λ es. FirstIsMadeBy phases.now es (nmodules_of modules.old) (nmodules_of modules.new)) }
 {
     let mut log = Seq::new(alloc);
+    let mut quiet = false;
     for phase in phases {
-        run_phase(alloc, *phase, modules, &mut log)?;
+        quiet = run_phase(alloc, *phase, quiet, modules, &mut log)?;
     }
     Ok(log)
 }

@@ -1,6 +1,7 @@
 mod AmongNames
 pub mod FormedLeft
 pub mod Forms
+pub mod NoneLarger
 pub mod Ordered
 mod ReadFormed
 pub mod ReplayedSets

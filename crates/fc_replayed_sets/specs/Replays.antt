@@ -1,5 +1,5 @@
 -- Modules that are made of those of a set, one after the other, each with the log of what was done to it.
-use Rattle.std.specs.Prelude.{◌≡◌, ⊤, Bool, List, [], ◌∷◌}
+use Rattle.std.specs.Prelude.{◌≡◌, ◌≤◌, ⊤, Bool, List, [], ◌∷◌}
 use Rattle.fc_syntax.specs.Tree.{Word}
 use Rattle.fc_headers.specs.NamelessHeaders.{form_written_among}
 use Rattle.fc_log.specs.Shapes.{IsShaped}
@@ -8,6 +8,7 @@ use Rattle.fc_log.specs.declared.log.Log.{Log}
 use Rattle.fc_model.specs.Nameless.{NModule}
 use Rattle.fc_phases.specs.Optimising.{Optimises}
 use Rattle.fc_reaching.specs.Numbering.{word_of}
+use Rattle.fc_row_nodes.specs.Nodes.{module_nodes}
 use Rattle.fc_rows.specs.Replaying.{Replays}
 use Rattle.fc_rows.specs.ResultLimits.{IsWithinLimits}
 use Rattle.fc_rows.specs.Telling.{reached_by_imports, told_module}
@@ -40,3 +41,9 @@ pub data AreReplays (order : List Word) (Tells : Telling) : List NModule → Lis
 abbrev pub AreOptimised : {order : List Word} {Tells : Telling} {before : List NModule} {ls : List Log} {ns ks : List NModule} → AreReplays order Tells before ls ns ks → Type 0
 AreOptimised no_replays = ⊤
 AreOptimised (one_replay {before = before} {l = l} {n = n} told is tells rest) = (IsWithinLimits n → Optimises (reached_by_imports n before) l.entries n is.left) × AreOptimised rest
+
+-- Each of the second modules has at most as many nodes as the first in its place, which are those of its definitions.
+abbrev pub NoneIsLarger : List NModule → List NModule → Type 0
+NoneIsLarger [] ks = ⊤
+NoneIsLarger (n ∷ ns) [] = ⊤
+NoneIsLarger (n ∷ ns) (k ∷ ks) = (module_nodes k ≤ module_nodes n) × NoneIsLarger ns ks

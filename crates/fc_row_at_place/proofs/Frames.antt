@@ -1,13 +1,7 @@
 -- Where a walk stands behind what it goes past, and what it is asked there.
-use Rattle.std.proofs.Common.{◌≡◌, ℕ, Option, Result, IfOk, sym, ap, ◌∙◌, subst}
-use Rattle.std.specs.Option.{option_map}
-use Rattle.std.proofs.lemmas.Result.{IfOk-weaker}
-use Rattle.fc_syntax.specs.declared.expr.Expr as RustExpr
-use Rattle.fc_syntax.specs.declared.ty.Ref.{Ref}
-use Rattle.fc_model.specs.Kinding.{Modules}
-use Rattle.fc_model.specs.Nameless.{NExpr}
-use Rattle.fc_model.specs.NamelessView.{nexpr_of}
+use Rattle.std.proofs.Common.{◌≡◌, ℕ, sym, ap, ◌∙◌, subst}
 use Rattle.fc_model.specs.Typing as words
+use Rattle.fc_outlines.specs.Headers.{SameHeaders}
 use Rattle.fc_type_table.specs.TypeTables.{Grows, nodes_of}
 use Rattle.fc_type_table.specs.declared.table.TypeTable.{TypeTable}
 use Rattle.fc_lint_context.specs.ContextViews.{IsContextAt, context_in}
@@ -25,17 +19,17 @@ use Rattle.fc_row_at_place.specs.declared.asked.Site.{Site}
 module _ (x y : Site) (asked : y.asked.now ≡ x.asked.now) (same : modules_at y ≡ modules_at x) (a : Around) (is : y.around.now ≡ a) where
   -- The context of types goes past the same: it is made of the one before, as that of the surroundings is.
   pub behind : (old new : TypeTable) → IsSite old x → Grows old new → (past : words.Context → words.Context) → IsContextAt (nodes_of new) y.context.now
-      → context_in new y.context.now ≡ past (context_in new x.context.now) → HasCounts a → (surroundings_of (modules_at x) a).context ≡ past (surroundings_at x).context → IsSite new y
+      → context_in new y.context.now ≡ past (context_in new x.context.now) → HasCounts a → (surroundings_of (decls_of x.asked.now) a).context ≡ past (surroundings_at x).context → IsSite new y
   behind old new at grows past valid view counts frame = record {
     over = record { valid = valid; modules = grows.modules ∙ at.over.modules ∙ sym same };
     counts = subst HasCounts (sym is) counts;
     scope =
-        ap (λ b. (surroundings_of (modules_at y) b).context) is
-        ∙ ap (λ ms. (surroundings_of ms a).context) same
+        ap (λ b. (surroundings_of (decls_of y.asked.now) b).context) is
+        ∙ ap (λ k. (surroundings_of (decls_of k) a).context) asked
         ∙ frame
         ∙ ap past (at.scope ∙ sym (still old new x.context.now grows at.over))
         ∙ sym view;
-    declared = ap decls_of asked ∙ at.declared ∙ sym same;
+    headers = subst (λ ms. SameHeaders ms (decls_of y.asked.now)) (sym same) (subst (λ k. SameHeaders (modules_at x) (decls_of k)) (sym asked) at.headers);
   }
 
 -- the same site over a table that grows
@@ -44,19 +38,12 @@ site_grows old new x grows at = record {
   over = stays old new x.context.now grows at.over;
   counts = at.counts;
   scope = at.scope ∙ sym (still old new x.context.now grows at.over);
-  declared = at.declared;
+  headers = at.headers;
 }
 
 -- its type variables
 pub site_scope : (old new : TypeTable) (x : Site) → Grows old new → IsSite old x → IsScope new x.context.now.scope
 site_scope old new x grows at = scope_grows (nodes_of old) (nodes_of new) x.context.now.scope.kinds.now grows.nodes at.over.valid.scope
-
--- WHAT IS ANSWERED
-
--- what is answered where these are declared is answered where those are that are the same
-pub answered_here : {A : Type 0} (r : Result (Option (RustExpr.Expr ℕ Ref)) A) (asked : Modules → Option NExpr) (there here : Modules) → there ≡ here → IfOk r (λ o. option_map nexpr_of o ≡ asked there)
-    → IfOk r (λ o. option_map nexpr_of o ≡ asked here)
-answered_here r asked there here same found = IfOk-weaker r (λ o. option_map nexpr_of o ≡ asked there) (λ o. option_map nexpr_of o ≡ asked here) (λ o h. h ∙ ap asked same) found
 
 -- WEIGHTS
 

@@ -1,5 +1,5 @@
 //! A row in the alternatives of a case.
-ghost use Rattle.std.specs.Prelude.{◌≡◌, IfOk, if◌then◌else◌, None, nat_lt, ◌-◌};
+ghost use Rattle.std.specs.Prelude.{◌≡◌, IfOk, if◌then◌else◌, None, nat_lt, ◌-◌, OnOk};
 ghost use Rattle.std.specs.Option.{option_map};
 ghost use Rattle.fc_model.specs.NamelessView.{nalt_of, nalts_of, nbinders_of, nexpr_of, nty_of};
 ghost use Rattle.fc_parts.specs.PartsAt.{at_place, at_place_of_alt, of_alt};
@@ -8,7 +8,7 @@ ghost use Rattle.fc_known.specs.Around.{behind_alternative};
 ghost use Rattle.fc_known.specs.Counts.{counts};
 ghost use Rattle.fc_type_scope.specs.Behind.{IsEntered};
 ghost use Rattle.fc_type_scope.specs.Scopes.{scope_in};
-ghost use Rattle.fc_type_table.specs.TypeTables.{IsType, nodes_of, shown};
+ghost use Rattle.fc_type_table.specs.TypeTables.{Grows, IsType, nodes_of, shown};
 ghost use Rattle.fc_row_at_place.specs.Sites.{IsSite, row_for, surroundings_at};
 
 use crate::asked::Site;
@@ -34,7 +34,8 @@ pub(crate) fn row_in_case<'x>(
     site: &Site<'x>,
 ) -> Result<Option<NExpr>, Memory>
     requires { IsSite types.old site.now }
-    ensures { IfOk result (λ o. option_map nexpr_of o ≡ (if nat_lt number 3 then None else of_alt (number - 3) (at_place_of_alt (row_for site.now) rest.now (nexpr_of scrutinee.now) (nty_of ty.now) (listed_heads (nalts_of alternatives.now)) (surroundings_at site.now)) (nalts_of alternatives.now))) }
+    ensures answer { IfOk result (λ o. option_map nexpr_of o ≡ (if nat_lt number 3 then None else of_alt (number - 3) (at_place_of_alt (row_for site.now) rest.now (nexpr_of scrutinee.now) (nty_of ty.now) (listed_heads (nalts_of alternatives.now)) (surroundings_at site.now)) (nalts_of alternatives.now))) }
+    ensures grows { OnOk result (Grows types.old types.new) }
 {
     if number < part::FIRST_ALTERNATIVE {
         return Ok(None);
@@ -67,7 +68,8 @@ fn row_in_branch<'x>(
 ) -> Result<Option<NExpr>, Memory>
     requires site { IsSite types.old site.now }
     requires own { branch.now.own ≡ counts (nbinders_of branch.now.alternative.now.binders) }
-    ensures { IfOk result (λ o. option_map nexpr_of o ≡ at_place_of_alt (row_for site.now) place.now (nexpr_of branch.now.scrutinee.now) (nty_of branch.now.ty.now) (listed_heads (nalts_of branch.now.alternatives.now)) (surroundings_at site.now) (nalt_of branch.now.alternative.now)) }
+    ensures answer { IfOk result (λ o. option_map nexpr_of o ≡ at_place_of_alt (row_for site.now) place.now (nexpr_of branch.now.scrutinee.now) (nty_of branch.now.ty.now) (listed_heads (nalts_of branch.now.alternatives.now)) (surroundings_at site.now) (nalt_of branch.now.alternative.now)) }
+    ensures grows { OnOk result (Grows types.old types.new) }
 {
     let alternative = branch.alternative;
     match place.split_first() {
@@ -93,7 +95,8 @@ fn row_behind_branch<'x>(
 ) -> Result<Option<NExpr>, Memory>
     requires site { IsSite types.old site.now }
     requires own { branch.now.own ≡ counts (nbinders_of branch.now.alternative.now.binders) }
-    ensures { IfOk result (λ o. option_map nexpr_of o ≡ at_place (row_for site.now) place.now (behind_alternative branch.now (surroundings_at site.now)) (nexpr_of branch.now.alternative.now.body)) }
+    ensures answer { IfOk result (λ o. option_map nexpr_of o ≡ at_place (row_for site.now) place.now (behind_alternative branch.now (surroundings_at site.now)) (nexpr_of branch.now.alternative.now.body)) }
+    ensures grows { OnOk result (Grows types.old types.new) }
 {
     let context = site.context;
     let alternative = branch.alternative;
@@ -120,7 +123,8 @@ fn row_past_branch<'x>(
     requires ty_in { IsType types.old (scope_in site.now.context.now.scope) ty }
     requires ty { shown types.old (scope_in site.now.context.now.scope) ty ≡ nty_of branch.now.ty.now }
     requires entered_in { IsEntered (nodes_of types.old) (scope_in site.now.context.now.scope) (nbinders_of branch.now.alternative.now.binders) entered.now }
-    ensures { IfOk result (λ o. option_map nexpr_of o ≡ at_place (row_for site.now) place.now (behind_alternative branch.now (surroundings_at site.now)) (nexpr_of branch.now.alternative.now.body)) }
+    ensures answer { IfOk result (λ o. option_map nexpr_of o ≡ at_place (row_for site.now) place.now (behind_alternative branch.now (surroundings_at site.now)) (nexpr_of branch.now.alternative.now.body)) }
+    ensures grows { OnOk result (Grows types.old types.new) }
 {
     let outer = (&*site.context).behind_value(ty);
     let kinds = (&*entered).kinds_behind(&*outer.scope.kinds);

@@ -1,12 +1,12 @@
 //! A row behind binders.
-ghost use Rattle.std.specs.Prelude.{◌≡◌, IfOk};
+ghost use Rattle.std.specs.Prelude.{◌≡◌, IfOk, OnOk};
 ghost use Rattle.std.specs.Option.{option_map};
 ghost use Rattle.fc_model.specs.NamelessView.{nbinder_of, nbinders_of, nexpr_of};
 ghost use Rattle.fc_parts.specs.PartsAt.{at_place};
 ghost use Rattle.fc_rows.specs.Surroundings.{apart, behind_binder, behind_binders};
 ghost use Rattle.fc_type_scope.specs.Behind.{IsEntered};
 ghost use Rattle.fc_type_scope.specs.Scopes.{scope_in};
-ghost use Rattle.fc_type_table.specs.TypeTables.{nodes_of};
+ghost use Rattle.fc_type_table.specs.TypeTables.{Grows, nodes_of};
 ghost use Rattle.fc_row_at_place.specs.Sites.{IsSite, row_for, surroundings_at};
 
 use crate::asked::Site;
@@ -31,7 +31,8 @@ fn row_past_binders<'x>(
 ) -> Result<Option<NExpr>, Memory>
     requires site { IsSite types.old site.now }
     requires entered_in { IsEntered (nodes_of types.old) (scope_in site.now.context.now.scope) (nbinders_of binders.now) entered.now }
-    ensures { IfOk result (λ o. option_map nexpr_of o ≡ at_place (row_for site.now) place.now (behind_binders (nbinders_of binders.now) (surroundings_at site.now)) (nexpr_of body.now)) }
+    ensures answer { IfOk result (λ o. option_map nexpr_of o ≡ at_place (row_for site.now) place.now (behind_binders (nbinders_of binders.now) (surroundings_at site.now)) (nexpr_of body.now)) }
+    ensures grows { OnOk result (Grows types.old types.new) }
 {
     let own = counted(binders)?;
     let outer = site.context;
@@ -57,7 +58,8 @@ pub(crate) fn row_behind_binders<'x>(
     site: &Site<'x>,
 ) -> Result<Option<NExpr>, Memory>
     requires { IsSite types.old site.now }
-    ensures { IfOk result (λ o. option_map nexpr_of o ≡ at_place (row_for site.now) place.now (behind_binders (nbinders_of binders.now) (surroundings_at site.now)) (nexpr_of body.now)) }
+    ensures answer { IfOk result (λ o. option_map nexpr_of o ≡ at_place (row_for site.now) place.now (behind_binders (nbinders_of binders.now) (surroundings_at site.now)) (nexpr_of body.now)) }
+    ensures grows { OnOk result (Grows types.old types.new) }
 {
     let context = site.context;
     let entered = context.scope.enter(alloc, binders, types)?;
@@ -75,7 +77,8 @@ pub(crate) fn row_in_lambda<'x>(
     site: &Site<'x>,
 ) -> Result<Option<NExpr>, Memory>
     requires { IsSite types.old site.now }
-    ensures { IfOk result (λ o. option_map nexpr_of o ≡ at_place (row_for site.now) place.now (behind_binder (nbinder_of binder.now) (apart (surroundings_at site.now))) (nexpr_of body.now)) }
+    ensures answer { IfOk result (λ o. option_map nexpr_of o ≡ at_place (row_for site.now) place.now (behind_binder (nbinder_of binder.now) (apart (surroundings_at site.now))) (nexpr_of body.now)) }
+    ensures grows { OnOk result (Grows types.old types.new) }
 {
     let context = (&*site.context).without_joins();
     let around = Around::Apart(&*site.around);

@@ -1,11 +1,12 @@
 //! A row below a let and below join points.
-ghost use Rattle.std.specs.Prelude.{◌≡◌, ◌∷◌, IfOk, true};
+ghost use Rattle.std.specs.Prelude.{◌≡◌, ◌∷◌, IfOk, true, OnOk};
 ghost use Rattle.std.specs.Option.{option_map};
 ghost use Rattle.fc_model.specs.Nameless.{NJoin, NLet};
 ghost use Rattle.fc_model.specs.NamelessView.{nbind_of, nbinds_of, nexpr_of, njoin_of, njoins_of, nty_of};
 ghost use Rattle.fc_parts.specs.PartsAt.{at_place, at_place_of_bind, at_place_of_join};
 ghost use Rattle.fc_rows.specs.Surroundings.{apart, at_join_sides, at_right_sides, behind_binds, behind_joins};
 ghost use Rattle.fc_known.specs.Around.{unapplied};
+ghost use Rattle.fc_type_table.specs.TypeTables.{Grows};
 ghost use Rattle.fc_row_at_place.specs.Sites.{IsSite, row_for, surroundings_at};
 
 use crate::asked::Site;
@@ -30,7 +31,8 @@ pub(crate) fn row_in_let<'x>(
     site: &Site<'x>,
 ) -> Result<Option<NExpr>, Memory>
     requires { IsSite types.old site.now }
-    ensures { IfOk result (λ o. option_map nexpr_of o ≡ at_place (row_for site.now) (number ∷ rest.now) (surroundings_at site.now) (NLet recursive (nbinds_of bindings.now) (nexpr_of body.now))) }
+    ensures answer { IfOk result (λ o. option_map nexpr_of o ≡ at_place (row_for site.now) (number ∷ rest.now) (surroundings_at site.now) (NLet recursive (nbinds_of bindings.now) (nexpr_of body.now))) }
+    ensures grows { OnOk result (Grows types.old types.new) }
 {
     if number as usize == bindings.len() {
         return row_behind_bindings(alloc, recursive, bindings, body, rest, types, site);
@@ -53,7 +55,8 @@ fn row_behind_bindings<'x>(
     site: &Site<'x>,
 ) -> Result<Option<NExpr>, Memory>
     requires { IsSite types.old site.now }
-    ensures { IfOk result (λ o. option_map nexpr_of o ≡ at_place (row_for site.now) place.now (behind_binds recursive (nbinds_of bindings.now) (surroundings_at site.now)) (nexpr_of body.now)) }
+    ensures answer { IfOk result (λ o. option_map nexpr_of o ≡ at_place (row_for site.now) place.now (behind_binds recursive (nbinds_of bindings.now) (surroundings_at site.now)) (nexpr_of body.now)) }
+    ensures grows { OnOk result (Grows types.old types.new) }
 {
     let outer = site.context;
     let ids = outer.types_of_binds(alloc, bindings, types)?;
@@ -79,7 +82,8 @@ fn row_at_right_side<'x>(
     site: &Site<'x>,
 ) -> Result<Option<NExpr>, Memory>
     requires { IsSite types.old site.now }
-    ensures { IfOk result (λ o. option_map nexpr_of o ≡ at_place_of_bind (row_for site.now) place.now (at_right_sides recursive (nbinds_of bindings.now) (surroundings_at site.now)) (nbind_of binding.now)) }
+    ensures answer { IfOk result (λ o. option_map nexpr_of o ≡ at_place_of_bind (row_for site.now) place.now (at_right_sides recursive (nbinds_of bindings.now) (surroundings_at site.now)) (nbind_of binding.now)) }
+    ensures grows { OnOk result (Grows types.old types.new) }
 {
     if recursive {
         row_of_member(alloc, bindings, binding, place, types, site)
@@ -99,7 +103,8 @@ fn row_of_member<'x>(
     site: &Site<'x>,
 ) -> Result<Option<NExpr>, Memory>
     requires { IsSite types.old site.now }
-    ensures { IfOk result (λ o. option_map nexpr_of o ≡ at_place_of_bind (row_for site.now) place.now (at_right_sides true (nbinds_of bindings.now) (surroundings_at site.now)) (nbind_of binding.now)) }
+    ensures answer { IfOk result (λ o. option_map nexpr_of o ≡ at_place_of_bind (row_for site.now) place.now (at_right_sides true (nbinds_of bindings.now) (surroundings_at site.now)) (nbind_of binding.now)) }
+    ensures grows { OnOk result (Grows types.old types.new) }
 {
     let outer = site.context;
     let ids = outer.types_of_binds(alloc, bindings, types)?;
@@ -124,7 +129,8 @@ fn row_of_binding<'x>(
     site: &Site<'x>,
 ) -> Result<Option<NExpr>, Memory>
     requires { IsSite types.old site.now }
-    ensures { IfOk result (λ o. option_map nexpr_of o ≡ at_place_of_bind (row_for site.now) place.now (apart (surroundings_at site.now)) (nbind_of binding.now)) }
+    ensures answer { IfOk result (λ o. option_map nexpr_of o ≡ at_place_of_bind (row_for site.now) place.now (apart (surroundings_at site.now)) (nbind_of binding.now)) }
+    ensures grows { OnOk result (Grows types.old types.new) }
 {
     match place.split_first() {
         None => Ok(None),
@@ -153,7 +159,8 @@ pub(crate) fn row_in_join<'x>(
     site: &Site<'x>,
 ) -> Result<Option<NExpr>, Memory>
     requires { IsSite types.old site.now }
-    ensures { IfOk result (λ o. option_map nexpr_of o ≡ at_place (row_for site.now) (number ∷ rest.now) (surroundings_at site.now) (NJoin recursive (nty_of ty.now) (njoins_of points.now) (nexpr_of body.now))) }
+    ensures answer { IfOk result (λ o. option_map nexpr_of o ≡ at_place (row_for site.now) (number ∷ rest.now) (surroundings_at site.now) (NJoin recursive (nty_of ty.now) (njoins_of points.now) (nexpr_of body.now))) }
+    ensures grows { OnOk result (Grows types.old types.new) }
 {
     if number < part::FIRST_JOIN {
         return Ok(None);
@@ -181,7 +188,8 @@ pub(crate) fn row_behind_points<'x>(
     site: &Site<'x>,
 ) -> Result<Option<NExpr>, Memory>
     requires { IsSite types.old site.now }
-    ensures { IfOk result (λ o. option_map nexpr_of o ≡ at_place (row_for site.now) place.now (behind_joins recursive (nty_of ty.now) (njoins_of points.now) (surroundings_at site.now)) (nexpr_of body.now)) }
+    ensures answer { IfOk result (λ o. option_map nexpr_of o ≡ at_place (row_for site.now) place.now (behind_joins recursive (nty_of ty.now) (njoins_of points.now) (surroundings_at site.now)) (nexpr_of body.now)) }
+    ensures grows { OnOk result (Grows types.old types.new) }
 {
     let outer = site.context;
     let answer = outer.scope.read(ty, types)?;
@@ -209,7 +217,8 @@ fn row_at_join_side<'x>(
     site: &Site<'x>,
 ) -> Result<Option<NExpr>, Memory>
     requires { IsSite types.old site.now }
-    ensures { IfOk result (λ o. option_map nexpr_of o ≡ at_place_of_join (row_for site.now) place.now (at_join_sides recursive (nty_of ty.now) (njoins_of points.now) (surroundings_at site.now)) (njoin_of point.now)) }
+    ensures answer { IfOk result (λ o. option_map nexpr_of o ≡ at_place_of_join (row_for site.now) place.now (at_join_sides recursive (nty_of ty.now) (njoins_of points.now) (surroundings_at site.now)) (njoin_of point.now)) }
+    ensures grows { OnOk result (Grows types.old types.new) }
 {
     if recursive {
         row_of_recursive_point(alloc, ty, points, point, place, types, site)
@@ -230,7 +239,8 @@ fn row_of_recursive_point<'x>(
     site: &Site<'x>,
 ) -> Result<Option<NExpr>, Memory>
     requires { IsSite types.old site.now }
-    ensures { IfOk result (λ o. option_map nexpr_of o ≡ at_place_of_join (row_for site.now) place.now (behind_joins true (nty_of ty.now) (njoins_of points.now) (surroundings_at site.now)) (njoin_of point.now)) }
+    ensures answer { IfOk result (λ o. option_map nexpr_of o ≡ at_place_of_join (row_for site.now) place.now (behind_joins true (nty_of ty.now) (njoins_of points.now) (surroundings_at site.now)) (njoin_of point.now)) }
+    ensures grows { OnOk result (Grows types.old types.new) }
 {
     let outer = site.context;
     let answer = outer.scope.read(ty, types)?;
@@ -255,7 +265,8 @@ fn row_of_point_alone<'x>(
     site: &Site<'x>,
 ) -> Result<Option<NExpr>, Memory>
     requires { IsSite types.old site.now }
-    ensures { IfOk result (λ o. option_map nexpr_of o ≡ at_place_of_join (row_for site.now) place.now (unapplied (surroundings_at site.now)) (njoin_of point.now)) }
+    ensures answer { IfOk result (λ o. option_map nexpr_of o ≡ at_place_of_join (row_for site.now) place.now (unapplied (surroundings_at site.now)) (njoin_of point.now)) }
+    ensures grows { OnOk result (Grows types.old types.new) }
 {
     let around = Around::Unapplied(&*site.around);
     let inner = Site {
@@ -277,7 +288,8 @@ fn row_of_point<'x>(
     site: &Site<'x>,
 ) -> Result<Option<NExpr>, Memory>
     requires { IsSite types.old site.now }
-    ensures { IfOk result (λ o. option_map nexpr_of o ≡ at_place_of_join (row_for site.now) place.now (surroundings_at site.now) (njoin_of point.now)) }
+    ensures answer { IfOk result (λ o. option_map nexpr_of o ≡ at_place_of_join (row_for site.now) place.now (surroundings_at site.now) (njoin_of point.now)) }
+    ensures grows { OnOk result (Grows types.old types.new) }
 {
     match place.split_first() {
         None => Ok(None),

@@ -1,5 +1,5 @@
 //! What is asked where a walk stands, and join points with one jump.
-ghost use Rattle.std.specs.Prelude.{◌≡◌, IfOk, Option, Some};
+ghost use Rattle.std.specs.Prelude.{◌≡◌, IfOk, Option, Some, OnOk};
 ghost use Rattle.std.specs.Option.{option_map};
 ghost use Rattle.fc_model.specs.Calling.{from_some};
 ghost use Rattle.fc_model.specs.Nameless as pure;
@@ -11,6 +11,7 @@ ghost use Rattle.fc_rows.specs.Shrinking.{occurs_once as spec_occurs_once};
 ghost use Rattle.fc_rows.specs.Occurrences.{innermost_joins, occurrences};
 ghost use Rattle.fc_rows.specs.Surroundings.{Surroundings, behind_joins};
 ghost use Rattle.fc_jump_once.specs.Within.{jump_once_within};
+ghost use Rattle.fc_type_table.specs.TypeTables.{Grows};
 ghost use Rattle.fc_row_at_place.specs.Joins.{with_one_jump, without_dead_join as spec_without_dead_join};
 ghost use Rattle.fc_row_at_place.specs.Rows.{join_once_within};
 ghost use Rattle.fc_row_at_place.specs.Sites.{IsSite, row_for, surroundings_at};
@@ -41,7 +42,8 @@ fn jump_taken(
     site: &Site,
 ) -> Result<Option<NExpr>, Memory>
     requires { IsSite types.old site.now }
-    ensures { IfOk result (λ o. option_map nexpr_of o ≡ jump_once_within (surroundings_at site.now) (nexpr_of e.now)) }
+    ensures answer { IfOk result (λ o. option_map nexpr_of o ≡ jump_once_within (surroundings_at site.now) (nexpr_of e.now)) }
+    ensures grows { OnOk result (Grows types.old types.new) }
 {
     match e {
         NExpr::Jump(distance, _) => {
@@ -97,7 +99,8 @@ fn joined_once<'x>(
     site: &Site<'x>,
 ) -> Result<Option<NExpr>, Memory>
     requires { IsSite types.old site.now }
-    ensures { IfOk result (λ o. option_map nexpr_of o ≡ with_one_jump (nty_of joining.now.answer.now) (njoins_of joining.now.points.now) (nexpr_of joining.now.body.now) (surroundings_at site.now)) }
+    ensures answer { IfOk result (λ o. option_map nexpr_of o ≡ with_one_jump (nty_of joining.now.answer.now) (njoins_of joining.now.points.now) (nexpr_of joining.now.body.now) (surroundings_at site.now)) }
+    ensures grows { OnOk result (Grows types.old types.new) }
 {
     let Some(place) = jump_place(alloc, 0, joining.body)? else {
         return Ok(None);
@@ -136,7 +139,8 @@ fn join_once<'x>(
     site: &Site<'x>,
 ) -> Result<Option<NExpr>, Memory>
     requires { IsSite types.old site.now }
-    ensures { IfOk result (λ o. option_map nexpr_of o ≡ join_once_within (surroundings_at site.now) (nexpr_of e.now)) }
+    ensures answer { IfOk result (λ o. option_map nexpr_of o ≡ join_once_within (surroundings_at site.now) (nexpr_of e.now)) }
+    ensures grows { OnOk result (Grows types.old types.new) }
 {
     let Some(joining) = as_joining(e) else {
         return Ok(None);
@@ -163,7 +167,8 @@ pub(crate) fn answer_here<'x>(
     site: &Site<'x>,
 ) -> Result<Option<NExpr>, Memory>
     requires { IsSite types.old site.now }
-    ensures { IfOk result (λ o. option_map nexpr_of o ≡ row_for site.now (surroundings_at site.now) (nexpr_of e.now)) }
+    ensures answer { IfOk result (λ o. option_map nexpr_of o ≡ row_for site.now (surroundings_at site.now) (nexpr_of e.now)) }
+    ensures grows { OnOk result (Grows types.old types.new) }
 {
     let asked = site.asked;
     match asked.question {

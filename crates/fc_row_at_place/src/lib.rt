@@ -12,5 +12,5 @@ mod right_sides;
 mod rows;
 
 pub use asked::{Asked, Question};
-pub use right_sides::row_of_right_side;
+pub use right_sides::{row_by_headers, row_of_right_side};
 pub use rows::{fact_at, is_built, term_row};

@@ -1,9 +1,10 @@
 //! The walk down to a place.
-ghost use Rattle.std.specs.Prelude.{◌≡◌, ◌∷◌, IfOk};
+ghost use Rattle.std.specs.Prelude.{◌≡◌, ◌∷◌, IfOk, OnOk};
 ghost use Rattle.std.specs.Option.{option_map};
 ghost use Rattle.fc_model.specs.NamelessView.{narg_of, nargs_of, nexpr_of, nexprs_of};
 ghost use Rattle.fc_parts.specs.PartsAt.{at_place, of_arg, of_expr, of_term};
 ghost use Rattle.fc_rows.specs.Surroundings.{apart, at_head};
+ghost use Rattle.fc_type_table.specs.TypeTables.{Grows};
 ghost use Rattle.fc_row_at_place.specs.Sites.{IsSite, row_for, surroundings_at};
 
 use crate::alternatives::row_in_case;
@@ -18,8 +19,8 @@ use std::alloc::Global;
 
 /// What the row that is asked for makes of the part of an expression at a place, where a row may look. A place is a list of part numbers, from the outermost part inwards; the
 /// place without numbers is that of the whole. Answers none where no expression stands there, where the row does not apply to it, and where it is none of those that are built
-/// here. Fails only where memory runs out, a type names a variable out of scope, a distance or a number of parts has no 32 bits, or calls would go 2^32 deep. What the table of
-/// types then has is left open.
+/// here. Fails only where memory runs out, a type names a variable out of scope, a distance or a number of parts has no 32 bits, or calls would go 2^32 deep. Where it
+/// does not fail, the table of types has only grown.
 #[cycle(places)]
 #[tactic(auto, using(fc_parts::proofs::PartRules::part_rules))]
 pub(crate) fn row_at<'x>(
@@ -30,7 +31,8 @@ pub(crate) fn row_at<'x>(
     site: &Site<'x>,
 ) -> Result<Option<NExpr>, Memory>
     requires { IsSite types.old site.now }
-    ensures { IfOk result (λ o. option_map nexpr_of o ≡ at_place (row_for site.now) place.now (surroundings_at site.now) (nexpr_of e.now)) }
+    ensures answer { IfOk result (λ o. option_map nexpr_of o ≡ at_place (row_for site.now) place.now (surroundings_at site.now) (nexpr_of e.now)) }
+    ensures grows { OnOk result (Grows types.old types.new) }
 {
     match place.split_first() {
         None => answer_here(alloc, e, types, site),
@@ -49,7 +51,8 @@ fn row_within<'x>(
     site: &Site<'x>,
 ) -> Result<Option<NExpr>, Memory>
     requires { IsSite types.old site.now }
-    ensures { IfOk result (λ o. option_map nexpr_of o ≡ at_place (row_for site.now) (number ∷ rest.now) (surroundings_at site.now) (nexpr_of e.now)) }
+    ensures answer { IfOk result (λ o. option_map nexpr_of o ≡ at_place (row_for site.now) (number ∷ rest.now) (surroundings_at site.now) (nexpr_of e.now)) }
+    ensures grows { OnOk result (Grows types.old types.new) }
 {
     match e {
         NExpr::Var(_) | NExpr::Lit(_) | NExpr::Fail(_) => Ok(None),
@@ -135,7 +138,8 @@ pub(crate) fn row_apart<'x>(
     site: &Site<'x>,
 ) -> Result<Option<NExpr>, Memory>
     requires { IsSite types.old site.now }
-    ensures { IfOk result (λ o. option_map nexpr_of o ≡ at_place (row_for site.now) place.now (apart (surroundings_at site.now)) (nexpr_of e.now)) }
+    ensures answer { IfOk result (λ o. option_map nexpr_of o ≡ at_place (row_for site.now) place.now (apart (surroundings_at site.now)) (nexpr_of e.now)) }
+    ensures grows { OnOk result (Grows types.old types.new) }
 {
     let context = (&*site.context).without_joins();
     let around = Around::Apart(&*site.around);
@@ -158,7 +162,8 @@ fn row_at_head<'x>(
     site: &Site<'x>,
 ) -> Result<Option<NExpr>, Memory>
     requires { IsSite types.old site.now }
-    ensures { IfOk result (λ o. option_map nexpr_of o ≡ at_place (row_for site.now) place.now (at_head (narg_of argument.now) (surroundings_at site.now)) (nexpr_of head.now)) }
+    ensures answer { IfOk result (λ o. option_map nexpr_of o ≡ at_place (row_for site.now) place.now (at_head (narg_of argument.now) (surroundings_at site.now)) (nexpr_of head.now)) }
+    ensures grows { OnOk result (Grows types.old types.new) }
 {
     let context = (&*site.context).without_joins();
     let around = Around::Head(&*argument, &*site.around);
@@ -181,7 +186,8 @@ fn row_in_argument<'x>(
     site: &Site<'x>,
 ) -> Result<Option<NExpr>, Memory>
     requires { IsSite types.old site.now }
-    ensures { IfOk result (λ o. option_map nexpr_of o ≡ of_term (at_place (row_for site.now) place.now (apart (surroundings_at site.now))) (narg_of argument.now)) }
+    ensures answer { IfOk result (λ o. option_map nexpr_of o ≡ of_term (at_place (row_for site.now) place.now (apart (surroundings_at site.now))) (narg_of argument.now)) }
+    ensures grows { OnOk result (Grows types.old types.new) }
 {
     match argument {
         NArg::Term(e) => row_apart(alloc, e, place, types, site),
@@ -202,7 +208,8 @@ fn row_among_arguments<'x>(
     site: &Site<'x>,
 ) -> Result<Option<NExpr>, Memory>
     requires { IsSite types.old site.now }
-    ensures { IfOk result (λ o. option_map nexpr_of o ≡ of_arg number (of_term (at_place (row_for site.now) rest.now (apart (surroundings_at site.now)))) (nargs_of arguments.now)) }
+    ensures answer { IfOk result (λ o. option_map nexpr_of o ≡ of_arg number (of_term (at_place (row_for site.now) rest.now (apart (surroundings_at site.now)))) (nargs_of arguments.now)) }
+    ensures grows { OnOk result (Grows types.old types.new) }
 {
     match arguments.get(number as usize) {
         Some(argument) => row_in_argument(alloc, argument, rest, types, site),
@@ -222,7 +229,8 @@ fn row_among_operands<'x>(
     site: &Site<'x>,
 ) -> Result<Option<NExpr>, Memory>
     requires { IsSite types.old site.now }
-    ensures { IfOk result (λ o. option_map nexpr_of o ≡ of_expr number (at_place (row_for site.now) rest.now (apart (surroundings_at site.now))) (nexprs_of operands.now)) }
+    ensures answer { IfOk result (λ o. option_map nexpr_of o ≡ of_expr number (at_place (row_for site.now) rest.now (apart (surroundings_at site.now))) (nexprs_of operands.now)) }
+    ensures grows { OnOk result (Grows types.old types.new) }
 {
     match operands.get(number as usize) {
         Some(operand) => row_apart(alloc, operand, rest, types, site),

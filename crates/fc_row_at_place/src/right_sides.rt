@@ -1,13 +1,12 @@
 //! A row at a place of a right side.
-ghost use Rattle.std.specs.Prelude.{◌≡◌, IfOk};
+ghost use Rattle.std.specs.Prelude.{◌≡◌, IfOk, OnOk};
 ghost use Rattle.std.specs.Option.{option_map};
 ghost use Rattle.fc_model.specs.NamelessView.{nexpr_of};
 ghost use Rattle.fc_parts.specs.PartsAt.{at_place};
 ghost use Rattle.fc_rows.specs.Surroundings.{outside};
 ghost use Rattle.fc_types.specs.ModuleViews.{modules_of};
-ghost use Rattle.fc_type_table.specs.TypeTables.{modules_in, nodes_of};
-ghost use Rattle.fc_lint_context.specs.DeclaredViews.{AreRead, modules_read};
-ghost use Rattle.fc_row_at_place.specs.Sites.{decls_of, row_of};
+ghost use Rattle.fc_type_table.specs.TypeTables.{Grows};
+ghost use Rattle.fc_row_at_place.specs.Sites.{AreHeaders, decls_of, row_of};
 
 use crate::asked::{Asked, Site};
 use crate::places::row_at;
@@ -18,8 +17,10 @@ use fc_type_table::{NumberedKinds, TypeTable};
 use fc_types::Declarations;
 use std::alloc::Global;
 
-/// The same where the types of what is declared are in a table.
-fn row_among_types<'x>(
+/// What the row that is asked for makes of the part of a right side at a place, as `row_of_right_side`, where the types of what is declared are in a table already. They may have been
+/// read of other modules with the same headers, as outlines, so that one table serves while right sides change. Fails as `row_of_right_side` does; where it does not, the table has only
+/// grown.
+pub fn row_by_headers<'x>(
     alloc: Global,
     right: &'x NExpr,
     place: &[u32],
@@ -27,10 +28,9 @@ fn row_among_types<'x>(
     declared: &DeclaredTypes<'x>,
     asked: &'x Asked<'x>,
 ) -> Result<Option<NExpr>, Memory>
-    requires read { AreRead (nodes_of types.old) declared.now }
-    requires modules { modules_in types.old ≡ modules_read declared.now }
-    requires same { modules_read declared.now ≡ decls_of asked.now }
-    ensures { IfOk result (λ o. option_map nexpr_of o ≡ at_place (row_of asked.now) place.now (outside (decls_of asked.now)) (nexpr_of right.now)) }
+    requires { AreHeaders types.old declared.now (decls_of asked.now) }
+    ensures answer { IfOk result (λ o. option_map nexpr_of o ≡ at_place (row_of asked.now) place.now (outside (decls_of asked.now)) (nexpr_of right.now)) }
+    ensures grows { OnOk result (Grows types.old types.new) }
 {
     let kinds = NumberedKinds::End;
     let context = Context::closed(&*declared, &kinds);
@@ -56,7 +56,7 @@ fn row_among<'x>(
 {
     let mut types = TypeTable::new(alloc, &*declared);
     let read = DeclaredTypes::new(alloc, &*declared, &mut types)?;
-    row_among_types(alloc, &*right, place, &mut types, &read, &*asked)
+    row_by_headers(alloc, &*right, place, &mut types, &read, &*asked)
 }
 
 /// What the row that is asked for makes of the part of a right side at a place, where a row may look. A place is a list of part numbers, from the outermost part inwards; the place

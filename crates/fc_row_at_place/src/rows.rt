@@ -1,5 +1,5 @@
 //! What rows make of an expression where a walk stands.
-ghost use Rattle.std.specs.Prelude.{◌≡◌, IfOk};
+ghost use Rattle.std.specs.Prelude.{◌≡◌, IfOk, OnOk};
 ghost use Rattle.std.specs.Option.{option_map};
 ghost use Rattle.fc_model.specs.Kinding.{decls_at};
 ghost use Rattle.fc_model.specs.NamelessView.{nexpr_of, nmodules_of};
@@ -11,8 +11,9 @@ ghost use Rattle.fc_rows.specs.Surroundings.{Surroundings};
 ghost use Rattle.fc_known.specs.Around.{HasCounts, surroundings_of};
 ghost use Rattle.fc_known.specs.Told.{told};
 ghost use Rattle.fc_shrink_cases.specs.Cases.{is_unlifted_local, scrutinee_of};
+ghost use Rattle.fc_type_table.specs.TypeTables.{Grows};
 ghost use Rattle.fc_row_at_place.specs.Rows.{built_row, is_built as spec_is_built, term_row as spec_term_row};
-ghost use Rattle.fc_row_at_place.specs.Sites.{IsSite, decls_of, modules_at, surroundings_at};
+ghost use Rattle.fc_row_at_place.specs.Sites.{IsSite, modules_at, surroundings_at};
 
 use crate::asked::Site;
 use crate::definitions::right_side_of;
@@ -85,8 +86,7 @@ pub fn fact_at<'x>(
 
 /// The same where a walk stands.
 fn fact_of<'x>(e: &NExpr, site: &Site<'x>) -> Result<Fact<'x>, Memory>
-    requires counts { HasCounts site.now.around.now }
-    requires declared { decls_of site.now.asked.now ≡ modules_at site.now }
+    requires { HasCounts site.now.around.now }
     ensures { IfOk result (λ f. told f ≡ spec_known (surroundings_at site.now) (nexpr_of e.now)) }
 {
     let asked = site.asked;
@@ -121,8 +121,7 @@ fn without_dead(
     alternative: usize,
     site: &Site,
 ) -> Result<Option<NExpr>, Memory>
-    requires counts { HasCounts site.now.around.now }
-    requires declared { decls_of site.now.asked.now ≡ modules_at site.now }
+    requires { HasCounts site.now.around.now }
     ensures { IfOk result (λ o. option_map nexpr_of o ≡ spec_alt_dead alternative (surroundings_at site.now) (nexpr_of e.now)) }
 {
     let Some(case) = as_case(e) else {
@@ -158,7 +157,8 @@ fn at_alternative(
     site: &Site,
 ) -> Result<Option<NExpr>, Memory>
     requires { IsSite types.old site.now }
-    ensures { IfOk result (λ o. option_map nexpr_of o ≡ case_known_within (modules_at site.now) (surroundings_at site.now) (nexpr_of e.now)) }
+    ensures answer { IfOk result (λ o. option_map nexpr_of o ≡ case_known_within (modules_at site.now) (surroundings_at site.now) (nexpr_of e.now)) }
+    ensures grows { OnOk result (Grows types.old types.new) }
 {
     let Some(case) = as_case(e) else {
         return Ok(None);
@@ -179,7 +179,8 @@ pub(crate) fn row_alone(
 ) -> Result<Option<NExpr>, Memory>
     requires site { IsSite types.old site.now }
     requires other { row ≡ JoinOnce → ⊥ }
-    ensures { IfOk result (λ o. option_map nexpr_of o ≡ built_row (modules_at site.now) row alternative (surroundings_at site.now) (nexpr_of e.now)) }
+    ensures answer { IfOk result (λ o. option_map nexpr_of o ≡ built_row (modules_at site.now) row alternative (surroundings_at site.now) (nexpr_of e.now)) }
+    ensures grows { OnOk result (Grows types.old types.new) }
 {
     match row {
         Row::Beta => beta(alloc, e, types, site.context),

@@ -5,7 +5,7 @@ mod Descents
 mod Drops
 mod Gains
 mod LetRows
-mod Modules
+pub mod Modules
 pub mod Numbers
 mod Put
 mod PutIn

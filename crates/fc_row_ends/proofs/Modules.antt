@@ -8,17 +8,16 @@ use Rattle.fc_log.specs.declared.log.Step.{Step}
 use Rattle.fc_model.specs.Kinding.{Modules, decls_at}
 use Rattle.fc_model.specs.Nameless.{NDecl, NData, NNew, NFamily, NAxiom, NDef, NWrap, NExpr, NModule, NModuleOf}
 use Rattle.fc_model.proofs.CallsKept.{from_some_inv}
-use Rattle.fc_model.proofs.Sameness.{false_true}
 use Rattle.fc_reaching.specs.Reaching.{decls_in, defined_words}
 use Rattle.fc_rows.specs.ChangingCoercions.{as_they_are}
 use Rattle.fc_rows.specs.Dropping.{with_needed}
-use Rattle.fc_rows.specs.NormalForms.{is_shrinking_or_commuting}
-use Rattle.fc_rows.specs.Replaying.{Rewrites, at_a_place, of_the_module}
+use Rattle.fc_row_nodes.specs.Nodes.{module_nodes}
+use Rattle.fc_rows.specs.Replaying.{Rewrites, at_a_place, of_the_module, at_end, past_mark, past_step}
 use Rattle.fc_rows.specs.Rewriting.{changed_decls, changed_module, changed_right, looked_at, row_result, without_definitions}
 use Rattle.fc_rows.specs.Surroundings.{Surroundings, outside}
 use Rattle.fc_row_nodes.proofs.Made.{either_way, made_inv, none_some}
 use Rattle.fc_row_ends.specs.Ending.{NoEndlessSteps}
-use Rattle.fc_row_ends.specs.Growth.{RowsRaiseNoNodes}
+use Rattle.fc_row_ends.specs.Growth.{ReplaysRaiseNoNodes, RowsRaiseNoNodes}
 use Rattle.fc_row_ends.proofs.AtPlaces.{Lifts, change_lifts, lifts_on}
 use Rattle.fc_row_ends.proofs.CaseRows.{case_evaluated_falls, case_known_falls}
 use Rattle.fc_row_ends.proofs.Counted.{module_counted}
@@ -30,41 +29,42 @@ use Rattle.fc_row_ends.proofs.SimpleRows.{RowFalls, alt_dead_falls, beta_falls, 
 
 -- ROWS
 
-row_falls : (ms : Modules) (r : Row) (i : ℕ) → is_shrinking_or_commuting r ≡ true → RowFalls (row_result ms r i)
-row_falls ms row.Beta i shrinks = beta_falls ms
-row_falls ms row.LetDead i shrinks = let_dead_falls
-row_falls ms row.LetAtom i shrinks = let_atom_falls
-row_falls ms row.LetOnce i shrinks = let_once_falls
-row_falls ms row.CaseKnown i shrinks = case_known_falls ms
-row_falls ms row.CaseEvaluated i shrinks = case_evaluated_falls ms
-row_falls ms row.CaseMerge i shrinks = case_merge_falls
-row_falls ms row.AltDead i shrinks = alt_dead_falls i
-row_falls ms row.FailAbsorb i shrinks = fail_absorb_falls ms
-row_falls ms row.CastRefl i shrinks = cast_refl_falls ms
-row_falls ms row.CastCast i shrinks = cast_cast_falls
-row_falls ms row.PushArgument i shrinks = nothing_falls
-row_falls ms row.PushType i shrinks = nothing_falls
-row_falls ms row.PushConstructor i shrinks = nothing_falls
-row_falls ms row.CoercionShorter i shrinks = nothing_falls
-row_falls ms row.Fold i shrinks = nothing_falls
-row_falls ms row.JoinDead i shrinks = join_dead_falls
-row_falls ms row.JoinOnce i shrinks = join_once_falls
-row_falls ms row.DefDead i shrinks = nothing_falls
-row_falls ms row.AppOfLet i shrinks = app_of_let_falls
-row_falls ms row.CaseOfLet i shrinks = case_of_let_falls
-row_falls ms row.LetOfLet i shrinks = let_of_let_falls
-row_falls ms row.CastOfLet i shrinks = cast_of_let_falls
-row_falls ms row.NameField i shrinks = name_field_falls ms
-row_falls ms row.Unfold i shrinks = false_true shrinks
-row_falls ms row.AppOfCase i shrinks = false_true shrinks
-row_falls ms row.CaseOfCase i shrinks = false_true shrinks
-row_falls ms row.AltJoin i shrinks = false_true shrinks
-row_falls ms row.Contify i shrinks = false_true shrinks
-row_falls ms row.Split i shrinks = false_true shrinks
-row_falls ms row.Special i shrinks = false_true shrinks
-row_falls ms row.FloatOut i shrinks = false_true shrinks
-row_falls ms row.FloatIn i shrinks = false_true shrinks
-row_falls ms row.StrictLet i shrinks = false_true shrinks
+-- of a row that is not defined yet there is no step
+row_falls : (ms : Modules) (r : Row) (i : ℕ) → RowFalls (row_result ms r i)
+row_falls ms row.Beta i = beta_falls ms
+row_falls ms row.LetDead i = let_dead_falls
+row_falls ms row.LetAtom i = let_atom_falls
+row_falls ms row.LetOnce i = let_once_falls
+row_falls ms row.CaseKnown i = case_known_falls ms
+row_falls ms row.CaseEvaluated i = case_evaluated_falls ms
+row_falls ms row.CaseMerge i = case_merge_falls
+row_falls ms row.AltDead i = alt_dead_falls i
+row_falls ms row.FailAbsorb i = fail_absorb_falls ms
+row_falls ms row.CastRefl i = cast_refl_falls ms
+row_falls ms row.CastCast i = cast_cast_falls
+row_falls ms row.PushArgument i = nothing_falls
+row_falls ms row.PushType i = nothing_falls
+row_falls ms row.PushConstructor i = nothing_falls
+row_falls ms row.CoercionShorter i = nothing_falls
+row_falls ms row.Fold i = nothing_falls
+row_falls ms row.JoinDead i = join_dead_falls
+row_falls ms row.JoinOnce i = join_once_falls
+row_falls ms row.DefDead i = nothing_falls
+row_falls ms row.AppOfLet i = app_of_let_falls
+row_falls ms row.CaseOfLet i = case_of_let_falls
+row_falls ms row.LetOfLet i = let_of_let_falls
+row_falls ms row.CastOfLet i = cast_of_let_falls
+row_falls ms row.NameField i = name_field_falls ms
+row_falls ms row.Unfold i = nothing_falls
+row_falls ms row.AppOfCase i = nothing_falls
+row_falls ms row.CaseOfCase i = nothing_falls
+row_falls ms row.AltJoin i = nothing_falls
+row_falls ms row.Contify i = nothing_falls
+row_falls ms row.Split i = nothing_falls
+row_falls ms row.Special i = nothing_falls
+row_falls ms row.FloatOut i = nothing_falls
+row_falls ms row.FloatIn i = nothing_falls
+row_falls ms row.StrictLet i = nothing_falls
 
 -- A CHANGE OF A DEFINITION
 
@@ -145,11 +145,11 @@ needed_falls keep (NModuleOf x imports exports hidden ds) some = omega (arith, d
 
 -- STEPS
 
-step_falls : (xs : List NModule) (s : Step) (m k : NModule) → is_shrinking_or_commuting s.row ≡ true → Rewrites xs s m k → Falls (ModuleDrops m k)
-step_falls xs s m k shrinks (at_a_place r w p h limits) =
+step_falls : (xs : List NModule) (s : Step) (m k : NModule) → Rewrites xs s m k → Falls (ModuleDrops m k)
+step_falls xs s m k (at_a_place r w p h limits) =
     let q = from_some_inv (λ q. changed_module (row_result (decls_at (m ∷ xs)) r q.1) as_they_are xs w q.0 m) (looked_at r p) k h in
-    change_falls (row_result (decls_at (m ∷ xs)) r q.0.1) (row_falls (decls_at (m ∷ xs)) r q.0.1 shrinks) xs w q.0.0 m k q.2
-step_falls xs s m k shrinks (of_the_module drops) = by_nodes (omega (arith, ap (in_module Nodes) drops.left, needed_falls drops.keep m drops.some))
+    change_falls (row_result (decls_at (m ∷ xs)) r q.0.1) (row_falls (decls_at (m ∷ xs)) r q.0.1) xs w q.0.0 m k q.2
+step_falls xs s m k (of_the_module drops) = by_nodes (omega (arith, ap (in_module Nodes) drops.left, needed_falls drops.keep m drops.some))
 
 -- the first number at least does not rise
 nodes_among : {V : Number → ℕ → Type 0} → Falls V → (c : ℕ) × V Nodes c
@@ -160,8 +160,16 @@ nodes_among (by_lets a b c d) = (0, a)
 nodes_among (by_around a b c d e) = (0, a)
 nodes_among (by_casts a b c d e f) = (0, a)
 
+step_raises_none : (xs : List NModule) (s : Step) (m k : NModule) → Rewrites xs s m k → module_nodes k ≤ module_nodes m
+step_raises_none xs s m k h = let v = nodes_among (step_falls xs s m k h) in omega (arith, v.1, module_counted m, module_counted k)
+
 pub rows_raise_no_nodes : RowsRaiseNoNodes
-rows_raise_no_nodes xs s m k shrinks h = let v = nodes_among (step_falls xs s m k shrinks h) in omega (arith, v.1, module_counted m, module_counted k)
+rows_raise_no_nodes xs s m k shrinks h = step_raises_none xs s m k h
+
+pub replays_raise_no_nodes : ReplaysRaiseNoNodes
+replays_raise_no_nodes xs es m k at_end = omega arith
+replays_raise_no_nodes xs es m k (past_mark {es = more} p rest) = replays_raise_no_nodes xs more m k rest
+replays_raise_no_nodes xs es m k (past_step {es = more} {k = n} s step rest) = omega (arith, step_raises_none xs s m n step, replays_raise_no_nodes xs more n k rest)
 
 -- the six numbers
 abbrev numbers : NModule → ℕ × (ℕ × (ℕ × (ℕ × (ℕ × (ℕ × Unit {0})))))
@@ -183,4 +191,4 @@ steps_end xs ms ss shrinks steps =
     let two = all_before (Before Never) (all_before Never all_never) in
     let four = all_before (Before (Before (Before Never))) (all_before (Before (Before Never)) two) in
     let six = all_before (Before (Before (Before (Before (Before Never))))) (all_before (Before (Before (Before (Before Never)))) four) in
-    no_descent IsLower (λ i. numbers (ms i)) (λ i. lower (ms i) (ms (suc i)) (step_falls xs (ss i) (ms i) (ms (suc i)) (shrinks i) (steps i))) (numbers (ms 0)) (six (numbers (ms 0))) 0 refl
+    no_descent IsLower (λ i. numbers (ms i)) (λ i. lower (ms i) (ms (suc i)) (step_falls xs (ss i) (ms i) (ms (suc i)) (steps i))) (numbers (ms 0)) (six (numbers (ms 0))) 0 refl

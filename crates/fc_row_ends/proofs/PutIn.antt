@@ -6,7 +6,7 @@ use Rattle.fc_model.specs.Nameless.{NArgs, NoNArgs, MoreNArgs, NExprs, NoNExprs,
 use Rattle.fc_model.specs.Replacing.{Replacement, Standing, StandingCoercion, below_binder, below_binders, below_joins, below_values, bind_count, join_count, replaced_binder, times}
 use Rattle.fc_model.specs.Replacing.{put_in, put_in_alts, put_in_args, put_in_binds, put_in_exprs, put_in_joins, values_behind, values_behind_all, values_below}
 use Rattle.fc_model.specs.Typing.{is_atom}
-use Rattle.fc_rows.specs.Occurrences.{Sought, behind, behind_all, behind_joins, behind_values, dead_before, inside, is_local, occurrences}
+use Rattle.fc_rows.specs.Occurrences.{Sought, behind, behind_all, behind_joins, behind_values, dead_before, inside, occurrences}
 use Rattle.fc_rows.specs.Occurrences as occ
 use Rattle.fc_rows.specs.Shrinking.{is_trivial}
 use Rattle.fc_rows.specs.declared.occurrence.Occurrence.{Occurrence}

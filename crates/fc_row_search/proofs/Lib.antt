@@ -1,5 +1,6 @@
 mod Counted
 mod Framed
+mod Kept
 mod Sizes
 mod Told
 mod Unasked

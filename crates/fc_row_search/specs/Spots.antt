@@ -5,12 +5,14 @@ use Rattle.fc_rows.specs.Changing.{made}
 use Rattle.fc_model.specs.Kinding.{Modules, decls_at}
 use Rattle.fc_model.specs.Nameless.{NExpr}
 use Rattle.fc_model.specs.NamelessView.{nexpr_of, nmodules_of}
+use Rattle.fc_type_table.specs.declared.table.TypeTable.{TypeTable}
 use Rattle.fc_rows.specs.Surroundings.{Surroundings, outside}
 use Rattle.fc_known.specs.Around.{HasCounts, surroundings_of}
 use Rattle.fc_known.specs.declared.around.Around.{Around}
 use Rattle.fc_parts.specs.Found.{found}
 use Rattle.fc_search_laws.specs.Searching.{Answered, Applies, applied, first_dead, first_part, first_row, fits, found_within, in_part, into, searched, searched_below}
 use Rattle.fc_row_at_place.specs.Rows.{built_row}
+use Rattle.fc_row_at_place.specs.Sites.{AreHeaders}
 use Rattle.fc_row_search.specs.declared.parts.Part.{Part}
 use Rattle.fc_row_search.specs.declared.spots.Applying.{Applying}
 use Rattle.fc_row_search.specs.declared.spots.Path.{Path, Whole, Part'}
@@ -41,6 +43,10 @@ here_at x = surroundings_of (modules_of x.search.now) x.around.now
 pub record IsSpot (x : Spot) (e : NExpr) : Type 0 where
   pub counts : HasCounts x.around.now
   pub stands : found (outside (modules_of x.search.now)) (place_of x.path.now) (nexpr_of x.search.now.right.now) ≡ Some (here_at x, e)
+
+-- the types of what is declared are read in this table
+abbrev pub HasHeaders : TypeTable → Spot → Type 0
+HasHeaders table x = AreHeaders table x.search.now.declared.now (modules_of x.search.now)
 
 -- what was found
 abbrev pub applying_of : Applying → Answered

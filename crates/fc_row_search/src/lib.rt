@@ -10,4 +10,4 @@ mod tests;
 mod walking;
 
 pub use searching::first_row_in;
-pub use spots::Applying;
+pub use spots::{Applying, Search};

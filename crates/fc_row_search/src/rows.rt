@@ -1,11 +1,12 @@
 //! Rows that are tried where a search stands.
-ghost use Rattle.std.specs.Prelude.{◌≡◌, ℕ, IfOk};
+ghost use Rattle.std.specs.Prelude.{◌≡◌, ℕ, IfOk, OnOk};
 ghost use Rattle.std.specs.Option.{option_map};
 ghost use Rattle.fc_log.specs.declared.log.Row.TheVariants.{AltDead};
 ghost use Rattle.fc_model.specs.Nameless.{NExpr as Form};
 ghost use Rattle.fc_model.specs.NamelessView.{nexpr_of};
+ghost use Rattle.fc_type_table.specs.TypeTables.{Grows};
 ghost use Rattle.fc_search_laws.specs.Searching.{alternatives_of as spec_alternatives_of, fits, here, rows_tried};
-ghost use Rattle.fc_row_search.specs.Spots.{IsSpot, applying_of, dead_at, here_at, made_at, modules_of, rows_at, told_at, told_here, tried_at};
+ghost use Rattle.fc_row_search.specs.Spots.{HasHeaders, IsSpot, applying_of, dead_at, here_at, made_at, modules_of, rows_at, told_at, told_here, tried_at};
 
 use crate::parts::alternatives_of;
 use crate::spots::{Applying, Spot, place_of};
@@ -14,9 +15,10 @@ use fc_forms::as_case;
 use fc_log::Row;
 use fc_nameless_measures::measures_of_expr;
 use fc_numbers::sum;
-use fc_row_at_place::{Asked, Question, fact_at, row_of_right_side, term_row};
+use fc_row_at_place::{Asked, Question, fact_at, row_by_headers, term_row};
 use fc_shrink_cases::alt_dead;
 use fc_syntax::{Memory, NExpr};
+use fc_type_table::TypeTable;
 use std::alloc::Global;
 
 /// The rows in the order in which they are tried; alt-dead is tried behind them.
@@ -63,9 +65,12 @@ fn asked_there(
     alloc: Global,
     row: Row,
     alternative: usize,
+    types: &mut TypeTable,
     spot: &Spot,
 ) -> Result<Option<NExpr>, Memory>
-    ensures { (e : Form) → IsSpot spot.now e → IfOk result (λ o. option_map nexpr_of o ≡ made_at spot.now row alternative e) }
+    requires types { HasHeaders types.old spot.now }
+    ensures found { (e : Form) → IsSpot spot.now e → IfOk result (λ o. option_map nexpr_of o ≡ made_at spot.now row alternative e) }
+    ensures grows { OnOk result (Grows types.old types.new) }
 {
     let search = spot.search;
     let place = place_of(alloc, spot.path)?;
@@ -73,7 +78,14 @@ fn asked_there(
         question: Question::Row(row, alternative),
         modules: search.modules,
     };
-    row_of_right_side(alloc, search.right, place.as_slice(), &asked)
+    row_by_headers(
+        alloc,
+        search.right,
+        place.as_slice(),
+        types,
+        search.declared,
+        &asked,
+    )
 }
 
 /// What a row that reads types makes of an expression, which is asked only where the form of the expression lets it apply.
@@ -82,13 +94,16 @@ fn typed_row(
     row: Row,
     alternative: usize,
     e: &NExpr,
+    types: &mut TypeTable,
     spot: &Spot,
 ) -> Result<Option<NExpr>, Memory>
-    requires { IsSpot spot.now (nexpr_of e.now) }
-    ensures { IfOk result (λ o. option_map nexpr_of o ≡ made_at spot.now row alternative (nexpr_of e.now)) }
+    requires spot { IsSpot spot.now (nexpr_of e.now) }
+    requires types { HasHeaders types.old spot.now }
+    ensures found { IfOk result (λ o. option_map nexpr_of o ≡ made_at spot.now row alternative (nexpr_of e.now)) }
+    ensures grows { OnOk result (Grows types.old types.new) }
 {
     if may_apply(row, e, spot)? {
-        asked_there(alloc, row, alternative, spot)
+        asked_there(alloc, row, alternative, types, spot)
     } else {
         Ok(None)
     }
@@ -101,18 +116,21 @@ fn made(
     row: Row,
     alternative: usize,
     e: &NExpr,
+    types: &mut TypeTable,
     spot: &Spot,
 ) -> Result<Option<NExpr>, Memory>
-    requires { IsSpot spot.now (nexpr_of e.now) }
-    ensures { IfOk result (λ o. option_map nexpr_of o ≡ made_at spot.now row alternative (nexpr_of e.now)) }
+    requires spot { IsSpot spot.now (nexpr_of e.now) }
+    requires types { HasHeaders types.old spot.now }
+    ensures found { IfOk result (λ o. option_map nexpr_of o ≡ made_at spot.now row alternative (nexpr_of e.now)) }
+    ensures grows { OnOk result (Grows types.old types.new) }
 {
     match row {
         Row::AltDead => without_dead(alloc, alternative, e, spot),
         Row::Beta | Row::FailAbsorb | Row::CastRefl | Row::NameField => {
-            typed_row(alloc, row, alternative, e, spot)
+            typed_row(alloc, row, alternative, e, types, spot)
         }
         Row::CaseKnown | Row::CaseEvaluated | Row::JoinOnce => {
-            typed_row(alloc, row, alternative, e, spot)
+            typed_row(alloc, row, alternative, e, types, spot)
         }
         row => term_row(alloc, row, e),
     }
@@ -160,12 +178,15 @@ fn tried(
     row: Row,
     alternative: usize,
     e: &NExpr,
+    types: &mut TypeTable,
     spot: &Spot,
 ) -> Result<Option<Applying>, Memory>
-    requires { IsSpot spot.now (nexpr_of e.now) }
-    ensures { IfOk result (λ o. option_map applying_of o ≡ tried_at spot.now row alternative (nexpr_of e.now)) }
+    requires spot { IsSpot spot.now (nexpr_of e.now) }
+    requires types { HasHeaders types.old spot.now }
+    ensures found { IfOk result (λ o. option_map applying_of o ≡ tried_at spot.now row alternative (nexpr_of e.now)) }
+    ensures grows { OnOk result (Grows types.old types.new) }
 {
-    match made(alloc, row, alternative, e, spot)? {
+    match made(alloc, row, alternative, e, types, spot)? {
         Some(new) => applying(alloc, row, alternative, e, new, spot),
         None => Ok(None),
     }
@@ -176,35 +197,52 @@ fn first_among(
     alloc: Global,
     rows: &[Row],
     e: &NExpr,
+    types: &mut TypeTable,
     spot: &Spot,
 ) -> Result<Option<Applying>, Memory>
-    requires { IsSpot spot.now (nexpr_of e.now) }
-    ensures { IfOk result (λ o. option_map applying_of o ≡ rows_at spot.now rows.now (nexpr_of e.now)) }
+    requires spot { IsSpot spot.now (nexpr_of e.now) }
+    requires types { HasHeaders types.old spot.now }
+    ensures found { IfOk result (λ o. option_map applying_of o ≡ rows_at spot.now rows.now (nexpr_of e.now)) }
+    ensures grows { OnOk result (Grows types.old types.new) }
 {
     match rows {
         [] => Ok(None),
-        [row, rest @ ..] => match tried(alloc, *row, 0, e, spot)? {
+        [row, rest @ ..] => match tried(alloc, *row, 0, e, types, spot)? {
             Some(found) => Ok(Some(found)),
-            None => first_among(alloc, rest, e, spot),
+            None => first_among(alloc, rest, e, types, spot),
         },
     }
 }
 
 /// The first row that applies to an expression, but for alt-dead.
-fn first_row(alloc: Global, e: &NExpr, spot: &Spot) -> Result<Option<Applying>, Memory>
-    requires { IsSpot spot.now (nexpr_of e.now) }
-    ensures { IfOk result (λ o. option_map applying_of o ≡ rows_at spot.now rows_tried (nexpr_of e.now)) }
+fn first_row(
+    alloc: Global,
+    e: &NExpr,
+    types: &mut TypeTable,
+    spot: &Spot,
+) -> Result<Option<Applying>, Memory>
+    requires spot { IsSpot spot.now (nexpr_of e.now) }
+    requires types { HasHeaders types.old spot.now }
+    ensures found { IfOk result (λ o. option_map applying_of o ≡ rows_at spot.now rows_tried (nexpr_of e.now)) }
+    ensures grows { OnOk result (Grows types.old types.new) }
 {
-    first_among(alloc, ROWS.as_slice(), e, spot)
+    first_among(alloc, ROWS.as_slice(), e, types, spot)
 }
 
 /// The first alternative of an expression that is dead.
-fn first_dead(alloc: Global, e: &NExpr, spot: &Spot) -> Result<Option<Applying>, Memory>
-    requires { IsSpot spot.now (nexpr_of e.now) }
-    ensures { IfOk result (λ o. option_map applying_of o ≡ dead_at spot.now (spec_alternatives_of (nexpr_of e.now)) 0 (nexpr_of e.now)) }
+fn first_dead(
+    alloc: Global,
+    e: &NExpr,
+    types: &mut TypeTable,
+    spot: &Spot,
+) -> Result<Option<Applying>, Memory>
+    requires spot { IsSpot spot.now (nexpr_of e.now) }
+    requires types { HasHeaders types.old spot.now }
+    ensures found { IfOk result (λ o. option_map applying_of o ≡ dead_at spot.now (spec_alternatives_of (nexpr_of e.now)) 0 (nexpr_of e.now)) }
+    ensures grows { OnOk result (Grows types.old types.new) }
 {
     for alternative in 0..alternatives_of(e) {
-        if let Some(found) = tried(alloc, Row::AltDead, alternative, e, spot)? {
+        if let Some(found) = tried(alloc, Row::AltDead, alternative, e, types, spot)? {
             return Ok(Some(found));
         }
     }
@@ -212,12 +250,19 @@ fn first_dead(alloc: Global, e: &NExpr, spot: &Spot) -> Result<Option<Applying>,
 }
 
 /// The first row that applies to an expression itself.
-pub(crate) fn row_here(alloc: Global, e: &NExpr, spot: &Spot) -> Result<Option<Applying>, Memory>
-    requires { IsSpot spot.now (nexpr_of e.now) }
-    ensures { IfOk result (λ o. option_map applying_of o ≡ told_at spot.now (here (modules_of spot.now.search.now) spot.now.room spot.now.search.now.spare (here_at spot.now) (nexpr_of e.now))) }
+pub(crate) fn row_here(
+    alloc: Global,
+    e: &NExpr,
+    types: &mut TypeTable,
+    spot: &Spot,
+) -> Result<Option<Applying>, Memory>
+    requires spot { IsSpot spot.now (nexpr_of e.now) }
+    requires types { HasHeaders types.old spot.now }
+    ensures found { IfOk result (λ o. option_map applying_of o ≡ told_at spot.now (here (modules_of spot.now.search.now) spot.now.room spot.now.search.now.spare (here_at spot.now) (nexpr_of e.now))) }
+    ensures grows { OnOk result (Grows types.old types.new) }
 {
-    match first_row(alloc, e, spot)? {
+    match first_row(alloc, e, types, spot)? {
         Some(found) => Ok(Some(found)),
-        None => first_dead(alloc, e, spot),
+        None => first_dead(alloc, e, types, spot),
     }
 }

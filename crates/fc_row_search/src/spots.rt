@@ -3,6 +3,7 @@ ghost use Rattle.std.specs.Prelude.{◌≡◌, IfOk};
 ghost use Rattle.fc_row_search.specs.Spots.{place_of as spec_place_of};
 
 use fc_known::Around;
+use fc_lint_context::DeclaredTypes;
 use fc_log::Row;
 use fc_syntax::{Memory, NExpr, NModule};
 use std::alloc::Global;
@@ -12,7 +13,7 @@ use std::alloc::Global;
 pub struct Applying {
     /// The row.
     pub row: Row,
-    /// The number of the alternative that alt-dead takes away, from 0; for every other row 0.
+    /// The number of the alternative that alt-dead takes away, from 0; it is 0 for every other row.
     pub alternative: usize,
     /// The place of the expression that the row looks at, the outermost part first.
     pub place: Vec<u32>,
@@ -27,6 +28,8 @@ pub struct Search<'x> {
     pub right: &'x NExpr,
     /// The modules whose right sides are known: the one that is changed and those that it imports. Where several have one name, the first counts.
     pub modules: &'x [NModule],
+    /// The types of what these modules declare, or others with the same headers, as a table of types has them.
+    pub declared: &'x DeclaredTypes<'x>,
     /// By how many pieces the module may grow.
     pub spare: u32,
 }

@@ -1,9 +1,10 @@
 //! Applications of lambdas.
-ghost use Rattle.std.specs.Prelude.{◌≡◌, IfOk};
+ghost use Rattle.std.specs.Prelude.{◌≡◌, IfOk, OnOk};
 ghost use Rattle.std.specs.Option.{option_map};
 ghost use Rattle.fc_model.specs.NamelessView.{nexpr_of};
 ghost use Rattle.fc_rows.specs.Shrinking.{beta as spec_beta};
 ghost use Rattle.fc_rows.specs.Surroundings.{Surroundings};
+ghost use Rattle.fc_type_table.specs.TypeTables.{Grows};
 ghost use Rattle.fc_lint_context.specs.ContextViews.{IsContextOver, context_in, modules_of_context};
 
 use fc_copies::nameless::copy_expr;
@@ -24,7 +25,8 @@ pub fn beta(
     context: &Context,
 ) -> Result<Option<NExpr>, Memory>
     requires { IsContextOver types.old context.now }
-    ensures { (s : Surroundings) → s.context ≡ context_in types.old context.now → IfOk result (λ o. option_map nexpr_of o ≡ spec_beta (modules_of_context context.now) s (nexpr_of e.now)) }
+    ensures view { (s : Surroundings) → s.context ≡ context_in types.old context.now → IfOk result (λ o. option_map nexpr_of o ≡ spec_beta (modules_of_context context.now) s (nexpr_of e.now)) }
+    ensures grows { OnOk result (Grows types.old types.new) }
 {
     let Some(application) = as_application(e) else {
         return Ok(None);

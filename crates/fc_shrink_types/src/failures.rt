@@ -1,5 +1,5 @@
 //! Failures that are applied, looked at or cast.
-ghost use Rattle.std.specs.Prelude.{◌≡◌, IfOk};
+ghost use Rattle.std.specs.Prelude.{◌≡◌, IfOk, OnOk};
 ghost use Rattle.std.specs.Option.{option_map};
 ghost use Rattle.fc_model.specs.Nameless.{NFail};
 ghost use Rattle.fc_model.specs.NamelessView.{nexpr_of};
@@ -7,6 +7,7 @@ ghost use Rattle.fc_model.specs.Typing.{type_read_off as spec_type_read_off};
 ghost use Rattle.fc_rows.specs.Changing.{made};
 ghost use Rattle.fc_rows.specs.Shrinking.{fail_absorb as spec_fail_absorb};
 ghost use Rattle.fc_rows.specs.Surroundings.{Surroundings};
+ghost use Rattle.fc_type_table.specs.TypeTables.{Grows};
 ghost use Rattle.fc_lint_context.specs.ContextViews.{IsContextOver, context_in, modules_of_context};
 
 use fc_lint_context::Context;
@@ -26,7 +27,8 @@ fn failure_at_type_of(
     context: &Context,
 ) -> Result<Option<NExpr>, Memory>
     requires { IsContextOver types.old context.now }
-    ensures { IfOk result (λ o. option_map nexpr_of o ≡ made NFail (spec_type_read_off (modules_of_context context.now) (context_in types.old context.now) (nexpr_of e.now))) }
+    ensures view { IfOk result (λ o. option_map nexpr_of o ≡ made NFail (spec_type_read_off (modules_of_context context.now) (context_in types.old context.now) (nexpr_of e.now))) }
+    ensures grows { OnOk result (Grows types.old types.new) }
 {
     let Some(id) = type_read_off(alloc, e, types, context)? else {
         return Ok(None);
@@ -47,7 +49,8 @@ pub fn fail_absorb(
     context: &Context,
 ) -> Result<Option<NExpr>, Memory>
     requires { IsContextOver types.old context.now }
-    ensures { (s : Surroundings) → s.context ≡ context_in types.old context.now → IfOk result (λ o. option_map nexpr_of o ≡ spec_fail_absorb (modules_of_context context.now) s (nexpr_of e.now)) }
+    ensures view { (s : Surroundings) → s.context ≡ context_in types.old context.now → IfOk result (λ o. option_map nexpr_of o ≡ spec_fail_absorb (modules_of_context context.now) s (nexpr_of e.now)) }
+    ensures grows { OnOk result (Grows types.old types.new) }
 {
     match e {
         NExpr::App(head, _) => match &**head {

@@ -1,11 +1,13 @@
--- What is exchanged in a definition: its word stays, and what is taken out is the part that is found there.
-use Rattle.std.proofs.Common.{◌≡◌, ℕ, List, ◌∷◌, Option, Some, None, refl, sym, ap, ◌∙◌}
+-- What is exchanged in a definition: its word and its type stay, and what is taken out is the part that is found there.
+use Rattle.std.proofs.Common.{◌≡◌, ℕ, zero, suc, List, [], ◌∷◌, Option, Some, None, refl, sym, ap, ◌∙◌, subst}
+use Rattle.std.specs.Prelude.{⊤, slice_get, slice_set}
 use Rattle.std.proofs.lemmas.Option.{none-some, same_Some}
 use Rattle.fc_syntax.specs.declared.ty.Ref.{Ref}
 use Rattle.fc_syntax.specs.GenericTree.{DData, DNew, DFamily, DAxiom, DDef, DWrap}
 use Rattle.fc_syntax.specs.Tree.{Word}
-use Rattle.fc_model.specs.Nameless.{NExpr}
+use Rattle.fc_model.specs.Nameless.{NDecl, NExpr}
 use Rattle.fc_model.specs.Worded.{WDecl, WExpr, bare_decl, bare_expr}
+use Rattle.fc_outlines.specs.RightSides.{Righted, righted_def, righted_later, righted_wrap}
 use Rattle.fc_places.specs.Places.{Exchanged, around, exchanged}
 use Rattle.fc_rows.specs.Surroundings.{Surroundings}
 use Rattle.fc_parts.specs.Found.{Found, found}
@@ -34,6 +36,27 @@ word_stays v by old p (DData n ps cs) after h = absurd (none-some _ h)
 word_stays v by old p (DNew n ps t con) after h = absurd (none-some _ h)
 word_stays v by old p (DFamily n ps k) after h = absurd (none-some _ h)
 word_stays v by old p (DAxiom n ps t u) after h = absurd (none-some _ h)
+
+-- RIGHT SIDES
+
+-- a definition before others differs in its right side alone
+pub right_side_alone : (by old : WExpr) (p : List ℕ) (d after : WDecl) (ds : List NDecl) → exchanged_in_decl by (1 ∷ p) d ≡ Some (old, after) → Righted (λ e f. ⊤) (bare_decl d ∷ ds) (bare_decl after ∷ ds)
+right_side_alone by old p (DDef n t e) after ds h =
+    let a = is_around (λ f. DDef n t f) by old after p e (exchanged by p e) refl h in
+    subst (λ z. Righted (λ e f. ⊤) (bare_decl (DDef n t e) ∷ ds) (bare_decl z ∷ ds)) (sym a.is) (righted_def tt)
+right_side_alone by old p (DWrap n t e) after ds h =
+    let a = is_around (λ f. DWrap n t f) by old after p e (exchanged by p e) refl h in
+    subst (λ z. Righted (λ e f. ⊤) (bare_decl (DWrap n t e) ∷ ds) (bare_decl z ∷ ds)) (sym a.is) (righted_wrap tt)
+right_side_alone by old p (DData n ps cs) after ds h = absurd (none-some _ h)
+right_side_alone by old p (DNew n ps t con) after ds h = absurd (none-some _ h)
+right_side_alone by old p (DFamily n ps k) after ds h = absurd (none-some _ h)
+right_side_alone by old p (DAxiom n ps t u) after ds h = absurd (none-some _ h)
+
+-- and so do declarations of which it is one
+pub righted_at : {R : NExpr → NExpr → Type 0} (i : ℕ) (c d : NDecl) (ds : List NDecl) → slice_get ds i ≡ Some c → ((es : List NDecl) → Righted R (c ∷ es) (d ∷ es)) → Righted R ds (slice_set ds i d)
+righted_at i c d [] at alone = absurd (none-some _ at)
+righted_at {R = R} zero c d (x ∷ ds) at alone = subst (λ z. Righted R (z ∷ ds) (d ∷ ds)) (sym (same_Some _ _ at)) (alone ds)
+righted_at (suc i) c d (x ∷ ds) at alone = righted_later (righted_at i c d ds at alone)
 
 -- PARTS
 

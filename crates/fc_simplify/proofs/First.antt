@@ -16,6 +16,7 @@ use Rattle.fc_model.specs.Nameless.{NDecl, NModule}
 use Rattle.fc_model.specs.NamelessView.{ndecl_of, ndecls_of, nexpr_of, nmodule_of, nmodules_of}
 use Rattle.fc_model.specs.Worded.{WExpr, bare_decl, bare_expr}
 use Rattle.fc_reaching.specs.Reaching.{decls_in}
+use Rattle.fc_type_table.proofs.Numbers.{Grows-refl}
 use Rattle.fc_rows.specs.Surroundings.{outside}
 use Rattle.fc_parts.specs.PartsAt.{at_place}
 use Rattle.fc_parts.proofs.Parted.{asked_of_found}
@@ -25,18 +26,19 @@ use Rattle.fc_search_laws.proofs.Searched.{what_is_found}
 use Rattle.fc_apply.specs.Definitions.{HasDecl, exchanged_in_decl, right_side}
 use Rattle.fc_apply.proofs.InDefinitions.{decl_put}
 use Rattle.fc_row_search.specs.declared.spots.Applying.{Applying}
-use Rattle.fc_simplify.specs.Phase.{Continues, FirstDefines, FirstHasSpare, KeepsWords, room}
+use Rattle.fc_simplify.specs.Phase.{Continues, FirstDefines, FirstHasSpare, KeepsHeaders, room}
 use Rattle.fc_simplify.specs.Taking.{IsFound, IsNext, IsNowhere, IsPut}
+use Rattle.fc_simplify.proofs.Keeping.{headers_same}
 use Rattle.fc_simplify.proofs.Logs.{continues_same, simplifies_once}
-use Rattle.fc_simplify.proofs.Taken.{spare_after, spare_left, step_in_phase, step_rewrites, words_kept}
-use Rattle.fc_simplify.proofs.Words.{is_below, keeps_same, located}
+use Rattle.fc_simplify.proofs.Taken.{declares_same, spare_after, spare_left, step_in_phase, step_rewrites, words_kept}
+use Rattle.fc_simplify.proofs.Words.{is_below, located}
 
 -- WHAT A STEP DOES
 
 -- what was put is right
 pub record IsTaken (spare : ℕ) (a : Applying) (s : Step) (old : WExpr) (before after : List NModule) : Type 0 where
   pub continues : (es : List Entry) → Continues before after es (es ++ entry.Step s ∷ [])
-  pub words : KeepsWords before after
+  pub keeps : KeepsHeaders before after
   pub left : nexpr_size (nexpr_of a.new) ≤ spare + nexpr_size (bare_expr old)
   pub spare_then : (t : ℕ) → t + nexpr_size (nexpr_of a.new) ≡ spare + nexpr_size (bare_expr old) → FirstHasSpare t after
 
@@ -46,7 +48,10 @@ taken spare i a s old [] ks first has found put = absurd put
 taken spare i a s old (m ∷ ms) [] first has found put = absurd put
 taken spare i a s old (m ∷ ms) (k ∷ ks) (w, first) has found (same, put) = record {
   continues = λ es. (ap nmodules_of same, (entry.Step s ∷ [], (refl, simplifies_once (nmodules_of ms) s (nmodule_of m) (nmodule_of k) (step_in_phase m k (nmodules_of ms) spare i a s old w first has found put) (step_rewrites m k (nmodules_of ms) spare i a s old w first has found put))));
-  words = words_kept m k (nmodules_of ms) spare i a s old w first has found put;
+  keeps = subst (λ xs. KeepsHeaders (nmodule_of m ∷ nmodules_of ms) (nmodule_of k ∷ xs)) (sym (ap nmodules_of same)) (record {
+    words = words_kept m k (nmodules_of ms) spare i a s old w first has found put;
+    headers = declares_same m k (nmodules_of ms) spare i a s old w first has found put;
+  });
   left = spare_left m k (nmodules_of ms) spare i a s old w first has found put;
   spare_then = spare_after m k (nmodules_of ms) spare i a s old w first has found put;
 }
@@ -98,4 +103,4 @@ first_there i (m ∷ ms) (w, is) =
     omega (arith, at.number, is_below w at.at at.decl (decls_in (nmodule_of m)) at.place, length-map (decls_of m.decls) bare_decl, length-map m.decls decl_of)
 
 -- where nothing was done
-pub ruleset same_rules = (continues_same, keeps_same)
+pub ruleset same_rules = (continues_same, headers_same, Grows-refl)

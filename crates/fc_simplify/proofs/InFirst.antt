@@ -1,5 +1,5 @@
--- The first of some modules, as code has it in hand: left as it is, without what nothing needs, and measured.
-use Rattle.std.proofs.Common.{◌≡◌, ◌-◌, ◌≤◌, ℕ, true, nat_lt, List, [], ◌∷◌, length, refl, sym, ap, ◌∙◌, arith, subst}
+-- The first of some modules, as code has it in hand: left as it is, without what nothing needs, measured, and with its definitions marked.
+use Rattle.std.proofs.Common.{◌≡◌, ◌-◌, ◌≤◌, ℕ, Bool, true, nat_lt, List, [], ◌∷◌, length, refl, sym, ap, ◌∙◌, arith, subst}
 use Rattle.std.specs.Prelude.{slice_index_or, slice_set}
 use Rattle.fc_syntax.specs.Limits.{standard_limits}
 use Rattle.fc_syntax.specs.Measures.{decls_size}
@@ -8,13 +8,15 @@ use Rattle.fc_syntax.specs.declared.module.Module as RustModule
 use Rattle.fc_syntax.specs.declared.ty.Ref.{Ref}
 use Rattle.fc_log.specs.declared.log.Entry.{Entry}
 use Rattle.fc_model.specs.NamelessView.{nmodule_of, nmodules_of}
+use Rattle.fc_reaching.specs.Firsts.{AreFirst}
 use Rattle.fc_rows.specs.Dropping.{DropsDead}
 use Rattle.fc_result_limits.proofs.Bare.{decls_same}
 use Rattle.fc_limits_at_places.specs.Fitting.{nmodule_size}
 use Rattle.fc_limits_at_places.proofs.Unworded.{within_measures}
 use Rattle.fc_apply.specs.Steps.{FirstDrops, FirstFits}
-use Rattle.fc_simplify.specs.Phase.{Continues, FirstHasSpare}
+use Rattle.fc_simplify.specs.Phase.{Continues, FirstHasSpare, FirstsAre}
 use Rattle.fc_simplify.proofs.Logs.{continues_same}
+use Rattle.fc_simplify.proofs.Words.{firsts_are}
 
 abbrev Form : Type 0
 Form = RustModule.Module ℕ Ref
@@ -41,3 +43,8 @@ first_spare (x ∷ ms) m z size is some fits measured =
     let same : size ≡ nmodule_size (nmodule_of x) = measured ∙ (decls_same (decls_of m.decls)).0 ∙ ap (λ k. nmodule_size (nmodule_of k)) is in
     let small = ((within_measures (nmodule_of x)).0 fits).1 in
     (omega (arith, same, small), record { within = fits; sum = omega (arith, same, small) })
+
+-- its definitions were marked
+pub first_marked : (ms : List Form) (m z : Form) (marks : List Bool) → m ≡ slice_index_or ms 0 z → true ≡ nat_lt 0 (length ms) → AreFirst (nmodule_of m) marks → FirstsAre marks (nmodules_of ms)
+first_marked [] m z marks is some are = absurd cc
+first_marked (x ∷ ms) m z marks is some are = firsts_are (nmodule_of x) (nmodules_of ms) marks (subst (λ q. AreFirst (nmodule_of q) marks) is are)

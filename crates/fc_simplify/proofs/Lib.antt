@@ -1,6 +1,7 @@
 mod Exchanged
 mod First
 mod InFirst
+mod Keeping
 pub mod Kept
 pub mod Logs
 mod Looking

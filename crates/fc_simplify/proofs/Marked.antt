@@ -8,7 +8,7 @@ use Rattle.fc_model.specs.Nameless.{NModule}
 use Rattle.fc_model.specs.NamelessView.{nmodules_of}
 use Rattle.fc_model.proofs.Sameness.{false_true, nat_eq_eq, nat_eq_refl}
 use Rattle.fc_simplify.specs.Phase.{FirstDefines, FirstsAre, IsSettled, KeepsWords}
-use Rattle.fc_simplify.proofs.Words.{first_kept, marked_first}
+use Rattle.fc_simplify.proofs.Words.{first_kept}
 
 -- MARKS
 
@@ -22,13 +22,9 @@ mark_below [] i b is = absurd (none-some _ is)
 mark_below (m ∷ marks) zero b is = omega arith
 mark_below (m ∷ marks) (suc i) b is = omega (arith, mark_below marks i b is)
 
-marked : (ms : List NModule) (marks : List Bool) (i : ℕ) → FirstsAre marks ms → slice_get marks i ≡ Some true → FirstDefines i ms
-marked [] marks i are is = none-some true (ap (λ bs. slice_get bs i) (sym are) ∙ is)
-marked (n ∷ xs) marks i are is = marked_first n xs marks i are is
-
 -- what is marked is the first definition of a word, also where words were kept
 pub defines_first : (ms ks : List NModule) (marks : List Bool) (i : ℕ) → FirstsAre marks ms → KeepsWords ms ks → i < length marks → slice_index_or marks i false ≡ true → FirstDefines i ks
-defines_first ms ks marks i are keeps below is = first_kept i ms ks keeps (marked ms marks i are (mark_is marks i true below is))
+defines_first ms ks marks i are keeps below is = first_kept i ms ks keeps ((are i).0 (mark_is marks i true below is))
 
 -- ONE MORE
 

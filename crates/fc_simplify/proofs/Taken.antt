@@ -1,4 +1,4 @@
--- A step is right: what a row made, in its place, is what its step makes of the module, within the limits, and words are defined where they were.
+-- A step is right: what a row made, in its place, is what its step makes of the module, within the limits, words are defined where they were, and the same is declared.
 use Rattle.std.proofs.Common.{◌≡◌, ◌+◌, ◌-◌, ◌≤◌, ℕ, zero, suc, true, List, [], ◌∷◌, length, Option, Some, sym, ap, ◌∙◌, arith, subst}
 use Rattle.std.specs.Prelude.{slice_get, slice_set}
 use Rattle.std.proofs.lemmas.Bool.Decides.{nat_tests}
@@ -18,6 +18,8 @@ use Rattle.fc_model.specs.Nameless.{NExpr, NLocal, NVar, NLit, NApp, NLam, NLet,
 use Rattle.fc_model.proofs.Sameness.{bytes_eq_eq}
 use Rattle.fc_model.specs.NamelessView.{ndecl_of, ndecls_of, nexpr_of, nmodule_of}
 use Rattle.fc_model.specs.Worded.{WExpr, bare_expr}
+use Rattle.fc_outlines.specs.Headers.{SameHeaders}
+use Rattle.fc_outlines.proofs.RightSides.{righted_headers}
 use Rattle.fc_reaching.specs.Numbering.{number_from, number_in}
 use Rattle.fc_reaching.specs.Reaching.{decls_in}
 use Rattle.fc_reaching.specs.Reaching.{right_side as right_side_in}
@@ -44,7 +46,7 @@ use Rattle.fc_row_search.specs.declared.spots.Applying.{Applying}
 use Rattle.fc_simplify.specs.Phase.{HasSpare, room}
 use Rattle.fc_simplify.specs.Steps.{path_told, step_of}
 use Rattle.fc_simplify.specs.Taking.{IsExchanged, IsFound, word_of}
-use Rattle.fc_simplify.proofs.Exchanged.{part_is, word_stays}
+use Rattle.fc_simplify.proofs.Exchanged.{part_is, right_side_alone, righted_at, word_stays}
 use Rattle.fc_simplify.proofs.Logs.{built_in_phase}
 use Rattle.fc_simplify.proofs.Looking.{made_built, told_is}
 use Rattle.fc_simplify.proofs.Words.{IsLocated, is_changed, is_right, is_there, is_word, located, words_stay}
@@ -198,3 +200,16 @@ module _ (m k : RustModule.Module ℕ Ref) (xs : List NModule) (spare i : ℕ) (
       ∙ ap (λ ds. number_from 0 ds w) (set_is m.decls i put.after)
       ∙ words_stay w 0 i (ndecl_of put.before) (ndecl_of put.after) (decls_in n) (there_in m.decls i put.before put.there)
       (word_stays w (expr_of a.new) old q (decl_of put.before) (decl_of put.after) put.put)
+
+  -- the same is declared, but for a right side
+  pub declares_same : SameHeaders (decls_at (n ∷ xs)) (decls_at (nmodule_of k ∷ xs))
+  declares_same =
+      subst (λ z. SameHeaders (decls_at (n ∷ xs)) (decls_at (nmodule_of z ∷ xs))) (sym put.set) (
+      subst (λ ds. SameHeaders (decls_at (n ∷ xs)) (decls_at (NModuleOf m.name m.imports m.exports m.hidden ds ∷ xs))) (sym (set_is m.decls i put.after)) (
+      righted_headers m.name m.imports m.exports m.hidden xs (
+      righted_at i (ndecl_of put.before) (ndecl_of put.after) (decls_in n) (there_in m.decls i put.before put.there) (λ es.
+      right_side_alone (expr_of a.new) old q (decl_of put.before) (decl_of put.after) es put.put
+      )
+      )
+      )
+      )

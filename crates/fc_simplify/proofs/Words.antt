@@ -15,7 +15,7 @@ use Rattle.fc_rows.specs.Rewriting.{changed_decls}
 use Rattle.fc_rows.specs.Surroundings.{Surroundings}
 use Rattle.fc_apply.specs.Definitions.{changed_decl, is_definition, right_side}
 use Rattle.fc_apply.proofs.Decls.{first_is, first_is_not, made_again}
-use Rattle.fc_simplify.specs.Phase.{FirstDefines, KeepsWords}
+use Rattle.fc_simplify.specs.Phase.{FirstDefines, FirstsAre, KeepsWords}
 
 pub keeps_same : (ms : List NModule) → KeepsWords ms ms
 keeps_same [] = refl
@@ -30,6 +30,16 @@ keeps_both [] b c first second = here b first second
 keeps_both (n ∷ xs) [] c first second = absurd first
 keeps_both (n ∷ xs) (m ∷ ys) [] first second = absurd second
 keeps_both (n ∷ xs) (m ∷ ys) (k ∷ zs) first second = λ w. second w ∙ first w
+
+-- words are kept the other way round too
+keeps_back : (a b : List NModule) → KeepsWords a b → KeepsWords b a
+keeps_back [] b keeps = here b keeps
+  where
+    here : (b : List NModule) → b ≡ [] → KeepsWords b []
+    here [] none = refl
+    here (m ∷ ys) none = absurd cc
+keeps_back (n ∷ xs) [] keeps = absurd keeps
+keeps_back (n ∷ xs) (m ∷ ys) keeps = λ w. sym (keeps w)
 
 pub first_kept : (i : ℕ) (a b : List NModule) → KeepsWords a b → FirstDefines i a → FirstDefines i b
 first_kept i [] b keeps first = absurd first
@@ -151,7 +161,7 @@ first_by number w j (NDef n t e) is h = ap (λ v. is_number j (number v)) (bytes
 first_by number w j (NWrap n t e) is h = ap (λ v. is_number j (number v)) (bytes_eq_eq n w is) ∙ ap (is_number j) h ∙ nat_eq_refl j
 
 -- the first definition of a word is marked
-pub is_marked : (n : NModule) (marks : List Bool) (w : Word) (j : ℕ) → AreFirst n marks → number_in n w ≡ Some j → slice_get marks j ≡ Some true
+is_marked : (n : NModule) (marks : List Bool) (w : Word) (j : ℕ) → AreFirst n marks → number_in n w ≡ Some j → slice_get marks j ≡ Some true
 is_marked n marks w j are h =
     let at = located w 0 j (decls_in n) h in
     let same : at.at ≡ j = omega (arith, at.number) in
@@ -179,5 +189,14 @@ marked_in number k i [] h = absurd (none-some _ h)
 marked_in number k zero (d ∷ ds) h = let r = word_by number k d (same_Some _ _ h) in (r.0, r.1 ∙ ap Some (omega arith))
 marked_in number k (suc i) (d ∷ ds) h = let r = marked_in number (suc k) i ds h in (r.0, r.1 ∙ ap Some (omega arith))
 
-pub marked_first : (n : NModule) (xs : List NModule) (marks : List Bool) (i : ℕ) → AreFirst n marks → slice_get marks i ≡ Some true → FirstDefines i (n ∷ xs)
+marked_first : (n : NModule) (xs : List NModule) (marks : List Bool) (i : ℕ) → AreFirst n marks → slice_get marks i ≡ Some true → FirstDefines i (n ∷ xs)
 marked_first n xs marks i are h = let r = marked_in (number_in n) 0 i (decls_in n) (ap (λ bs. slice_get bs i) (sym are) ∙ h) in (r.0, r.1 ∙ ap Some (omega arith))
+
+-- the marks of the first of some modules
+pub firsts_are : (n : NModule) (xs : List NModule) (marks : List Bool) → AreFirst n marks → FirstsAre marks (n ∷ xs)
+firsts_are n xs marks are = λ i. (marked_first n xs marks i are, λ first. is_marked n marks first.0 i are first.1)
+
+-- they are right where words were kept
+pub firsts_kept : (marks : List Bool) (a b : List NModule) → KeepsWords a b → FirstsAre marks a → FirstsAre marks b
+firsts_kept marks a b keeps are = λ i.
+    (λ is. first_kept i a b keeps ((are i).0 is), λ first. (are i).1 (first_kept i b a (keeps_back a b keeps) first))

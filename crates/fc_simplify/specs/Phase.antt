@@ -1,5 +1,5 @@
 -- What simplifying does to the first of some modules, and to its log.
-use Rattle.std.specs.Prelude.{◌≡◌, ⊤, ◌+◌, ℕ, Bool, true, List, [], ◌∷◌, ◌++◌, Some, slice_get}
+use Rattle.std.specs.Prelude.{◌≡◌, ◌↔◌, ⊤, ◌+◌, ℕ, Bool, true, List, [], ◌∷◌, ◌++◌, Some, slice_get}
 use Rattle.fc_syntax.specs.Limits.{standard_limits}
 use Rattle.fc_syntax.specs.Tree.{Word}
 use Rattle.fc_log.specs.Shapes.{phase_of_row}
@@ -9,14 +9,17 @@ use Rattle.fc_log.specs.declared.log.Phase.TheVariants as phase
 use Rattle.fc_log.specs.declared.log.Step.{Step}
 use Rattle.fc_model.specs.Kinding.{decls_at}
 use Rattle.fc_model.specs.Nameless.{NDecl, NExpr, NModule}
-use Rattle.fc_reaching.specs.Firsts.{AreFirst}
 use Rattle.fc_reaching.specs.Numbering.{number_in}
 use Rattle.fc_reaching.specs.Reaching.{decls_in}
+use Rattle.fc_outlines.specs.Headers.{SameHeaders}
+use Rattle.fc_type_table.specs.declared.table.TypeTable.{TypeTable}
+use Rattle.fc_lint_context.specs.declared.declared_types.DeclaredTypes.{DeclaredTypes}
 use Rattle.fc_rows.specs.NormalForms.{IsQuiet}
 use Rattle.fc_rows.specs.Replaying.{Rewrites}
 use Rattle.fc_rows.specs.ResultLimits.{IsWithinLimits}
 use Rattle.fc_rows.specs.Surroundings.{outside}
 use Rattle.fc_limits_at_places.specs.Fitting.{nmodule_size}
+use Rattle.fc_row_at_place.specs.Sites.{AreHeaders}
 use Rattle.fc_search_laws.specs.Searching.{Quiet, searched}
 use Rattle.fc_apply.specs.Definitions.{right_side}
 
@@ -61,6 +64,15 @@ KeepsWords [] after = after ≡ []
 KeepsWords (n ∷ xs) [] = ⊥
 KeepsWords (n ∷ xs) (k ∷ ys) = (w : Word) → number_in k w ≡ number_in n w
 
+-- and the same is declared, but for right sides
+pub record KeepsHeaders (before after : List NModule) : Type 0 where
+  pub words : KeepsWords before after
+  pub headers : SameHeaders (decls_at before) (decls_at after)
+
+-- the types of what modules declare are read in a table, perhaps of other modules with the same headers
+abbrev pub HaveHeaders : TypeTable → DeclaredTypes → List NModule → Type 0
+HaveHeaders table declared ms = AreHeaders table declared (decls_at ms)
+
 -- the declaration of a number is the first definition of its word
 abbrev pub FirstDefines : ℕ → List NModule → Type 0
 FirstDefines i [] = ⊥
@@ -72,11 +84,16 @@ IsSettled spare i [] = ⊤
 IsSettled spare i (n ∷ xs) =
     (d : NDecl) (e : NExpr) → slice_get (decls_in n) i ≡ Some d → right_side d ≡ Some e → searched (decls_at (n ∷ xs)) spare room [] (outside (decls_at (n ∷ xs))) e ≡ Some Quiet
 
--- the marks of the first module tell of each declaration whether it is the first definition of its word
+-- the marks tell of each declaration of the first module whether it is the first definition of its word
 abbrev pub FirstsAre : List Bool → List NModule → Type 0
-FirstsAre marks [] = marks ≡ []
-FirstsAre marks (n ∷ xs) = AreFirst n marks
+FirstsAre marks ms = (i : ℕ) → slice_get marks i ≡ Some true ↔ FirstDefines i ms
 
 -- no row applies in the declarations that are marked
 abbrev pub AreSettled : ℕ → List Bool → List NModule → Type 0
 AreSettled spare marks ms = (i : ℕ) → slice_get marks i ≡ Some true → IsSettled spare i ms
+
+-- no row applies in any definition that is the first of its word
+pub record AllSettled (ms : List NModule) : Type 0 where
+  pub spare : ℕ
+  pub has : FirstHasSpare spare ms
+  pub settled : (i : ℕ) → FirstDefines i ms → IsSettled spare i ms

@@ -1,15 +1,22 @@
 //! The phase, round by round.
-ghost use Rattle.std.specs.Prelude.{IfOk, IsFalse, OnOk};
+ghost use Rattle.std.specs.Prelude.{◌≡◌, IfOk, OnOk};
 ghost use Rattle.fc_model.specs.NamelessView.{nmodules_of};
+ghost use Rattle.fc_outlines.specs.Outlines.{outlined_all};
+ghost use Rattle.fc_types.specs.ModuleViews.{modules_of};
+ghost use Rattle.fc_model.specs.Kinding.{decls_at};
 ghost use Rattle.fc_apply.specs.Steps.{FirstFits};
-ghost use Rattle.fc_simplify.specs.Phase.{Continues, FirstHasSpare, FirstIsQuiet, FirstsAre};
+ghost use Rattle.fc_simplify.specs.Phase.{AllSettled, Continues, FirstHasSpare, FirstIsQuiet, FirstsAre};
 
 use crate::dropping::drop_unneeded;
-use crate::settling::settle_all;
+use crate::settling::settle_rounds;
+use fc_lint_context::DeclaredTypes;
 use fc_log::Entry;
 use fc_nameless_measures::measures_of_module;
+use fc_outlines::outlines;
 use fc_reaching::first_definitions;
 use fc_syntax::{Limits, Memory, NModule, Seq};
+use fc_type_table::TypeTable;
+use fc_types::Declarations;
 use std::alloc::Global;
 
 /// By how many pieces the first of some modules may grow. Fails only where a number has no 32 bits.
@@ -37,19 +44,49 @@ fn firsts_of(alloc: Global, modules: &[NModule]) -> Result<Vec<bool>, Memory>
     }
 }
 
-/// One round: def-dead, and then steps in each definition until none applies in it. Answers whether there was a step.
+/// Takes steps in the definitions of the first of some modules until none applies in any of them, where the outlines of the modules declare this: its types are read into a table,
+/// which serves for all these steps, since they leave what is declared as it is, but for right sides.
 #[tactic(auto, using(crate::proofs::First::same_rules))]
-fn round(alloc: Global, modules: &mut [NModule], log: &mut Seq<Entry>) -> Result<bool, Memory>
-    requires { FirstFits (nmodules_of modules.old) }
+fn settle_among(
+    alloc: Global,
+    modules: &mut [NModule],
+    declared: &Declarations<'_>,
+    log: &mut Seq<Entry>,
+) -> Result<(), Memory>
+    requires fits { FirstFits (nmodules_of modules.old) }
+    requires declared { modules_of declared.now ≡ decls_at (outlined_all (nmodules_of modules.old)) }
     ensures continues { Continues (nmodules_of modules.old) (nmodules_of modules.new) log.old log.new }
-    ensures fits { IfOk result (λ _. FirstFits (nmodules_of modules.new)) }
-    ensures quiet { IfOk result (λ b. IsFalse b → FirstIsQuiet (nmodules_of modules.new)) }
+    ensures settled { OnOk result (AllSettled (nmodules_of modules.new)) }
 {
-    let dropped = drop_unneeded(alloc, modules, log)?;
     let spare = spare_of(&*modules)?;
     let firsts = firsts_of(alloc, &*modules)?;
-    let settled = settle_all(alloc, modules, firsts.as_slice(), spare, log)?;
-    Ok(dropped || settled.stepped)
+    let mut types = TypeTable::new(alloc, &*declared);
+    let read = DeclaredTypes::new(alloc, &*declared, &mut types)?;
+    settle_rounds(
+        alloc,
+        modules,
+        firsts.as_slice(),
+        spare,
+        &mut types,
+        &read,
+        log,
+    )
+}
+
+/// Takes steps in the definitions of the first of some modules until none applies in any of them.
+#[tactic(auto, using(crate::proofs::First::same_rules))]
+fn settle_definitions(
+    alloc: Global,
+    modules: &mut [NModule],
+    log: &mut Seq<Entry>,
+) -> Result<(), Memory>
+    requires { FirstFits (nmodules_of modules.old) }
+    ensures continues { Continues (nmodules_of modules.old) (nmodules_of modules.new) log.old log.new }
+    ensures settled { OnOk result (AllSettled (nmodules_of modules.new)) }
+{
+    let outlined = outlines(alloc, &*modules)?;
+    let declared = Declarations::new(alloc, outlined.as_slice())?;
+    settle_among(alloc, modules, &declared, log)
 }
 
 /// Simplifies the first of some modules; the others are those that it imports, as their interfaces tell them. Rows of the rewrite table are taken, shrinking and commuting ones, until
@@ -62,8 +99,10 @@ pub fn simplify(alloc: Global, modules: &mut [NModule], log: &mut Seq<Entry>) ->
     ensures fits { OnOk result (FirstFits (nmodules_of modules.new)) }
     ensures quiet { OnOk result (FirstIsQuiet (nmodules_of modules.new)) }
 {
+    drop_unneeded(alloc, modules, log)?;
     for _ in 0..u64::MAX {
-        if !round(alloc, modules, log)? {
+        settle_definitions(alloc, modules, log)?;
+        if !drop_unneeded(alloc, modules, log)? {
             return Ok(());
         }
     }

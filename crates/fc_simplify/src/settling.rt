@@ -1,36 +1,43 @@
 //! Steps in a definition, and in all definitions, until none applies.
-ghost use Rattle.std.specs.Prelude.{◌≡◌, IfOk, IsFalse};
+ghost use Rattle.std.specs.Prelude.{◌≡◌, IfOk, IsFalse, OnOk};
 ghost use Rattle.fc_model.specs.NamelessView.{nmodules_of};
-ghost use Rattle.fc_simplify.specs.Phase.{AreSettled, Continues, FirstDefines, FirstHasSpare, FirstsAre, IsSettled, KeepsWords};
+ghost use Rattle.fc_type_table.specs.TypeTables.{Grows};
+ghost use Rattle.fc_simplify.specs.Phase.{AllSettled, AreSettled, Continues, FirstDefines, FirstHasSpare, FirstsAre, HaveHeaders, IsSettled, KeepsHeaders};
 
 use crate::taking::take_next;
+use fc_lint_context::DeclaredTypes;
 use fc_log::Entry;
 use fc_syntax::{Memory, NModule, Seq};
+use fc_type_table::TypeTable;
 use std::alloc::Global;
 
 /// What steps came to.
 #[derive(Clone, Copy)]
-pub(crate) struct Settled {
+struct Settled {
     /// By how many pieces the module may grow now.
-    pub(crate) spare: u32,
+    spare: u32,
     /// Whether there was a step.
-    pub(crate) stepped: bool,
+    stepped: bool,
 }
 
 /// Takes steps in the definition of a number of the first of some modules until none applies there: each search goes on where the last step was, and where nothing is found any more
 /// the whole is searched again. Fails as `take_next` does, and after 2^64 rounds.
 #[tactic(auto, using(crate::proofs::First::same_rules))]
-pub(crate) fn settle(
+fn settle(
     alloc: Global,
     modules: &mut [NModule],
     number: usize,
     spare: u32,
+    types: &mut TypeTable,
+    declared: &DeclaredTypes<'_>,
     log: &mut Seq<Entry>,
 ) -> Result<Settled, Memory>
     requires first { FirstDefines number (nmodules_of modules.old) }
     requires spare { FirstHasSpare spare (nmodules_of modules.old) }
+    requires headers { HaveHeaders types.old declared.now (nmodules_of modules.old) }
     ensures continues { Continues (nmodules_of modules.old) (nmodules_of modules.new) log.old log.new }
-    ensures words { KeepsWords (nmodules_of modules.old) (nmodules_of modules.new) }
+    ensures keeps { KeepsHeaders (nmodules_of modules.old) (nmodules_of modules.new) }
+    ensures grows { OnOk result (Grows types.old types.new) }
     ensures spare { IfOk result (λ s. FirstHasSpare s.spare (nmodules_of modules.new)) }
     ensures unchanged { IfOk result (λ s. IsFalse s.stepped → (modules.new ≡ modules.old) × (s.spare ≡ spare)) }
     ensures settled { IfOk result (λ s. IsFalse s.stepped → IsSettled spare number (nmodules_of modules.old)) }
@@ -41,7 +48,17 @@ pub(crate) fn settle(
         stepped: false,
     };
     for _ in 0..u64::MAX {
-        match take_next(alloc, modules, number, from.as_slice(), settled.spare, log)? {
+        let went = take_next(
+            alloc,
+            modules,
+            number,
+            from.as_slice(),
+            settled.spare,
+            types,
+            declared,
+            log,
+        )?;
+        match went {
             Some(went) => {
                 from = went.place;
                 settled = Settled {
@@ -58,16 +75,21 @@ pub(crate) fn settle(
 
 /// The same in each definition of the first of some modules that is the first of its word, as the marks tell.
 #[tactic(auto, using(crate::proofs::First::same_rules))]
-pub(crate) fn settle_all(
+fn settle_all(
     alloc: Global,
     modules: &mut [NModule],
     firsts: &[bool],
     spare: u32,
+    types: &mut TypeTable,
+    declared: &DeclaredTypes<'_>,
     log: &mut Seq<Entry>,
 ) -> Result<Settled, Memory>
     requires firsts { FirstsAre firsts.now (nmodules_of modules.old) }
     requires spare { FirstHasSpare spare (nmodules_of modules.old) }
+    requires headers { HaveHeaders types.old declared.now (nmodules_of modules.old) }
     ensures continues { Continues (nmodules_of modules.old) (nmodules_of modules.new) log.old log.new }
+    ensures keeps { OnOk result (KeepsHeaders (nmodules_of modules.old) (nmodules_of modules.new)) }
+    ensures grows { OnOk result (Grows types.old types.new) }
     ensures spare { IfOk result (λ s. FirstHasSpare s.spare (nmodules_of modules.new)) }
     ensures unchanged { IfOk result (λ s. IsFalse s.stepped → modules.new ≡ modules.old) }
     ensures settled { IfOk result (λ s. IsFalse s.stepped → AreSettled spare firsts.now (nmodules_of modules.old)) }
@@ -78,7 +100,7 @@ pub(crate) fn settle_all(
     };
     for (number, first) in firsts.iter().enumerate() {
         if *first {
-            let one = settle(alloc, modules, number, all.spare, log)?;
+            let one = settle(alloc, modules, number, all.spare, types, declared, log)?;
             all = Settled {
                 spare: one.spare,
                 stepped: all.stepped || one.stepped,
@@ -86,4 +108,32 @@ pub(crate) fn settle_all(
         }
     }
     Ok(all)
+}
+
+/// The same again and again, until no step is taken in any definition. Fails as `take_next` does, and after 2^64 rounds.
+#[tactic(auto, using(crate::proofs::First::same_rules))]
+pub(crate) fn settle_rounds(
+    alloc: Global,
+    modules: &mut [NModule],
+    firsts: &[bool],
+    spare: u32,
+    types: &mut TypeTable,
+    declared: &DeclaredTypes<'_>,
+    log: &mut Seq<Entry>,
+) -> Result<(), Memory>
+    requires firsts { FirstsAre firsts.now (nmodules_of modules.old) }
+    requires spare { FirstHasSpare spare (nmodules_of modules.old) }
+    requires headers { HaveHeaders types.old declared.now (nmodules_of modules.old) }
+    ensures continues { Continues (nmodules_of modules.old) (nmodules_of modules.new) log.old log.new }
+    ensures settled { OnOk result (AllSettled (nmodules_of modules.new)) }
+{
+    let mut spare = spare;
+    for _ in 0..u64::MAX {
+        let settled = settle_all(alloc, modules, firsts, spare, types, declared, log)?;
+        if !settled.stepped {
+            return Ok(());
+        }
+        spare = settled.spare;
+    }
+    Err(Memory)
 }

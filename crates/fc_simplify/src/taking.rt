@@ -1,20 +1,23 @@
 //! One step in a definition.
-ghost use Rattle.std.specs.Prelude.{◌≡◌, [], ◌∷◌, IfErr, IfOk, IfSome, None};
+ghost use Rattle.std.specs.Prelude.{◌≡◌, [], ◌∷◌, IfErr, IfOk, IfSome, None, OnOk};
 ghost use Rattle.std.specs.Option.{option_map};
 ghost use Rattle.fc_syntax.specs.View.{decl_of, expr_of};
 ghost use Rattle.fc_model.specs.NamelessView.{ndecl_of, nexpr_of, nmodules_of};
 ghost use Rattle.fc_places.specs.Places.{answered};
 ghost use Rattle.fc_apply.specs.Definitions.{HasDecl, exchanged_in_decl, right_side as spec_right_side};
-ghost use Rattle.fc_simplify.specs.Phase.{Continues, FirstDefines, FirstHasSpare, IsSettled, KeepsWords};
+ghost use Rattle.fc_type_table.specs.TypeTables.{Grows};
+ghost use Rattle.fc_simplify.specs.Phase.{Continues, FirstDefines, FirstHasSpare, HaveHeaders, IsSettled, KeepsHeaders};
 ghost use Rattle.fc_simplify.specs.Taking.{IsNext, IsNowhere, IsPut, word_of};
 
 use crate::steps::step_of;
+use fc_lint_context::DeclaredTypes;
 use fc_log::{Entry, Step};
 use fc_nameless_measures::measures_of_expr;
 use fc_numbers::sum;
 use fc_places::exchange;
-use fc_row_search::{Applying, first_row_in};
+use fc_row_search::{Applying, Search, first_row_in};
 use fc_syntax::{Memory, NDecl, NExpr, NModule, Seq, Text};
+use fc_type_table::TypeTable;
 use std::alloc::Global;
 
 /// How deep a right side may be: it is a part of its definition, which may be 500 deep.
@@ -50,16 +53,26 @@ fn next_step(
     number: usize,
     from: &[u32],
     spare: u32,
+    types: &mut TypeTable,
+    declared: &DeclaredTypes<'_>,
 ) -> Result<Option<(Applying, Step)>, Memory>
-    requires { HasDecl number modules.now }
+    requires number { HasDecl number modules.now }
+    requires headers { HaveHeaders types.old declared.now (nmodules_of modules.now) }
     ensures some { IfOk result (λ o. IfSome o (λ f. IsNext spare number f.0 f.1 (nmodules_of modules.now))) }
     ensures none { from.now ≡ [] → IfOk result (λ o. o ≡ None → IsSettled spare number (nmodules_of modules.now)) }
+    ensures grows { OnOk result (Grows types.old types.new) }
 {
     let module = &modules[0];
     let Some((word, right)) = definition(module.decls.at(number)) else {
         return Ok(None);
     };
-    match first_row_in(alloc, right, from, ROOM, spare, modules)? {
+    let search = Search {
+        right,
+        modules,
+        declared: &*declared,
+        spare,
+    };
+    match first_row_in(alloc, &search, from, ROOM, types)? {
         Some(found) => {
             let step = step_of(alloc, word, &found)?;
             Ok(Some((found, step)))
@@ -96,7 +109,8 @@ fn put_in_first(
 }
 
 /// Takes the next row that applies in the definition of a number, from a place on, and answers where; none where none is found, and then nothing has changed. The step is in the log
-/// before what the row made is in its place, so that the lines of the log always replay to what stands. Fails as `first_row_in` does, and where a size has no 32 bits.
+/// before what the row made is in its place, so that the lines of the log always replay to what stands. The table has the types of what is declared; where this does not fail, it has
+/// only grown. Fails as `first_row_in` does, and where a size has no 32 bits.
 #[tactic(auto, using(crate::proofs::First::same_rules))]
 pub(crate) fn take_next(
     alloc: Global,
@@ -104,17 +118,22 @@ pub(crate) fn take_next(
     number: usize,
     from: &[u32],
     spare: u32,
+    types: &mut TypeTable,
+    declared: &DeclaredTypes<'_>,
     log: &mut Seq<Entry>,
 ) -> Result<Option<Went>, Memory>
     requires first { FirstDefines number (nmodules_of modules.old) }
     requires spare { FirstHasSpare spare (nmodules_of modules.old) }
+    requires headers { HaveHeaders types.old declared.now (nmodules_of modules.old) }
     ensures continues { Continues (nmodules_of modules.old) (nmodules_of modules.new) log.old log.new }
-    ensures words { KeepsWords (nmodules_of modules.old) (nmodules_of modules.new) }
+    ensures keeps { KeepsHeaders (nmodules_of modules.old) (nmodules_of modules.new) }
+    ensures grows { OnOk result (Grows types.old types.new) }
     ensures spare { IfOk result (λ o. IfSome o (λ went. FirstHasSpare went.spare (nmodules_of modules.new))) }
     ensures unchanged { IfOk result (λ o. o ≡ None → modules.new ≡ modules.old) }
     ensures settled { from.now ≡ [] → IfOk result (λ o. o ≡ None → IsSettled spare number (nmodules_of modules.old)) }
 {
-    let Some((found, step)) = next_step(alloc, &*modules, number, from, spare)? else {
+    let Some((found, step)) = next_step(alloc, &*modules, number, from, spare, types, declared)?
+    else {
         return Ok(None);
     };
     let Applying { place, new, .. } = found;

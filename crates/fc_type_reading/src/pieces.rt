@@ -1,5 +1,5 @@
 //! What is read off of names, jumps, applications and casts.
-ghost use Rattle.std.specs.Prelude.{◌≡◌, List, Some, IfOk, IfSome, OnOk, OnSome};
+ghost use Rattle.std.specs.Prelude.{◌≡◌, List, Some, IfOk, IfSome, OnOk};
 ghost use Rattle.std.specs.Option.{option_map};
 ghost use Rattle.fc_model.specs.Calling.{from_some};
 ghost use Rattle.fc_model.specs.Coercing.{ends_or_fault};
@@ -76,8 +76,8 @@ pub fn applied_type(
     }
 }
 
-/// The type of a cast by a coercion: its right end. Nothing where the coercion is refused; what the table then has is left open. Fails only
-/// where memory runs out, and where a type of the coercion names a variable out of scope.
+/// The type of a cast by a coercion: its right end. Nothing where the coercion is refused. Fails only where memory runs out, and where a type
+/// of the coercion names a variable out of scope.
 pub(crate) fn cast_type(
     alloc: Global,
     g: &NCo,
@@ -87,7 +87,7 @@ pub(crate) fn cast_type(
     requires { IsContextOver types.old context.now }
     ensures valid { IfOk result (λ r. IfSome r (λ id. IsType types.new (scope_in context.now.scope) id)) }
     ensures view { IfOk result (λ r. option_map (λ id. shown types.new (scope_in context.now.scope) id) r ≡ right_end (answered (ends_or_fault (modules_of_context context.now) (context_in types.old context.now).kinds (context_in types.old context.now).coercions (nco_of g.now)))) }
-    ensures grows { IfOk result (λ r. OnSome r (Grows types.old types.new)) }
+    ensures grows { OnOk result (Grows types.old types.new) }
 {
     match ends_of(alloc, g, types, &*context) {
         Ok(ends) => Ok(Some(ends.right)),

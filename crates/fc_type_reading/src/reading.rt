@@ -1,5 +1,5 @@
 //! The type of an expression, read off.
-ghost use Rattle.std.specs.Prelude.{◌≡◌, [], ◌∷◌, IfOk, IfSome, OnSome};
+ghost use Rattle.std.specs.Prelude.{◌≡◌, [], ◌∷◌, IfOk, IfSome, OnOk};
 ghost use Rattle.std.specs.Option.{option_map};
 ghost use Rattle.fc_lint_context.specs.ContextViews.{IsContextOver, context_in, modules_of_context};
 ghost use Rattle.fc_lint_context.specs.LocalViews.{bind_types};
@@ -33,7 +33,7 @@ fn type_below(
     requires entered_in { IsEntered (nodes_of types.old) (scope_in context.now.scope) (nbinder_of binder.now ∷ []) entered.now }
     ensures valid { IfOk result (λ r. IfSome r (λ id. IsType types.new (kinds_past (nbinder_of binder.now ∷ []) (scope_in context.now.scope)) id)) }
     ensures view { IfOk result (λ r. option_map (λ id. shown types.new (kinds_past (nbinder_of binder.now ∷ []) (scope_in context.now.scope)) id) r ≡ words.type_read_off (modules_of_context context.now) (with_binder (nbinder_of binder.now) (context_in types.old context.now)) (nexpr_of body.now)) }
-    ensures grows { IfOk result (λ r. OnSome r (Grows types.old types.new)) }
+    ensures grows { OnOk result (Grows types.old types.new) }
 {
     let kinds = (&*entered).kinds_behind(&*context.scope.kinds);
     let inner = (&*context).behind_binders(&*entered, &kinds);
@@ -52,7 +52,7 @@ fn lambda_type(
     requires { IsContextOver types.old context.now }
     ensures valid { IfOk result (λ r. IfSome r (λ id. IsType types.new (scope_in context.now.scope) id)) }
     ensures view { IfOk result (λ r. option_map (λ id. shown types.new (scope_in context.now.scope) id) r ≡ words.type_read_off (modules_of_context context.now) (context_in types.old context.now) (NLam (nbinder_of binder.now) (nexpr_of body.now))) }
-    ensures grows { IfOk result (λ r. OnSome r (Grows types.old types.new)) }
+    ensures grows { OnOk result (Grows types.old types.new) }
 {
     let entered = context.scope.enter_one(alloc, binder, types)?;
     match type_below(alloc, body, binder, &entered, types, &*context)? {
@@ -81,7 +81,7 @@ fn type_behind_binds(
     requires all { shown_all types.old (scope_in context.now.scope) ids.now ≡ bind_types (nbinds_of binds.now) }
     ensures valid { IfOk result (λ r. IfSome r (λ id. IsType types.new (scope_in context.now.scope) id)) }
     ensures view { IfOk result (λ r. option_map (λ id. shown types.new (scope_in context.now.scope) id) r ≡ words.type_read_off (modules_of_context context.now) (with_binds (nbinds_of binds.now) (context_in types.old context.now)) (nexpr_of body.now)) }
-    ensures grows { IfOk result (λ r. OnSome r (Grows types.old types.new)) }
+    ensures grows { OnOk result (Grows types.old types.new) }
 {
     let inner = (&*context).behind_binds(&*ids);
     type_read_off(alloc, body, types, &inner)
@@ -100,7 +100,7 @@ fn let_type(
     requires { IsContextOver types.old context.now }
     ensures valid { IfOk result (λ r. IfSome r (λ id. IsType types.new (scope_in context.now.scope) id)) }
     ensures view { IfOk result (λ r. option_map (λ id. shown types.new (scope_in context.now.scope) id) r ≡ words.type_read_off (modules_of_context context.now) (context_in types.old context.now) (NLet recursive (nbinds_of binds.now) (nexpr_of body.now))) }
-    ensures grows { IfOk result (λ r. OnSome r (Grows types.old types.new)) }
+    ensures grows { OnOk result (Grows types.old types.new) }
 {
     let ids = context.types_of_binds(alloc, binds, types)?;
     type_behind_binds(alloc, body, binds, ids.as_slice(), types, &*context)
@@ -109,8 +109,7 @@ fn let_type(
 /// The type of an expression in a context, read off without judging its premises: the type that it has where it has one, and nothing where a
 /// part that the type is read off has none, or a coercion there is refused. Visited are the heads of applications, the bodies of lambdas and lets,
 /// the types of their binders, the type arguments that are put in, and the coercion of a cast, and nothing else. Fails only where memory runs
-/// out, and where a type that is read names a variable out of scope, as no type does of a module that has its names. Where nothing is answered,
-/// what the table then has is left open, as where a call on it fails.
+/// out, and where a type that is read names a variable out of scope, as no type does of a module that has its names.
 #[cycle(reading)]
 #[tactic(auto, using(fc_syntax::proofs::View::view_rules))]
 pub fn type_read_off(
@@ -122,7 +121,7 @@ pub fn type_read_off(
     requires { IsContextOver types.old context.now }
     ensures valid { IfOk result (λ r. IfSome r (λ id. IsType types.new (scope_in context.now.scope) id)) }
     ensures view { IfOk result (λ r. option_map (λ id. shown types.new (scope_in context.now.scope) id) r ≡ words.type_read_off (modules_of_context context.now) (context_in types.old context.now) (nexpr_of e.now)) }
-    ensures grows { IfOk result (λ r. OnSome r (Grows types.old types.new)) }
+    ensures grows { OnOk result (Grows types.old types.new) }
 {
     match e {
         NExpr::Var(Ref::Local(distance)) => judged_type(context.local(alloc, *distance)),

@@ -1,3 +1,4 @@
 pub mod Behind
 pub mod EndViews
+pub mod Refusals
 pub mod Scopes

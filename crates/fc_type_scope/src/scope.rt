@@ -12,6 +12,7 @@ ghost use Rattle.fc_model.specs.NamelessView.{nty_of};
 ghost use Rattle.fc_model.specs.Says.{Says};
 ghost use Rattle.fc_model.specs.Substituting.{has_innermost};
 ghost use Rattle.fc_model.specs.Typing.{is_star_found};
+ghost use Rattle.fc_type_scope.specs.Refusals.{OnFlaw};
 ghost use Rattle.fc_type_scope.specs.Scopes.{AreTypes, IsScope, scope_in, shown_all};
 ghost use Rattle.fc_type_table.specs.Names.{name_from};
 ghost use Rattle.fc_type_table.specs.TypeTables.{Grows, IsKindId, IsNumber, IsType, kind_shown, modules_in, shown};
@@ -72,6 +73,7 @@ impl TypeScope<'_> {
         ensures is_kind { IfOk result (λ k. IsKindId types.new k.kind) }
         ensures says { Says (λ k. kind_shown types.new k.kind) result (kind_or_fault (modules_in types.old) (scope_in self.now) (nty_of t.now)) }
         ensures grows { OnOk result (Grows types.old types.new) }
+        ensures refused { OnFlaw result (Grows types.old types.new) }
     {
         let ty = self.read(t, types)?;
         let kind = types.kind_or_fault(alloc, ty)?;
@@ -92,6 +94,7 @@ impl TypeScope<'_> {
         ensures is_kind { IfOk result (λ k. IsKindId types.new k.kind) }
         ensures says { Says (λ k. kind_shown types.new k.kind) result (under part (kind_or_fault (modules_in types.old) (scope_in self.now) (nty_of t.now))) }
         ensures grows { OnOk result (Grows types.old types.new) }
+        ensures refused { OnFlaw result (Grows types.old types.new) }
     {
         match self.kinded(alloc, t, types) {
             Ok(kinded) => Ok(kinded),

@@ -1,5 +1,6 @@
 use Rattle.std.proofs.Common.{◌≡◌, ◌+◌, ◌-◌, ◌*◌}
 use Rattle.fc_model.specs.NamelessView.{nexpr_of}
+use Rattle.fc_type_table.specs.TypeTables.{Grows}
 use Rattle.fc_search_laws.specs.Searching.{part_count}
 use Rattle.fc_row_search.specs.Spots.{parts_at}
 use Rattle.fc_row_search.proofs.walking.+searching.Given as goal
@@ -21,7 +22,11 @@ decreases-search_framed l = 5 * l.room + 2
 abbrev pub decreases-search_inside : goal.decreases-search_inside
 decreases-search_inside l = 5 * l.room + 1
 
--- what is still to be found
+-- what is still to be found, and the table grows
 abbrev pub invariant-search_parts-loop-number : goal.invariant-search_parts-loop-number
-invariant-search_parts-loop-number l =
-    parts_at l.spot l.room (part_count (nexpr_of l.e)) 0 l.fn.from (nexpr_of l.e) ≡ parts_at l.spot l.room (part_count (nexpr_of l.e) - l.number) l.number l.from (nexpr_of l.e)
+invariant-search_parts-loop-number l = record {
+  found :
+      parts_at l.spot l.room (part_count (nexpr_of l.e)) 0 l.fn.from (nexpr_of l.e)
+      ≡ parts_at l.spot l.room (part_count (nexpr_of l.e) - l.number) l.number l.from (nexpr_of l.e);
+  grows : Grows l.initial.types l.types;
+}

@@ -1,9 +1,14 @@
 use Rattle.std.proofs.Common.{rules}
 use Rattle.fc_model.specs.NamelessView.{nmodules_of}
+use Rattle.fc_type_table.proofs.Numbers.{Grows-further}
+use Rattle.fc_simplify.proofs.Keeping.{headers_both, headers_stay}
 use Rattle.fc_simplify.proofs.Logs.{continues_both}
-use Rattle.fc_simplify.proofs.Words.{keeps_both}
 use Rattle.fc_simplify.proofs.settling.settle.Goals.{in-Some, in-None-2}
 use Rattle.fc_simplify.proofs.settling.settle.Goals as goal
+
+pub take_next-requires-clause-headers : goal.take_next-requires-clause-headers
+take_next-requires-clause-headers c =
+    headers_stay c.args.types.now c.loop.types c.args.declared.now (nmodules_of c.args.modules.now) (nmodules_of c.loop.modules) c.loop.invariant.grows c.loop.invariant.keeps c.requires.headers
 
 pub returns-in_err-went-clause-continues : goal.returns-in_err-went-clause-continues
 returns-in_err-went-clause-continues c =
@@ -20,7 +25,8 @@ loop-preserved c =
     let now = nmodules_of c.take_next.new.modules in
     record {
       continues = continues_both before so_far now c.args.log.now c.loop.log c.take_next.new.log c.loop.invariant.continues c.in_ok-went.ensures.continues;
-      words = keeps_both before so_far now c.loop.invariant.words c.in_ok-went.ensures.words;
-      spare = elim c.match-branch-2.branch [ in-Some w ↦ search rules | in-None-2 w ↦ search rules ];
-      unchanged = elim c.match-branch-2.branch [ in-Some w ↦ search rules | in-None-2 w ↦ search rules ];
+      keeps = headers_both before so_far now c.loop.invariant.keeps c.in_ok-went.ensures.keeps;
+      grows = Grows-further c.args.types.now c.loop.types c.take_next.new.types c.loop.invariant.grows c.in_ok-went.ensures.grows;
+      spare = elim c.match-went.branch [ in-Some w ↦ search rules | in-None-2 w ↦ search rules ];
+      unchanged = elim c.match-went.branch [ in-Some w ↦ search rules | in-None-2 w ↦ search rules ];
     }

@@ -1,13 +1,15 @@
 use Rattle.std.proofs.Common.{◌≡◌, IsFalse}
 use Rattle.fc_model.specs.NamelessView.{nmodules_of}
-use Rattle.fc_simplify.specs.Phase.{Continues, FirstHasSpare, KeepsWords}
+use Rattle.fc_type_table.specs.TypeTables.{Grows}
+use Rattle.fc_simplify.specs.Phase.{Continues, FirstHasSpare, KeepsHeaders}
 use Rattle.fc_simplify.proofs.settling.settle.Given as goal
 
 -- what was done so far
 abbrev pub invariant-loop : goal.invariant-loop
 invariant-loop l = record {
   continues : Continues (nmodules_of l.fn.modules) (nmodules_of l.modules) l.fn.log l.log;
-  words : KeepsWords (nmodules_of l.fn.modules) (nmodules_of l.modules);
+  keeps : KeepsHeaders (nmodules_of l.fn.modules) (nmodules_of l.modules);
+  grows : Grows l.fn.types l.types;
   spare : FirstHasSpare l.settled.spare (nmodules_of l.modules);
   unchanged : IsFalse l.settled.stepped → (l.modules ≡ l.fn.modules) × (l.settled.spare ≡ l.spare);
 }

@@ -1,14 +1,20 @@
 use Rattle.std.proofs.Common.{rules}
 use Rattle.fc_model.specs.NamelessView.{nmodules_of}
+use Rattle.fc_type_table.proofs.Numbers.{Grows-further}
+use Rattle.fc_simplify.proofs.Keeping.{headers_both, headers_stay}
 use Rattle.fc_simplify.proofs.Logs.{continues_both}
 use Rattle.fc_simplify.proofs.Marked.{defines_first, settled_all, settled_more, settled_past}
-use Rattle.fc_simplify.proofs.Words.{keeps_both}
 use Rattle.fc_simplify.proofs.settling.settle_all.Goals.{then-first+in_ok-one+then-all, then-first+in_ok-one+else-all, else-first}
 use Rattle.fc_simplify.proofs.settling.settle_all.Goals as goal
 
 pub settle-requires-clause-first : goal.settle-requires-clause-first
 settle-requires-clause-first c =
-    defines_first (nmodules_of c.args.modules.now) (nmodules_of c.loop-number.modules) c.args.firsts.now c.loop-number.number c.requires.firsts c.loop-number.invariant.words c.loop-number-test.true c.if-first.true
+    defines_first (nmodules_of c.args.modules.now) (nmodules_of c.loop-number.modules) c.args.firsts.now c.loop-number.number c.requires.firsts c.loop-number.invariant.keeps.words c.loop-number-test.true c.if-first.true
+
+pub settle-requires-clause-headers : goal.settle-requires-clause-headers
+settle-requires-clause-headers c =
+    headers_stay c.args.types.now c.loop-number.types c.args.declared.now (nmodules_of c.args.modules.now) (nmodules_of c.loop-number.modules) c.loop-number.invariant.grows
+    c.loop-number.invariant.keeps c.requires.headers
 
 pub returns-in_err-one-clause-continues : goal.returns-in_err-one-clause-continues
 returns-in_err-one-clause-continues c =
@@ -24,21 +30,24 @@ loop-number-preserved c =
     elim c.if-first.branch [
       | then-first+in_ok-one+then-all w ↦ record {
         continues = continues_both before so_far (nmodules_of c.if-first.modules) c.args.log.now c.loop-number.log c.if-first.log c.loop-number.invariant.continues (search rules);
-        words = keeps_both before so_far (nmodules_of c.if-first.modules) c.loop-number.invariant.words (search rules);
+        keeps = headers_both before so_far (nmodules_of c.if-first.modules) c.loop-number.invariant.keeps (search rules);
+        grows = Grows-further c.args.types.now c.loop-number.types c.if-first.types c.loop-number.invariant.grows (search rules);
         spare = search rules;
         unchanged = search rules;
         settled = search rules;
       }
       | then-first+in_ok-one+else-all w ↦ record {
         continues = continues_both before so_far (nmodules_of c.if-first.modules) c.args.log.now c.loop-number.log c.if-first.log c.loop-number.invariant.continues (search rules);
-        words = keeps_both before so_far (nmodules_of c.if-first.modules) c.loop-number.invariant.words (search rules);
+        keeps = headers_both before so_far (nmodules_of c.if-first.modules) c.loop-number.invariant.keeps (search rules);
+        grows = Grows-further c.args.types.now c.loop-number.types c.if-first.types c.loop-number.invariant.grows (search rules);
         spare = search rules;
         unchanged = search rules;
         settled = λ false. settled_more c.args.spare marks c.args.modules.now number c.loop-number.all.spare c.loop-number.modules (search rules) (search rules) (search rules) (search rules);
       }
       | else-first w ↦ record {
         continues = search rules;
-        words = search rules;
+        keeps = search rules;
+        grows = search rules;
         spare = search rules;
         unchanged = search rules;
         settled = λ false. settled_past c.args.spare marks c.args.modules.now number (search rules) c.loop-number-test.true (search rules);

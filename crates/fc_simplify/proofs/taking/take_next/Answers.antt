@@ -9,8 +9,8 @@ use Rattle.fc_simplify.specs.Taking.{IsNext}
 use Rattle.fc_simplify.proofs.First.{first_there, not_nowhere_at, taken_at}
 use Rattle.fc_simplify.proofs.taking.take_next.Goals as goal
 
-pub next_step-requires : goal.next_step-requires
-next_step-requires c = first_there c.args.number c.args.modules.now c.requires.first
+pub next_step-requires-clause-number : goal.next_step-requires-clause-number
+next_step-requires-clause-number c = first_there c.args.number c.args.modules.now c.requires.first
 
 pub put_in_first-requires : goal.put_in_first-requires
 put_in_first-requires c = first_there c.args.number c.args.modules.now c.requires.first
@@ -22,8 +22,8 @@ returns-in_default-put_in_first-clause-continues c =
     let place : c.as_slice.result.now ≡ c.in-Some.found.place.items = search rules in
     absurd (not_nowhere_at c.args.spare c.args.number c.in-Some.found c.in-Some.step c.as_slice.result.now c.args.modules.now place next c.in_default-put_in_first.ensures.nowhere)
 
-pub returns-in_default-put_in_first-clause-words : goal.returns-in_default-put_in_first-clause-words
-returns-in_default-put_in_first-clause-words c =
+pub returns-in_default-put_in_first-clause-keeps : goal.returns-in_default-put_in_first-clause-keeps
+returns-in_default-put_in_first-clause-keeps c =
     let next : IsNext c.args.spare c.args.number c.in-Some.found c.in-Some.step (nmodules_of c.args.modules.now) = search rules in
     let place : c.as_slice.result.now ≡ c.in-Some.found.place.items = search rules in
     absurd (not_nowhere_at c.args.spare c.args.number c.in-Some.found c.in-Some.step c.as_slice.result.now c.args.modules.now place next c.in_default-put_in_first.ensures.nowhere)
@@ -48,12 +48,12 @@ returns-in_err-was-clause-continues c =
     let step = taken_at c.args.spare c.args.number c.in-Some.found c.in-Some.step (expr_of c.in-Ok.old) c.as_slice.result.now c.args.modules.now c.put_in_first.new.modules place c.requires.first c.requires.spare next c.in-Ok.ensures.put in
     subst (Continues (nmodules_of c.args.modules.now) (nmodules_of c.put_in_first.new.modules) c.args.log.now) (sym c.in_ok-push.ensures.ok) (step.continues c.args.log.now)
 
-pub returns-in_err-was-clause-words : goal.returns-in_err-was-clause-words
-returns-in_err-was-clause-words c =
+pub returns-in_err-was-clause-keeps : goal.returns-in_err-was-clause-keeps
+returns-in_err-was-clause-keeps c =
     let next : IsNext c.args.spare c.args.number c.in-Some.found c.in-Some.step (nmodules_of c.args.modules.now) = search rules in
     let place : c.as_slice.result.now ≡ c.in-Some.found.place.items = search rules in
     let step = taken_at c.args.spare c.args.number c.in-Some.found c.in-Some.step (expr_of c.in-Ok.old) c.as_slice.result.now c.args.modules.now c.put_in_first.new.modules place c.requires.first c.requires.spare next c.in-Ok.ensures.put in
-    step.words
+    step.keeps
 
 pub returns-in_err-spare-clause-continues : goal.returns-in_err-spare-clause-continues
 returns-in_err-spare-clause-continues c =
@@ -62,12 +62,12 @@ returns-in_err-spare-clause-continues c =
     let step = taken_at c.args.spare c.args.number c.in-Some.found c.in-Some.step (expr_of c.in-Ok.old) c.as_slice.result.now c.args.modules.now c.put_in_first.new.modules place c.requires.first c.requires.spare next c.in-Ok.ensures.put in
     subst (Continues (nmodules_of c.args.modules.now) (nmodules_of c.put_in_first.new.modules) c.args.log.now) (sym c.in_ok-push.ensures.ok) (step.continues c.args.log.now)
 
-pub returns-in_err-spare-clause-words : goal.returns-in_err-spare-clause-words
-returns-in_err-spare-clause-words c =
+pub returns-in_err-spare-clause-keeps : goal.returns-in_err-spare-clause-keeps
+returns-in_err-spare-clause-keeps c =
     let next : IsNext c.args.spare c.args.number c.in-Some.found c.in-Some.step (nmodules_of c.args.modules.now) = search rules in
     let place : c.as_slice.result.now ≡ c.in-Some.found.place.items = search rules in
     let step = taken_at c.args.spare c.args.number c.in-Some.found c.in-Some.step (expr_of c.in-Ok.old) c.as_slice.result.now c.args.modules.now c.put_in_first.new.modules place c.requires.first c.requires.spare next c.in-Ok.ensures.put in
-    step.words
+    step.keeps
 
 pub returns-clause-continues : goal.returns-clause-continues
 returns-clause-continues c =
@@ -76,12 +76,12 @@ returns-clause-continues c =
     let step = taken_at c.args.spare c.args.number c.in-Some.found c.in-Some.step (expr_of c.in-Ok.old) c.as_slice.result.now c.args.modules.now c.put_in_first.new.modules place c.requires.first c.requires.spare next c.in-Ok.ensures.put in
     subst (Continues (nmodules_of c.args.modules.now) (nmodules_of c.put_in_first.new.modules) c.args.log.now) (sym c.in_ok-push.ensures.ok) (step.continues c.args.log.now)
 
-pub returns-clause-words : goal.returns-clause-words
-returns-clause-words c =
+pub returns-clause-keeps : goal.returns-clause-keeps
+returns-clause-keeps c =
     let next : IsNext c.args.spare c.args.number c.in-Some.found c.in-Some.step (nmodules_of c.args.modules.now) = search rules in
     let place : c.as_slice.result.now ≡ c.in-Some.found.place.items = search rules in
     let step = taken_at c.args.spare c.args.number c.in-Some.found c.in-Some.step (expr_of c.in-Ok.old) c.as_slice.result.now c.args.modules.now c.put_in_first.new.modules place c.requires.first c.requires.spare next c.in-Ok.ensures.put in
-    step.words
+    step.keeps
 
 -- sizes are those that were measured
 pub overflow_sub-spare : goal.overflow_sub-spare

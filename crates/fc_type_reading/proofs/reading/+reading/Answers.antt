@@ -11,7 +11,7 @@ use Rattle.fc_type_scope.proofs.ScopeKinds.{scope_grows}
 use Rattle.fc_type_scope.specs.Behind.{kinds_past}
 use Rattle.fc_type_scope.specs.Scopes.{AreTypesAt, scope_in, shown_all_at}
 use Rattle.fc_type_table.proofs.Numbers.{Grows-further}
-use Rattle.fc_type_table.specs.TypeTables.{Grows, nodes_of, shown}
+use Rattle.fc_type_table.specs.TypeTables.{nodes_of, shown}
 use Rattle.fc_type_table.specs.declared.node.TypeId.{TypeId}
 use Rattle.fc_type_reading.proofs.reading.+reading.Goals as goal
 
@@ -36,16 +36,12 @@ lambda_type-function_over_one-requires-clause-scope t c =
     let first = c.args.types.now in
     let mid = c.enter_one.new.types in
     let below = c.type_below.new.types in
-    let grows : Grows mid below = search rules in
-    let further : Grows first below = Grows-further first mid below c.in_ok-entered.ensures.grows grows in
+    let further = Grows-further first mid below c.in_ok-entered.ensures.grows c.in_ok-type_below.ensures.grows in
     scope_grows (nodes_of first) (nodes_of below) c.args.context.now.scope.kinds.now further.nodes c.requires.valid.scope
 
 pub lambda_type-function_over_one-requires-clause-entered_in : goal.lambda_type-function_over_one-requires-clause-entered_in
 lambda_type-function_over_one-requires-clause-entered_in t c =
-    let mid = c.enter_one.new.types in
-    let below = c.type_below.new.types in
-    let grows : Grows mid below = search rules in
-    IsEntered-grows mid below (scope_in c.args.context.now.scope) (nbinder_of c.args.binder.now ∷ []) c.in_ok-entered.entered grows c.in_ok-entered.ensures.entered
+    IsEntered-grows c.enter_one.new.types c.type_below.new.types (scope_in c.args.context.now.scope) (nbinder_of c.args.binder.now ∷ []) c.in_ok-entered.entered c.in_ok-type_below.ensures.grows c.in_ok-entered.ensures.entered
 
 pub lambda_type-returns-clause-view : goal.lambda_type-returns-clause-view
 lambda_type-returns-clause-view t c =
@@ -87,7 +83,4 @@ let_type-returns-clause-view t c =
 
 pub type_read_off-applied_type-requires-clause-scope : goal.type_read_off-applied_type-requires-clause-scope
 type_read_off-applied_type-requires-clause-scope t c =
-    let old = c.args.types.now in
-    let new = c.type_read_off.new.types in
-    let grows : Grows old new = search rules in
-    scope_grows (nodes_of old) (nodes_of new) c.args.context.now.scope.kinds.now grows.nodes c.requires.valid.scope
+    scope_grows (nodes_of c.args.types.now) (nodes_of c.type_read_off.new.types) c.args.context.now.scope.kinds.now c.in_ok-type_read_off-in-App.ensures.grows.nodes c.requires.valid.scope

@@ -17,7 +17,7 @@ use Rattle.fc_model.specs.Nameless.{NCo, NGVar, NGRefl, NGSym, NGTrans, NGTc, NG
 use Rattle.fc_model.proofs.Parts.{both_same}
 use Rattle.fc_outlines.specs.Headers.{DeclareAlike}
 use Rattle.fc_outlines.proofs.Alike.{families_alike, kinds_alike, parts_alike, roles_alike}
-use Rattle.fc_rows_by_headers.proofs.KindsTold.{kind_told, kinded_told, of_kind_told, of_kinds_told, one_kind_told, one_value_kind_told, value_type_told}
+use Rattle.fc_row_at_place.proofs.KindsTold.{kind_told, kinded_told, of_kind_told, of_kinds_told, one_kind_told, one_value_kind_told, value_type_told}
 
 -- a part that is judged the same, and then what is the same
 part_same : {X Y : Type 0} (i : ℕ) {r s : Result X F} {f g : X → Result Y F} → r ≡ s → ((x : X) → f x ≡ g x) → and_then (under i r) f ≡ and_then (under i s) g

@@ -16,8 +16,7 @@ use Rattle.fc_rows.specs.Changing.{made}
 use Rattle.fc_rows.specs.Commuting.{name_field}
 use Rattle.fc_rows.specs.Shrinking.{alternative_of, are_trivial, at_constructor, at_variable, beta, case_known, case_of_constructor, case_of_known, case_of_variable, cast_refl, fail_absorb, if_equal, without_first}
 use Rattle.fc_rows.specs.Surroundings.{Known, Is, Surroundings}
-use Rattle.fc_rows_by_headers.specs.ByHeaders.{EndsByHeaders, RowsByHeaders, TypesByHeaders}
-use Rattle.fc_rows_by_headers.proofs.EndsTold.{ends_told}
+use Rattle.fc_row_at_place.proofs.EndsTold.{ends_told}
 
 module _ (ms ns : Modules) (same : SameHeaders ms ns) where
   -- TYPES
@@ -79,21 +78,10 @@ module _ (ms ns : Modules) (same : SameHeaders ms ns) where
   field_told (NLet false (MoreNBinds (NBound t (NCon n args)) NoNBinds) b) = rw (same.alike.constructors n.module n.text) refl
   field_told e = refl
 
-  row_told : (r : Row) (i : ℕ) (s : Surroundings) (e : NExpr) → built_row ms r i s e ≡ built_row ns r i s e
+  pub row_told : (r : Row) (i : ℕ) (s : Surroundings) (e : NExpr) → built_row ms r i s e ≡ built_row ns r i s e
   row_told row.Beta i s e = beta_told s e
   row_told row.CaseKnown i s e = case_within_told s e
   row_told row.FailAbsorb i s e = fail_told s e
   row_told row.CastRefl i s e = cast_told s e
   row_told row.NameField i s e = field_told e
   row_told r i s e = refl
-
--- THE LAWS
-
-pub ends_by_headers : EndsByHeaders
-ends_by_headers ms ns same = ends_told ms ns same.alike
-
-pub types_by_headers : TypesByHeaders
-types_by_headers ms ns same = type_told ms ns same
-
-pub rows_by_headers : RowsByHeaders
-rows_by_headers ms ns same = row_told ms ns same

@@ -1,3 +1,0 @@
-mod KindsTold
-mod EndsTold
-mod RowsTold
