@@ -17,6 +17,7 @@ use Rattle.fc_reaching.specs.Numbering.{word_of}
 use Rattle.fc_replayed_sets.specs.Faithful.{CanBeWritten}
 use Rattle.fc_replayed_sets.specs.Replays.{AreReplays, IsReplay, TellsAnything, no_replays, one_replay}
 use Rattle.fc_replayed_sets.proofs.FormedLeft.{has_module_name}
+use Rattle.fc_rows.specs.ResultLimits.{IsWithinLimits}
 use Rattle.fc_rows.specs.Telling.{reached_by_imports, told_module}
 use Rattle.fc_rows_formed.proofs.HeadersFormed.{told_is_formed}
 use Rattle.fc_syntax.specs.Tree.{Word, Module}
@@ -64,6 +65,7 @@ next_is_writable order before n ns can l k is =
 pub next_can_be_built : (order : List Word) (before : List NModule) (n : NModule) (ns : List NModule) → CanBeBuiltInOrder order before (n ∷ ns) → CanBeBuilt order before n
 next_can_be_built order before n ns can = record {
   formed = All-cons IsFormedModule n before (All-head IsFormedModule n ns can.formed) can.told;
+  within = All-head IsWithinLimits n ns can.within;
   writable = next_is_writable order before n ns can;
 }
 
@@ -72,6 +74,7 @@ rest_can_be_built : (grow : ℕ) (order : List Word) (before : List NModule) (n 
     → (is : IsMade grow order before n m i l) → CanBeBuiltInOrder order (told_module (told_in i) is.form ∷ before) ns
 rest_can_be_built grow order before n ns m i l can is = record {
   formed = All-tail IsFormedModule n ns can.formed;
+  within = All-tail IsWithinLimits n ns can.within;
   told = All-cons IsFormedModule (told_module (told_in i) is.form) before (told_is_formed (told_in i) is.form (next_is_writable order before n ns can l is.form is.replay).formed) can.told;
   writable = λ ls ks are. All-tail CanBeWritten is.form ks (can.writable (l ∷ ls) (is.form ∷ ks) (one_replay (told_in i) is.replay tt are));
 }

@@ -13,16 +13,20 @@ use Rattle.fc_model.specs.Headers.{name_of}
 use Rattle.fc_model.specs.Linting.{SetLints, nameless_forms}
 use Rattle.fc_model.specs.Nameless.{NModule}
 use Rattle.fc_model.specs.NamelessView.{nmodules_of}
+use Rattle.fc_load.specs.Loading.{IsWithinReadLimits}
 use Rattle.fc_model.specs.Planning.{build_order}
+use Rattle.fc_model.specs.ResolutionRules.{Resolves}
 use Rattle.fc_printer.proofs.ReadBack.{canonical_spells}
 use Rattle.fc_product.specs.Interfaces.{TellsInterface, told_in}
 use Rattle.fc_product.specs.Products.{IsMade}
 use Rattle.fc_reaching.specs.Numbering.{word_of}
 use Rattle.fc_replayed_sets.specs.Replays.{AreOptimised, AreReplays, Telling, TellsAnything, no_replays, one_replay}
-use Rattle.fc_replayed_sets.proofs.Forms.{form_names, resolved_forms, set_resolves}
+use Rattle.fc_replayed_sets.proofs.Forms.{each_form, form_names, resolved_forms, set_resolves}
 use Rattle.fc_replayed_sets.proofs.Ordered.{order_keeps, picked}
 use Rattle.fc_replayed_sets.proofs.NoneLarger.{none_is_larger}
 use Rattle.fc_replayed_sets.proofs.ReplayedSets.{read_are_formed, replayed_sets_are_faithful, replays_can_be_written}
+use Rattle.fc_resolved_sizes.proofs.WithinLimits.{read_are_within_limits}
+use Rattle.fc_rows.specs.ResultLimits.{IsWithinLimits}
 use Rattle.fc_rows.specs.Telling.{told_module}
 use Rattle.fc_set_rules.specs.FormsDecide.{AllResolve, none_resolve, one_resolves}
 use Rattle.fc_words.specs.declared.Tuning.{Tuning}
@@ -132,6 +136,10 @@ made_of_set asked grow set steps ready are =
     subst (λ ns. AreStepsMade asked grow (map name_of (build_order (modules_in set))) [] ns steps) ready.forms
     (subst (λ order. AreStepsMade asked grow order [] (nmodules_of set.forms.items) steps) (names_read set ready) are)
 
+-- what is read is within the limits on results
+read_is_within : (m : Module) (n : NModule) → Resolves m n → IsWithinReadLimits m → IsWithinLimits n
+read_is_within m n resolves within = read_are_within_limits m n within.shallow within.small resolves
+
 -- all modules of a set that is ready can be built
 pub set_can_be_built : (set : Set) → IsReadySet set → CanBeBuiltInOrder (map word_of (nmodules_of set.forms.items)) [] (nmodules_of set.forms.items)
 set_can_be_built set ready =
@@ -139,6 +147,7 @@ set_can_be_built set ready =
     let formed = order_keeps IsFormed ms ready.ready.formed in
     let forms : CanBeBuiltInOrder (map name_of (build_order ms)) [] (nameless_forms (build_order ms)) = record {
       formed = read_are_formed (build_order ms) ready.ready.lints formed;
+      within = each_form IsWithinReadLimits IsWithinLimits read_is_within (set_resolves (build_order ms) ready.ready.lints) (order_keeps IsWithinReadLimits ms ready.ready.within);
       told = All-nil IsFormedModule;
       writable = replays_can_be_written ms ready.ready.lints formed;
     } in

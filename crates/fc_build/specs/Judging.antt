@@ -9,6 +9,7 @@ use Rattle.fc_model.specs.Formed.{IsFormed}
 use Rattle.fc_model.specs.Linting.{SetLints, nameless_forms}
 use Rattle.fc_model.specs.NamelessView.{nmodules_of}
 use Rattle.fc_model.specs.Planning.{build_order, plan_fault}
+use Rattle.fc_load.specs.Loading.{IsWithinReadLimits}
 use Rattle.fc_load.specs.Answers.{IsAmong, IsReached}
 use Rattle.fc_build.specs.Acceptance.{Accepted, FaultOfSet, FirstFault, IsFaultOfFiles, IsSetOf}
 use Rattle.fc_build.specs.declared.judge.Judged.{Judged}
@@ -40,9 +41,10 @@ IsOfFiles files (judged.Refused f) = IsFaultOfFiles files f
 IsOfFiles files (judged.ReadFault name) = (length files ≤ standard_limits.modules) × IsAmong files name.now
 IsOfFiles files judged.Memory = ⊤
 
--- the modules of a set have words of their forms, and lint in the order in which they are built
+-- the modules of a set have words of their forms, are within the limits on what is read, and lint in the order in which they are built
 pub record IsReady (ms : List Module) : Type 0 where
   pub formed : All IsFormed ms
+  pub within : All IsWithinReadLimits ms
   pub lints : SetLints (build_order ms)
 
 -- an accepted set is ready, its order is the one in which its modules are built, and its nameless forms are those of the modules in that order

@@ -11,6 +11,7 @@ use Rattle.fc_product.specs.Products.{IsMade}
 use Rattle.fc_reaching.specs.Numbering.{word_of}
 use Rattle.fc_replayed_sets.specs.Faithful.{CanBeWritten}
 use Rattle.fc_replayed_sets.specs.Replays.{AreReplays, TellsAnything}
+use Rattle.fc_rows.specs.ResultLimits.{IsWithinLimits}
 use Rattle.fc_rows.specs.Telling.{told_module}
 use Rattle.fc_syntax.specs.Tree.{Word, Module}
 use Rattle.fc_words.specs.Asking.{Order, Building, Explaining, Linting}
@@ -18,9 +19,10 @@ use Rattle.fc_build.specs.Judging.{modules_in}
 use Rattle.fc_build.specs.Product.{Step, built_step, explained_step, linted_step}
 use Rattle.fc_build.specs.declared.judge.Set.{Set}
 
--- modules can be built, one after the other, behind others: all are of the text form, and whatever logs leave of them can be written
+-- modules can be built, one after the other, behind others: all are of the text form, those to be built are within the limits on results, and whatever logs leave of them can be written
 pub record CanBeBuiltInOrder (order : List Word) (before ns : List NModule) : Type 0 where
   pub formed : All IsFormedModule ns
+  pub within : All IsWithinLimits ns
   pub told : All IsFormedModule before
   pub writable : (ls : List Log) (ks : List NModule) → AreReplays order TellsAnything before ls ns ks → All CanBeWritten ks
 

@@ -5,6 +5,7 @@ ghost use Rattle.fc_files.specs.Outside.{Rose};
 ghost use Rattle.fc_syntax.specs.Limits.{standard_limits};
 ghost use Rattle.fc_syntax.specs.View.{module_of};
 ghost use Rattle.fc_model.specs.Formed.{IsFormed};
+ghost use Rattle.fc_load.specs.Loading.{IsWithinReadLimits};
 ghost use Rattle.fc_model.specs.Planning.{build_order, of_file as fault_of_file, plan_fault};
 ghost use Rattle.fc_build.specs.Acceptance.{of_module as fault_of_module};
 ghost use Rattle.fc_build.specs.Judging.{IsOfFiles, IsReadFault, IsReadyAnswer, Judges, JudgesSet};
@@ -101,6 +102,7 @@ fn refused<'a>(fault: Result<Fault, Memory>) -> Judged<'a>
 /// Judges each module of a set, in the order in which they are built, and against all of them.
 fn judge_in_order<'a>(alloc: Global, modules: Vec<Module>, order: Seq<usize>) -> Judged<'a>
     requires formed { All IsFormed (map module_of modules.items) }
+    requires within { All IsWithinReadLimits (map module_of modules.items) }
     requires planned { plan_fault (map module_of modules.items) ≡ None }
     requires order { map (slice_get (map module_of modules.items)) order ≡ map Some (build_order (map module_of modules.items)) }
     ensures judged { JudgesSet (map module_of modules.items) result }
@@ -119,7 +121,8 @@ fn judge_in_order<'a>(alloc: Global, modules: Vec<Module>, order: Seq<usize>) ->
 
 /// Judges modules that were read: the set as a whole, and then every premise of Lint.
 fn judge_set<'a>(alloc: Global, modules: Vec<Module>) -> Judged<'a>
-    requires { All IsFormed (map module_of modules.items) }
+    requires formed { All IsFormed (map module_of modules.items) }
+    requires within { All IsWithinReadLimits (map module_of modules.items) }
     ensures judged { JudgesSet (map module_of modules.items) result }
     ensures ready { IsReadyAnswer result }
 {

@@ -5,7 +5,7 @@ use Rattle.fc_files.specs.Outside.{FileMap}
 use Rattle.fc_syntax.specs.Tree.{Module}
 use Rattle.fc_syntax.specs.View.{module_of}
 use Rattle.fc_model.specs.Formed.{IsFormed}
-use Rattle.fc_load.specs.Loading.{AllReadTo, FaultOfReading, nothing_read}
+use Rattle.fc_load.specs.Loading.{AllReadTo, FaultOfReading, IsWithinReadLimits, nothing_read}
 use Rattle.fc_load.specs.declared.loading.Loaded.{Loaded}
 use Rattle.fc_load.specs.declared.loading.Loaded.TheVariants as loaded
 
@@ -30,6 +30,13 @@ AreFormed (loaded.Modules ms) = All IsFormed (map module_of ms.items)
 AreFormed (loaded.Refused f) = ⊤
 AreFormed (loaded.ReadFault name) = ⊤
 AreFormed loaded.Memory = ⊤
+
+-- the modules that were read are within the limits on what is read
+abbrev pub AreWithinLimits : Loaded → Type 0
+AreWithinLimits (loaded.Modules ms) = All IsWithinReadLimits (map module_of ms.items)
+AreWithinLimits (loaded.Refused f) = ⊤
+AreWithinLimits (loaded.ReadFault name) = ⊤
+AreWithinLimits loaded.Memory = ⊤
 
 -- this is one of the files
 abbrev pub IsAmong : List (List ℕ) → List ℕ → Type 0

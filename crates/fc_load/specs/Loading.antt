@@ -1,13 +1,15 @@
 -- What files hold, read one after the other as the modules of a set, and the first fault of reading.
 use Rattle.std.specs.Prelude.{◌≡◌, ◌≤◌, ◌<◌, ◌+◌, ◌-◌, ℕ, List, [], ◌∷◌, Option, Some, None, length, min}
+use Rattle.std.specs.List.{All}
 use Rattle.fc_syntax.specs.Limits.{standard_limits}
-use Rattle.fc_syntax.specs.Measures.{size_of}
+use Rattle.fc_syntax.specs.Measures.{depth_of, size_of}
 use Rattle.fc_syntax.specs.Tokens.{ByteFault}
 use Rattle.fc_syntax.specs.Tree.{Module}
 use Rattle.fc_syntax.specs.declared.fault.Fault.{Fault}
 use Rattle.fc_syntax.specs.declared.fault.FaultKind.TheVariants as kind
 use Rattle.fc_syntax.specs.declared.fault.Place.TheVariants as place
 use Rattle.fc_model.specs.FileForms.{ModuleFile}
+use Rattle.fc_model.specs.Headers.{decls_in}
 use Rattle.fc_model.specs.Planning.{of_file}
 use Rattle.fc_model.specs.ReadFaults.{FirstReadFault, ReadsTo}
 
@@ -47,6 +49,11 @@ pub data AllReadTo (held : Holding) : Amount → List (List ℕ) → List Module
   no_files : {read : Amount} → AllReadTo held read [] []
   one_file : {read : Amount} {file bytes : List ℕ} {m : Module} {files : List (List ℕ)} {ms : List Module} → FileReadsTo held read file bytes m
       → AllReadTo held (with_file read bytes m) files ms → AllReadTo held read (file ∷ files) (m ∷ ms)
+
+-- whatever was read before: no declaration is deeper than one may be, and all together are no larger than those of a whole set
+pub record IsWithinReadLimits (m : Module) : Type 0 where
+  pub shallow : All (λ d. depth_of d ≤ standard_limits.depth) (decls_in m)
+  pub small : size_of m ≤ standard_limits.size
 
 -- THE FIRST FAULT
 

@@ -7,7 +7,7 @@ use Rattle.fc_model.specs.FileForms.{ModuleFile}
 use Rattle.fc_model.specs.Formed.{IsFormed}
 use Rattle.fc_model.specs.ReadFaults.{ReadsTo}
 use Rattle.fc_load.specs.Amounts.{amount_of}
-use Rattle.fc_load.specs.Loading.{Amount, FaultOfBytes, FaultOfEntry, FileReadsTo, room_for_size, with_file}
+use Rattle.fc_load.specs.Loading.{Amount, FaultOfBytes, FaultOfEntry, FileReadsTo, IsWithinReadLimits, room_for_size, with_file}
 use Rattle.fc_load.specs.declared.one_file.LoadedFile.{LoadedFile}
 use Rattle.fc_load.specs.declared.one_file.LoadedFile.TheVariants as one
 
@@ -37,6 +37,13 @@ IsFormedOne (one.Module m after) = IsFormed (module_of m)
 IsFormedOne (one.Refused f) = ⊤
 IsFormedOne one.ReadFault = ⊤
 IsFormedOne one.Memory = ⊤
+
+-- the module that was read is within the limits on what is read
+abbrev pub IsWithinOne : LoadedFile → Type 0
+IsWithinOne (one.Module m after) = IsWithinReadLimits (module_of m)
+IsWithinOne (one.Refused f) = ⊤
+IsWithinOne one.ReadFault = ⊤
+IsWithinOne one.Memory = ⊤
 
 -- a fault has the name of the file, whatever that holds
 abbrev pub IsOfFile : List ℕ → LoadedFile → Type 0

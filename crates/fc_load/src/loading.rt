@@ -1,7 +1,7 @@
 //! The files of a set, one after the other.
 ghost use Rattle.std.specs.Prelude.{◌≡◌, ◌≤◌, IfSome, map};
 ghost use Rattle.fc_files.specs.Outside.{Rose};
-ghost use Rattle.fc_load.specs.Answers.{AreFormed, IsOfFiles, Loads};
+ghost use Rattle.fc_load.specs.Answers.{AreFormed, AreWithinLimits, IsOfFiles, Loads};
 
 use crate::amount::Read;
 use crate::one_file::{LoadedFile, load_one};
@@ -34,6 +34,7 @@ pub fn load<'a, F: Files>(alloc: Global, files: &mut F, names: &[&'a str]) -> Lo
     ensures answer { IfSome (F.held files.old) (λ m. Loads m (map (λ s. s.now) names.now) result) }
     ensures named { IsOfFiles (map (λ s. s.now) names.now) result }
     ensures formed { AreFormed result }
+    ensures limits { AreWithinLimits result }
 {
     let mut modules = Vec::new(alloc);
     let mut read = Read::nothing();

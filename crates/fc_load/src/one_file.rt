@@ -4,7 +4,7 @@ ghost use Rattle.fc_files.specs.Outside.{Rose};
 ghost use Rattle.fc_model.specs.Planning.{of_file as fault_of_file};
 ghost use Rattle.fc_load.specs.Amounts.{amount_of};
 ghost use Rattle.fc_load.specs.Loading.{room_for_bytes};
-ghost use Rattle.fc_load.specs.OneFile.{IsFormedOne, IsOfFile, LoadsBytes, LoadsOne};
+ghost use Rattle.fc_load.specs.OneFile.{IsFormedOne, IsOfFile, IsWithinOne, LoadsBytes, LoadsOne};
 
 use crate::amount::Read;
 use fc_files::{Files, ReadAnswer};
@@ -55,6 +55,7 @@ fn load_bytes(alloc: Global, file: &str, bytes: Vec<u8>, read: Read) -> LoadedFi
     ensures answer { LoadsBytes (amount_of read) file.now bytes.items result }
     ensures named { IsOfFile file.now result }
     ensures formed { IsFormedOne result }
+    ensures limits { IsWithinOne result }
 {
     let count = bytes.len() as u32;
     let spelled = read_module(alloc, file, &bytes, read.size_left());
@@ -78,6 +79,7 @@ pub(crate) fn load_one<F: Files>(alloc: Global, files: &mut F, file: &str, read:
     ensures answer { IfSome (F.held files.old) (λ m. LoadsOne m (amount_of read) file.now result) }
     ensures named { IsOfFile file.now result }
     ensures formed { IsFormedOne result }
+    ensures limits { IsWithinOne result }
 {
     let most = read.bytes_left();
     match files.read(alloc, file, most as u64) {

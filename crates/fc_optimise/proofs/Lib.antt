@@ -1,2 +1,1 @@
-mod First
 mod Made

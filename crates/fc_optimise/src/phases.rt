@@ -1,6 +1,5 @@
 //! The phases of a build, one after the other.
-ghost use Rattle.std.specs.Prelude.{◌≡◌, ◌↔◌, IfOk, IsTrue, OnOk, map};
-ghost use Rattle.fc_log.specs.declared.log.Entry.TheVariants as entry_kind;
+ghost use Rattle.std.specs.Prelude.{IfOk, IsTrue, OnOk};
 ghost use Rattle.fc_model.specs.NamelessView.{nmodules_of};
 ghost use Rattle.fc_apply.specs.Steps.{FirstFits};
 ghost use Rattle.fc_simplify.specs.Phase.{Continues, FirstIsQuiet};
@@ -8,7 +7,6 @@ ghost use Rattle.fc_optimise.specs.Optimised.{FirstIsMadeBy, FirstIsOptimised};
 ghost use Rattle.fc_optimise.specs.Phases.{RunsPhase};
 
 use fc_log::{Entry, Phase};
-use fc_result_limits::is_within_limits;
 use fc_simplify::simplify;
 use fc_syntax::{Memory, NModule, Seq};
 use std::alloc::Global;
@@ -92,37 +90,13 @@ fn run_phases(
     Ok(log)
 }
 
-/// The marks that end phases, one after the other.
-fn marks_of(alloc: Global, phases: &[Phase]) -> Result<Seq<Entry>, Memory>
-    ensures { IfOk result (λ entries. entries ≡ map entry_kind.Mark phases.now) }
-{
-    let mut entries = Seq::new(alloc);
-    for phase in phases {
-        entries.push(Entry::Mark(*phase))?;
-    }
-    Ok(entries)
-}
-
-/// Whether the first of some modules is within the limits on results. Fails only where a number has no 32 bits.
-fn first_fits(modules: &[NModule]) -> Result<bool, Memory>
-    ensures { IfOk result (λ b. IsTrue b ↔ FirstFits (nmodules_of modules.now)) }
-{
-    match modules.first() {
-        Some(module) => is_within_limits(module),
-        None => Ok(true),
-    }
-}
-
 /// Takes the first of some modules through the phases of a build, and answers what was done to it; the others are those that its imports reach, as their interfaces tell them. Each step
-/// is of a shrinking or a commuting row, and where a simplify phase ends none of these rows applies any more. The other phases have no rows yet. A module beyond the limits on results is
-/// left as it is, since nothing could be made of it; no module that was read is. Fails only where memory runs out, a type names a variable out of scope, a number has no 32 bits, or after
+/// is of a shrinking or a commuting row, and where a simplify phase ends none of these rows applies any more. The other phases have no rows yet. The module must be
+/// within the limits on results, as every module is that was read, and what is made of it is. Fails only where memory runs out, a type names a variable out of scope, a number has no 32 bits, or after
 /// 2^64 rounds; what the first module is then is not told.
 pub fn optimise(alloc: Global, modules: &mut [NModule]) -> Result<Seq<Entry>, Memory>
+    requires { FirstFits (nmodules_of modules.old) }
     ensures { IfOk result (λ es. FirstIsOptimised es (nmodules_of modules.old) (nmodules_of modules.new)) }
 {
-    if first_fits(&*modules)? {
-        run_phases(alloc, PHASES.as_slice(), modules)
-    } else {
-        marks_of(alloc, PHASES.as_slice())
-    }
+    run_phases(alloc, PHASES.as_slice(), modules)
 }

@@ -18,17 +18,17 @@ use Rattle.fc_replayed_sets.specs.Replays.{IsReplay}
 use Rattle.fc_product.specs.Interfaces.{IsInterfaceFor, told_in}
 use Rattle.fc_product.specs.declared.making.Product.{Product}
 
--- Modules can be built among others: it and these are of the text form, and whatever its log, what it leaves can be written.
+-- Modules can be built among others: it and these are of the text form, it is within the limits on results, and whatever its log, what it leaves can be written.
 pub record CanBeBuilt (order : List Word) (before : List NModule) (read : NModule) : Type 0 where
   pub formed : All IsFormedModule (read ∷ before)
+  pub within : IsWithinLimits read
   pub writable : (l : Log) (k : NModule) → IsReplay order before l read k → CanBeWritten k
 
--- A named module with its interface and its log is a replay of one that was read. If that is within the limits on results, no shrinking and no commuting row applies to what
--- stands where a simplify phase ends.
+-- A named module with its interface and its log is a replay of one that was read. No shrinking and no commuting row applies to what stands where a simplify phase ends.
 pub record IsMade (grow : ℕ) (order : List Word) (before : List NModule) (read : NModule) (m : Module) (i : Interface) (l : Log) : Type 0 where
   pub form : NModule
   pub replay : IsReplay order before l read form
-  pub optimised : IsWithinLimits read → Optimises (reached_by_imports read before) l.entries read replay.left
+  pub optimised : Optimises (reached_by_imports read before) l.entries read replay.left
   pub resolves : Resolves m form
   pub formed : IsFormed m
   pub tells : IsInterfaceFor grow form m i

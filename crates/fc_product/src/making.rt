@@ -6,6 +6,7 @@ ghost use Rattle.fc_model.specs.Formed.{IsFormed};
 ghost use Rattle.fc_model.specs.NamelessView.{nmodule_of, nmodules_of};
 ghost use Rattle.fc_model.specs.ResolutionRules.{Resolves};
 ghost use Rattle.fc_optimise.specs.Optimised.{IsOptimised};
+ghost use Rattle.fc_rows.specs.ResultLimits.{IsWithinLimits};
 ghost use Rattle.fc_rows.specs.Telling.{reached_by_imports};
 ghost use Rattle.fc_replayed_sets.specs.Faithful.{CanBeWritten};
 ghost use Rattle.fc_product.specs.Interfaces as spec;
@@ -41,6 +42,7 @@ fn optimised(
     form: NModule,
     before: &[NModule],
 ) -> Result<(NModule, Seq<Entry>), Memory>
+    requires { IsWithinLimits (nmodule_of form) }
     ensures { IfOk result (λ r. IsOptimised (reached_by_imports (nmodule_of form) (nmodules_of before.now)) r.1 (nmodule_of form) (nmodule_of r.0)) }
 {
     let mut modules = reached(alloc, &form, before)?;

@@ -9,6 +9,6 @@ mod recursion;
 mod remaining;
 
 pub use firsts::first_definitions;
-pub use reaching::reaches;
+pub use reaching::{mentions_of_each, reaches};
 pub use recursion::recursive;
 pub use remaining::unreached;

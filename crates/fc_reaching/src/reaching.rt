@@ -3,8 +3,8 @@ ghost use Rattle.std.specs.Prelude.{◌≡◌, [], ◌∷◌, ◌++◌, IfOk, On
 ghost use Rattle.std.specs.List.{filter, filter_map};
 ghost use Rattle.fc_model.specs.NamelessView.{ndecl_of, ndecls_of, nmodule_of};
 ghost use Rattle.fc_reaching.specs.DefinitionsView.{meant_by, number_by};
-ghost use Rattle.fc_reaching.specs.Numbering.{AreFound, has_mark, mention_graph, names_of_decl};
-ghost use Rattle.fc_reaching.specs.Reaching.{AreReached, defined_words};
+ghost use Rattle.fc_reaching.specs.Numbering.{AreFound, has_mark, meant_in, mention_graph, names_of_decl};
+ghost use Rattle.fc_reaching.specs.Reaching.{AreReached, decls_in, defined_words};
 
 use crate::definitions::Definitions;
 use crate::mentions::mention_decl;
@@ -34,6 +34,15 @@ pub(crate) fn graph_of(
         graph.push(mentions_in(alloc, definitions, decl)?)?;
     }
     Ok(graph)
+}
+
+/// For each declaration of a module, the numbers of the definitions that its right side mentions, each as often as it does; none for a declaration that is no definition. Fails only where
+/// memory runs out.
+pub fn mentions_of_each(alloc: Global, m: &NModule) -> Result<Seq<Seq<usize>>, Memory>
+    ensures { IfOk result (λ graph. graph ≡ mention_graph (meant_in (nmodule_of m.now)) (decls_in (nmodule_of m.now))) }
+{
+    let definitions = Definitions::new(alloc, m)?;
+    graph_of(alloc, &definitions, m.decls.as_slice())
 }
 
 /// Whether the definition of a word is marked.

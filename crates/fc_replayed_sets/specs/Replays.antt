@@ -10,7 +10,6 @@ use Rattle.fc_phases.specs.Optimising.{Optimises}
 use Rattle.fc_reaching.specs.Numbering.{word_of}
 use Rattle.fc_row_nodes.specs.Nodes.{module_nodes}
 use Rattle.fc_rows.specs.Replaying.{Replays}
-use Rattle.fc_rows.specs.ResultLimits.{IsWithinLimits}
 use Rattle.fc_rows.specs.Telling.{reached_by_imports, told_module}
 
 -- which right sides of a module later modules are told: truth values, one for each of its definitions
@@ -37,10 +36,10 @@ pub data AreReplays (order : List Word) (Tells : Telling) : List NModule → Lis
   one_replay : {before : List NModule} {l : Log} {n k : NModule} {ls : List Log} {ns ks : List NModule} (told : List Bool) → IsReplay order before l n k → Tells k told
       → AreReplays order Tells (told_module told k ∷ before) ls ns ks → AreReplays order Tells before (l ∷ ls) (n ∷ ns) (k ∷ ks)
 
--- No shrinking and no commuting row applies to what stands where a simplify phase of one of these logs ends, if the module that was read is within the limits on results.
+-- No shrinking and no commuting row applies to what stands where a simplify phase of one of these logs ends.
 abbrev pub AreOptimised : {order : List Word} {Tells : Telling} {before : List NModule} {ls : List Log} {ns ks : List NModule} → AreReplays order Tells before ls ns ks → Type 0
 AreOptimised no_replays = ⊤
-AreOptimised (one_replay {before = before} {l = l} {n = n} told is tells rest) = (IsWithinLimits n → Optimises (reached_by_imports n before) l.entries n is.left) × AreOptimised rest
+AreOptimised (one_replay {before = before} {l = l} {n = n} told is tells rest) = Optimises (reached_by_imports n before) l.entries n is.left × AreOptimised rest
 
 -- Each of the second modules has at most as many nodes as the first in its place, which are those of its definitions.
 abbrev pub NoneIsLarger : List NModule → List NModule → Type 0

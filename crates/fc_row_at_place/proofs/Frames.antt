@@ -1,7 +1,9 @@
 -- Where a walk stands behind what it goes past, and what it is asked there.
 use Rattle.std.proofs.Common.{◌≡◌, ℕ, sym, ap, ◌∙◌, subst}
 use Rattle.fc_model.specs.Typing as words
+use Rattle.fc_model.specs.NamelessView.{nmodules_of}
 use Rattle.fc_outlines.specs.Headers.{SameHeaders}
+use Rattle.fc_definition_places.specs.Places.{HasPlaces}
 use Rattle.fc_type_table.specs.TypeTables.{Grows, nodes_of}
 use Rattle.fc_type_table.specs.declared.table.TypeTable.{TypeTable}
 use Rattle.fc_lint_context.specs.ContextViews.{IsContextAt, context_in}
@@ -16,7 +18,7 @@ use Rattle.fc_row_at_place.specs.declared.asked.Question.TheVariants as question
 use Rattle.fc_row_at_place.specs.declared.asked.Site.{Site}
 
 -- one site and another, for the same row among the same modules, with something more around
-module _ (x y : Site) (asked : y.asked.now ≡ x.asked.now) (same : modules_at y ≡ modules_at x) (a : Around) (is : y.around.now ≡ a) where
+module _ (x y : Site) (asked : y.asked.now ≡ x.asked.now) (placed : y.places.now ≡ x.places.now) (same : modules_at y ≡ modules_at x) (a : Around) (is : y.around.now ≡ a) where
   -- The context of types goes past the same: it is made of the one before, as that of the surroundings is.
   pub behind : (old new : TypeTable) → IsSite old x → Grows old new → (past : words.Context → words.Context) → IsContextAt (nodes_of new) y.context.now
       → context_in new y.context.now ≡ past (context_in new x.context.now) → HasCounts a → (surroundings_of (decls_of x.asked.now) a).context ≡ past (surroundings_at x).context → IsSite new y
@@ -30,6 +32,7 @@ module _ (x y : Site) (asked : y.asked.now ≡ x.asked.now) (same : modules_at y
         ∙ ap past (at.scope ∙ sym (still old new x.context.now grows at.over))
         ∙ sym view;
     headers = subst (λ ms. SameHeaders ms (decls_of y.asked.now)) (sym same) (subst (λ k. SameHeaders (modules_at x) (decls_of k)) (sym asked) at.headers);
+    places = subst (λ k. HasPlaces (nmodules_of k.modules.now) y.places.now) (sym asked) (subst (HasPlaces (nmodules_of x.asked.now.modules.now)) (sym placed) at.places);
   }
 
 -- the same site over a table that grows
@@ -39,6 +42,7 @@ site_grows old new x grows at = record {
   counts = at.counts;
   scope = at.scope ∙ sym (still old new x.context.now grows at.over);
   headers = at.headers;
+  places = at.places;
 }
 
 -- its type variables

@@ -1,7 +1,7 @@
 pub mod Bounded
 mod EndsTold
 mod Frames
-pub mod Headers
+pub mod HeadersKept
 mod Joined
 mod KindsTold
 mod RowsTold

@@ -1,4 +1,3 @@
-pub mod Definitions
 pub mod Joins
 pub mod Rows
 pub mod Sites

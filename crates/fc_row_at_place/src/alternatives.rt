@@ -132,6 +132,7 @@ fn row_past_branch<'x>(
     let around = Around::Alternative(*branch, &*site.around);
     let inner = Site {
         asked: &*site.asked,
+        places: &*site.places,
         context: &context,
         around: &around,
     };

@@ -1,6 +1,7 @@
 //! What a walk to a place goes by.
+use fc_definition_places::DefinitionPlaces;
 use fc_known::Around;
-use fc_lint_context::Context;
+use fc_lint_context::{Context, DeclaredTypes};
 use fc_log::Row;
 use fc_syntax::NModule;
 
@@ -22,11 +23,22 @@ pub struct Asked<'x> {
     pub modules: &'x [NModule],
 }
 
+/// What is kept of modules while their right sides change.
+#[derive(Clone, Copy)]
+pub struct Headers<'x> {
+    /// The types of what they declare, as a table of types has them.
+    pub declared: &'x DeclaredTypes<'x>,
+    /// Where they define words.
+    pub places: &'x DefinitionPlaces<'x>,
+}
+
 /// Where a walk stands.
 #[derive(Clone, Copy)]
 pub struct Site<'x> {
     /// What the walk is for.
     pub asked: &'x Asked<'x>,
+    /// Where the modules whose right sides are known define words.
+    pub places: &'x DefinitionPlaces<'x>,
     /// The types of what is in scope.
     pub context: &'x Context<'x>,
     /// What stands around.

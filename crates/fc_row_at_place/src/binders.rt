@@ -41,6 +41,7 @@ fn row_past_binders<'x>(
     let around = Around::Binders(&*binders, own, &*site.around);
     let inner = Site {
         asked: &*site.asked,
+        places: &*site.places,
         context: &context,
         around: &around,
     };
@@ -84,6 +85,7 @@ pub(crate) fn row_in_lambda<'x>(
     let around = Around::Apart(&*site.around);
     let inner = Site {
         asked: &*site.asked,
+        places: &*site.places,
         context: &context,
         around: &around,
     };

@@ -64,6 +64,7 @@ fn row_behind_bindings<'x>(
     let around = Around::Group(recursive, &*bindings, &*site.around);
     let inner = Site {
         asked: &*site.asked,
+        places: &*site.places,
         context: &context,
         around: &around,
     };
@@ -112,6 +113,7 @@ fn row_of_member<'x>(
     let around = Around::Group(true, &*bindings, &*site.around);
     let inner = Site {
         asked: &*site.asked,
+        places: &*site.places,
         context: &context,
         around: &around,
     };
@@ -198,6 +200,7 @@ pub(crate) fn row_behind_points<'x>(
     let around = Around::Joins(recursive, &*ty, &*points, &*site.around);
     let inner = Site {
         asked: &*site.asked,
+        places: &*site.places,
         context: &context,
         around: &around,
     };
@@ -249,6 +252,7 @@ fn row_of_recursive_point<'x>(
     let around = Around::Joins(true, &*ty, &*points, &*site.around);
     let inner = Site {
         asked: &*site.asked,
+        places: &*site.places,
         context: &context,
         around: &around,
     };
@@ -271,6 +275,7 @@ fn row_of_point_alone<'x>(
     let around = Around::Unapplied(&*site.around);
     let inner = Site {
         asked: &*site.asked,
+        places: &*site.places,
         context: &*site.context,
         around: &around,
     };

@@ -111,6 +111,7 @@ fn joined_once<'x>(
     };
     let inner = Site {
         asked: &asked,
+        places: &*site.places,
         context: &*site.context,
         around: &*site.around,
     };

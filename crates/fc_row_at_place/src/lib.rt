@@ -4,13 +4,12 @@
 mod alternatives;
 mod asked;
 mod binders;
-mod definitions;
 mod groups;
 mod joins;
 mod places;
 mod right_sides;
 mod rows;
 
-pub use asked::{Asked, Question};
+pub use asked::{Asked, Headers, Question};
 pub use right_sides::{row_by_headers, row_of_right_side};
 pub use rows::{fact_at, is_built, term_row};

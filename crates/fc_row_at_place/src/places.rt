@@ -145,6 +145,7 @@ pub(crate) fn row_apart<'x>(
     let around = Around::Apart(&*site.around);
     let inner = Site {
         asked: &*site.asked,
+        places: &*site.places,
         context: &context,
         around: &around,
     };
@@ -169,6 +170,7 @@ fn row_at_head<'x>(
     let around = Around::Head(&*argument, &*site.around);
     let inner = Site {
         asked: &*site.asked,
+        places: &*site.places,
         context: &context,
         around: &around,
     };

@@ -1,15 +1,16 @@
 //! A row at a place of a right side.
 ghost use Rattle.std.specs.Prelude.{◌≡◌, IfOk, OnOk};
 ghost use Rattle.std.specs.Option.{option_map};
-ghost use Rattle.fc_model.specs.NamelessView.{nexpr_of};
+ghost use Rattle.fc_model.specs.NamelessView.{nexpr_of, nmodules_of};
 ghost use Rattle.fc_parts.specs.PartsAt.{at_place};
 ghost use Rattle.fc_rows.specs.Surroundings.{outside};
 ghost use Rattle.fc_types.specs.ModuleViews.{modules_of};
 ghost use Rattle.fc_type_table.specs.TypeTables.{Grows};
 ghost use Rattle.fc_row_at_place.specs.Sites.{AreHeaders, decls_of, row_of};
 
-use crate::asked::{Asked, Site};
+use crate::asked::{Asked, Headers, Site};
 use crate::places::row_at;
+use fc_definition_places::DefinitionPlaces;
 use fc_known::Around;
 use fc_lint_context::{Context, DeclaredTypes};
 use fc_syntax::{Memory, NExpr};
@@ -17,26 +18,27 @@ use fc_type_table::{NumberedKinds, TypeTable};
 use fc_types::Declarations;
 use std::alloc::Global;
 
-/// What the row that is asked for makes of the part of a right side at a place, as `row_of_right_side`, where the types of what is declared are in a table already. They may have been
-/// read of other modules with the same headers, as outlines, so that one table serves while right sides change. Fails as `row_of_right_side` does; where it does not, the table has only
+/// What the row that is asked for makes of the part of a right side at a place, as `row_of_right_side`, where what is kept of the modules is there already. It may have been
+/// made of other modules with the same headers, as outlines, so that it serves while right sides change. Fails as `row_of_right_side` does; where it does not, the table has only
 /// grown.
 pub fn row_by_headers<'x>(
     alloc: Global,
     right: &'x NExpr,
     place: &[u32],
     types: &mut TypeTable,
-    declared: &DeclaredTypes<'x>,
+    headers: &Headers<'x>,
     asked: &'x Asked<'x>,
 ) -> Result<Option<NExpr>, Memory>
-    requires { AreHeaders types.old declared.now (decls_of asked.now) }
+    requires { AreHeaders types.old headers.now (nmodules_of asked.now.modules.now) }
     ensures answer { IfOk result (λ o. option_map nexpr_of o ≡ at_place (row_of asked.now) place.now (outside (decls_of asked.now)) (nexpr_of right.now)) }
     ensures grows { OnOk result (Grows types.old types.new) }
 {
     let kinds = NumberedKinds::End;
-    let context = Context::closed(&*declared, &kinds);
+    let context = Context::closed(&*headers.declared, &kinds);
     let around = Around::Outside;
     let site = Site {
         asked: &*asked,
+        places: &*headers.places,
         context: &context,
         around: &around,
     };
@@ -54,9 +56,14 @@ fn row_among<'x>(
     requires { modules_of declared.now ≡ decls_of asked.now }
     ensures { IfOk result (λ o. option_map nexpr_of o ≡ at_place (row_of asked.now) place.now (outside (decls_of asked.now)) (nexpr_of right.now)) }
 {
+    let places = DefinitionPlaces::new(alloc, asked.modules)?;
     let mut types = TypeTable::new(alloc, &*declared);
     let read = DeclaredTypes::new(alloc, &*declared, &mut types)?;
-    row_by_headers(alloc, &*right, place, &mut types, &read, &*asked)
+    let headers = Headers {
+        declared: &read,
+        places: &places,
+    };
+    row_by_headers(alloc, &*right, place, &mut types, &headers, &*asked)
 }
 
 /// What the row that is asked for makes of the part of a right side at a place, where a row may look. A place is a list of part numbers, from the outermost part inwards; the place

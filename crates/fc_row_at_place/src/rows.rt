@@ -8,18 +8,19 @@ ghost use Rattle.fc_lint_context.specs.ContextViews.{IsContextOver, context_in, 
 ghost use Rattle.fc_case_known.specs.Within.{case_known_within};
 ghost use Rattle.fc_rows.specs.Shrinking.{alt_dead as spec_alt_dead, case_evaluated as spec_case_evaluated, known as spec_known};
 ghost use Rattle.fc_rows.specs.Surroundings.{Surroundings};
+ghost use Rattle.fc_definition_places.specs.Places.{HasPlaces};
 ghost use Rattle.fc_known.specs.Around.{HasCounts, surroundings_of};
 ghost use Rattle.fc_known.specs.Told.{told};
-ghost use Rattle.fc_shrink_cases.specs.Cases.{is_unlifted_local, scrutinee_of};
+ghost use Rattle.fc_shrink_cases.specs.Cases.{is_unlifted_local};
 ghost use Rattle.fc_type_table.specs.TypeTables.{Grows};
 ghost use Rattle.fc_row_at_place.specs.Rows.{built_row, is_built as spec_is_built, term_row as spec_term_row};
 ghost use Rattle.fc_row_at_place.specs.Sites.{IsSite, modules_at, surroundings_at};
 
 use crate::asked::Site;
-use crate::definitions::right_side_of;
 use fc_case_known::case_known;
 use fc_commute::{application_of_let, case_of_let, cast_of_let, let_of_let};
 use fc_commute_types::name_field;
+use fc_definition_places::DefinitionPlaces;
 use fc_forms::as_case;
 use fc_known::{Around, Fact, known, known_name};
 use fc_lint_context::Context;
@@ -67,30 +68,33 @@ pub fn term_row(alloc: Global, row: Row, e: &NExpr) -> Result<Option<NExpr>, Mem
 }
 
 /// What is known of an expression, which is a variable or of which nothing is known, where this stands around it, and the right sides of modules are known. Where several have one
-/// name, the first counts. Fails only where a number of binders has no 32 bits.
+/// name, the first counts; where they define words, the table tells. Fails only where a number of binders has no 32 bits.
 #[tactic(auto, using(fc_syntax::proofs::View::view_rules))]
 pub fn fact_at<'x>(
     e: &NExpr,
     around: &'x Around<'x>,
     modules: &'x [NModule],
+    places: &DefinitionPlaces<'_>,
 ) -> Result<Fact<'x>, Memory>
     requires counts { HasCounts around.now }
+    requires places { HasPlaces (nmodules_of modules.now) places.now }
     ensures { IfOk result (λ f. told f ≡ spec_known (surroundings_of (decls_at (nmodules_of modules.now)) around.now) (nexpr_of e.now)) }
 {
     match e {
         NExpr::Var(Ref::Local(distance)) => known(around, *distance),
-        NExpr::Var(Ref::Top(name)) => known_name(around, name, right_side_of(modules, name)),
+        NExpr::Var(Ref::Top(name)) => known_name(around, name, places.right_side(modules, name)),
         _ => Ok(Fact::Nothing),
     }
 }
 
 /// The same where a walk stands.
 fn fact_of<'x>(e: &NExpr, site: &Site<'x>) -> Result<Fact<'x>, Memory>
-    requires { HasCounts site.now.around.now }
+    requires counts { HasCounts site.now.around.now }
+    requires places { HasPlaces (nmodules_of site.now.asked.now.modules.now) site.now.places.now }
     ensures { IfOk result (λ f. told f ≡ spec_known (surroundings_at site.now) (nexpr_of e.now)) }
 {
     let asked = site.asked;
-    fact_at(e, site.around, asked.modules)
+    fact_at(e, site.around, asked.modules, site.places)
 }
 
 /// Whether an expression is a local variable of an unlifted type. Fails only where memory runs out.
@@ -121,7 +125,8 @@ fn without_dead(
     alternative: usize,
     site: &Site,
 ) -> Result<Option<NExpr>, Memory>
-    requires { HasCounts site.now.around.now }
+    requires counts { HasCounts site.now.around.now }
+    requires places { HasPlaces (nmodules_of site.now.asked.now.modules.now) site.now.places.now }
     ensures { IfOk result (λ o. option_map nexpr_of o ≡ spec_alt_dead alternative (surroundings_at site.now) (nexpr_of e.now)) }
 {
     let Some(case) = as_case(e) else {

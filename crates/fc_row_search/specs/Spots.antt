@@ -11,6 +11,7 @@ use Rattle.fc_known.specs.Around.{HasCounts, surroundings_of}
 use Rattle.fc_known.specs.declared.around.Around.{Around}
 use Rattle.fc_parts.specs.Found.{found}
 use Rattle.fc_search_laws.specs.Searching.{Answered, Applies, applied, first_dead, first_part, first_row, fits, found_within, in_part, into, searched, searched_below}
+use Rattle.fc_definition_places.specs.Places.{HasPlaces}
 use Rattle.fc_row_at_place.specs.Rows.{built_row}
 use Rattle.fc_row_at_place.specs.Sites.{AreHeaders}
 use Rattle.fc_row_search.specs.declared.parts.Part.{Part}
@@ -44,9 +45,13 @@ pub record IsSpot (x : Spot) (e : NExpr) : Type 0 where
   pub counts : HasCounts x.around.now
   pub stands : found (outside (modules_of x.search.now)) (place_of x.path.now) (nexpr_of x.search.now.right.now) ≡ Some (here_at x, e)
 
--- the types of what is declared are read in this table
+-- what is kept of the modules is right, with the types of what they declare in this table
 abbrev pub HasHeaders : TypeTable → Spot → Type 0
-HasHeaders table x = AreHeaders table x.search.now.declared.now (modules_of x.search.now)
+HasHeaders table x = AreHeaders table x.search.now.headers.now (nmodules_of x.search.now.modules.now)
+
+-- where they define words is known
+abbrev pub KnowsPlaces : Spot → Type 0
+KnowsPlaces x = HasPlaces (nmodules_of x.search.now.modules.now) x.search.now.headers.now.places.now
 
 -- what was found
 abbrev pub applying_of : Applying → Answered

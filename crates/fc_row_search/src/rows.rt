@@ -6,7 +6,7 @@ ghost use Rattle.fc_model.specs.Nameless.{NExpr as Form};
 ghost use Rattle.fc_model.specs.NamelessView.{nexpr_of};
 ghost use Rattle.fc_type_table.specs.TypeTables.{Grows};
 ghost use Rattle.fc_search_laws.specs.Searching.{alternatives_of as spec_alternatives_of, fits, here, rows_tried};
-ghost use Rattle.fc_row_search.specs.Spots.{HasHeaders, IsSpot, applying_of, dead_at, here_at, made_at, modules_of, rows_at, told_at, told_here, tried_at};
+ghost use Rattle.fc_row_search.specs.Spots.{HasHeaders, IsSpot, KnowsPlaces, applying_of, dead_at, here_at, made_at, modules_of, rows_at, told_at, told_here, tried_at};
 
 use crate::parts::alternatives_of;
 use crate::spots::{Applying, Spot, place_of};
@@ -49,14 +49,16 @@ fn without_dead(
     e: &NExpr,
     spot: &Spot,
 ) -> Result<Option<NExpr>, Memory>
-    requires { IsSpot spot.now (nexpr_of e.now) }
+    requires spot { IsSpot spot.now (nexpr_of e.now) }
+    requires places { KnowsPlaces spot.now }
     ensures { IfOk result (λ o. option_map nexpr_of o ≡ made_at spot.now AltDead alternative (nexpr_of e.now)) }
 {
     let Some(case) = as_case(e) else {
         return Ok(None);
     };
     let search = spot.search;
-    let fact = fact_at(case.scrutinee, spot.around, search.modules)?;
+    let places = search.headers.places;
+    let fact = fact_at(case.scrutinee, spot.around, search.modules, places)?;
     alt_dead(alloc, e, alternative, &fact)
 }
 
@@ -83,7 +85,7 @@ fn asked_there(
         search.right,
         place.as_slice(),
         types,
-        search.declared,
+        search.headers,
         &asked,
     )
 }

@@ -1,7 +1,7 @@
 //! The search through a right side.
 ghost use Rattle.std.specs.Prelude.{◌≡◌, IfOk, OnOk, []};
 ghost use Rattle.std.specs.Option.{option_map};
-ghost use Rattle.fc_model.specs.NamelessView.{nexpr_of};
+ghost use Rattle.fc_model.specs.NamelessView.{nexpr_of, nmodules_of};
 ghost use Rattle.fc_type_table.specs.TypeTables.{Grows};
 ghost use Rattle.fc_rows.specs.Surroundings.{outside};
 ghost use Rattle.fc_row_at_place.specs.Sites.{AreHeaders};
@@ -25,7 +25,7 @@ pub fn first_row_in<'x>(
     room: u32,
     types: &mut TypeTable,
 ) -> Result<Option<Applying>, Memory>
-    requires { AreHeaders types.old search.now.declared.now (modules_of search.now) }
+    requires { AreHeaders types.old search.now.headers.now (nmodules_of search.now.modules.now) }
     ensures found { IfOk result (λ o. option_map applying_of o ≡ found_within [] (searched (modules_of search.now) search.now.spare room from.now (outside (modules_of search.now)) (nexpr_of search.now.right.now))) }
     ensures grows { OnOk result (Grows types.old types.new) }
 {

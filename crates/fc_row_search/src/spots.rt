@@ -3,8 +3,8 @@ ghost use Rattle.std.specs.Prelude.{◌≡◌, IfOk};
 ghost use Rattle.fc_row_search.specs.Spots.{place_of as spec_place_of};
 
 use fc_known::Around;
-use fc_lint_context::DeclaredTypes;
 use fc_log::Row;
+use fc_row_at_place::Headers;
 use fc_syntax::{Memory, NExpr, NModule};
 use std::alloc::Global;
 
@@ -28,8 +28,8 @@ pub struct Search<'x> {
     pub right: &'x NExpr,
     /// The modules whose right sides are known: the one that is changed and those that it imports. Where several have one name, the first counts.
     pub modules: &'x [NModule],
-    /// The types of what these modules declare, or others with the same headers, as a table of types has them.
-    pub declared: &'x DeclaredTypes<'x>,
+    /// What is kept of these modules, or of others with the same headers.
+    pub headers: &'x Headers<'x>,
     /// By how many pieces the module may grow.
     pub spare: u32,
 }

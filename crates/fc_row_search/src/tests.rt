@@ -4,7 +4,7 @@ ghost use Rattle.fc_model.specs.NamelessView.{nexpr_of};
 ghost use Rattle.fc_rows.specs.Shrinking.{is_con};
 ghost use Rattle.fc_known.specs.Told.{told};
 ghost use Rattle.fc_known.specs.Around.{HasCounts};
-ghost use Rattle.fc_row_search.specs.Spots.{here_at};
+ghost use Rattle.fc_row_search.specs.Spots.{KnowsPlaces, here_at};
 ghost use Rattle.fc_row_search.specs.Tests.{is_applied_lambda as spec_is_applied_lambda, is_around_failure as spec_is_around_failure, is_case_of_default as spec_is_case_of_default, is_case_of_known as spec_is_case_of_known, is_cast as spec_is_cast, is_failure as spec_is_failure, is_known as spec_is_known, is_lambda as spec_is_lambda, is_let_with_fields as spec_is_let_with_fields, is_literal as spec_is_literal, is_single_join as spec_is_single_join, may_apply as spec_may_apply};
 
 use crate::spots::Spot;
@@ -125,7 +125,8 @@ fn is_known(fact: &Fact) -> bool
 
 /// Whether an expression is a case of a constructor, of a literal, or of a variable whose value is known. Fails only where a number of binders has no 32 bits.
 fn is_case_of_known(e: &NExpr, spot: &Spot) -> Result<bool, Memory>
-    requires { HasCounts spot.now.around.now }
+    requires counts { HasCounts spot.now.around.now }
+    requires places { KnowsPlaces spot.now }
     ensures { IfOk result (λ b. b ≡ spec_is_case_of_known (here_at spot.now) (nexpr_of e.now)) }
 {
     let Some(case) = as_case(e) else {
@@ -135,13 +136,15 @@ fn is_case_of_known(e: &NExpr, spot: &Spot) -> Result<bool, Memory>
         return Ok(true);
     }
     let search = spot.search;
-    let fact = fact_at(case.scrutinee, spot.around, search.modules)?;
+    let places = search.headers.places;
+    let fact = fact_at(case.scrutinee, spot.around, search.modules, places)?;
     Ok(is_known(&fact))
 }
 
 /// Whether a row that reads types may apply. Of every other row this is not asked. Fails only where a number of binders has no 32 bits.
 pub(crate) fn may_apply(row: Row, e: &NExpr, spot: &Spot) -> Result<bool, Memory>
-    requires { HasCounts spot.now.around.now }
+    requires counts { HasCounts spot.now.around.now }
+    requires places { KnowsPlaces spot.now }
     ensures { IfOk result (λ b. b ≡ spec_may_apply row (here_at spot.now) (nexpr_of e.now)) }
 {
     match row {

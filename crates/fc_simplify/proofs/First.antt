@@ -3,7 +3,7 @@ use Rattle.std.proofs.Common.{◌≡◌, ◌+◌, ◌≤◌, ℕ, zero, suc, Lis
 use Rattle.std.specs.Prelude.{slice_get}
 use Rattle.std.proofs.lemmas.List.{length-map}
 use Rattle.std.proofs.lemmas.Option.{none-some, same_Some}
-use Rattle.fc_syntax.specs.View.{decl_of, decls_of, expr_of}
+use Rattle.fc_syntax.specs.View.{decl_of, decls_of}
 use Rattle.fc_syntax.specs.declared.module.Decl as RustDecl
 use Rattle.fc_syntax.specs.declared.module.Module as RustModule
 use Rattle.fc_syntax.specs.declared.ty.Ref.{Ref}
@@ -26,39 +26,51 @@ use Rattle.fc_search_laws.proofs.Searched.{what_is_found}
 use Rattle.fc_apply.specs.Definitions.{HasDecl, exchanged_in_decl, right_side}
 use Rattle.fc_apply.proofs.InDefinitions.{decl_put}
 use Rattle.fc_row_search.specs.declared.spots.Applying.{Applying}
-use Rattle.fc_simplify.specs.Phase.{Continues, FirstDefines, FirstHasSpare, KeepsHeaders, room}
-use Rattle.fc_simplify.specs.Taking.{IsFound, IsNext, IsNowhere, IsPut}
+use Rattle.fc_simplify.specs.Phase.{Continues, FirstDefines, FirstHasSpare, KeepsHeaders, Simplifies, room}
+use Rattle.fc_simplify.specs.Steps.{lines_of}
+use Rattle.fc_simplify.specs.Taking.{HasRun, IsFound, IsNext, IsNowhere, IsPut}
 use Rattle.fc_simplify.proofs.Keeping.{headers_same}
-use Rattle.fc_simplify.proofs.Logs.{continues_same, simplifies_once}
-use Rattle.fc_simplify.proofs.Taken.{declares_same, spare_after, spare_left, step_in_phase, step_rewrites, words_kept}
+use Rattle.fc_simplify.proofs.Logs.{continues_same, lines_turned}
+use Rattle.fc_simplify.proofs.Taken.{declares_same, places_same, spare_after, spare_left, steps_simplify, words_kept}
 use Rattle.fc_simplify.proofs.Words.{is_below, located}
 
--- WHAT A STEP DOES
+-- WHAT STEPS DO
 
--- what was put is right
-pub record IsTaken (spare : ℕ) (a : Applying) (s : Step) (old : WExpr) (before after : List NModule) : Type 0 where
-  pub continues : (es : List Entry) → Continues before after es (es ++ entry.Step s ∷ [])
+-- what was put is right: what a row made, or that with so many lets of a run put in
+pub record IsTaken (spare : ℕ) (s : Step) (count : ℕ) (by old : WExpr) (before after : List NModule) : Type 0 where
+  pub continues : (es : List Entry) → Continues before after es (es ++ (lines_of count s ++ entry.Step s ∷ []))
   pub keeps : KeepsHeaders before after
-  pub left : nexpr_size (nexpr_of a.new) ≤ spare + nexpr_size (bare_expr old)
-  pub spare_then : (t : ℕ) → t + nexpr_size (nexpr_of a.new) ≡ spare + nexpr_size (bare_expr old) → FirstHasSpare t after
+  pub left : nexpr_size (bare_expr by) ≤ spare + nexpr_size (bare_expr old)
+  pub spare_then : (t : ℕ) → t + nexpr_size (bare_expr by) ≡ spare + nexpr_size (bare_expr old) → FirstHasSpare t after
 
-taken : (spare i : ℕ) (a : Applying) (s : Step) (old : WExpr) (ms ks : List (RustModule.Module ℕ Ref)) → FirstDefines i (nmodules_of ms) → FirstHasSpare spare (nmodules_of ms)
-    → IsNext spare i a s (nmodules_of ms) → IsPut i a.place.items (expr_of a.new) old ms ks → IsTaken spare a s old (nmodules_of ms) (nmodules_of ks)
-taken spare i a s old [] ks first has found put = absurd put
-taken spare i a s old (m ∷ ms) [] first has found put = absurd put
-taken spare i a s old (m ∷ ms) (k ∷ ks) (w, first) has found (same, put) = record {
-  continues = λ es. (ap nmodules_of same, (entry.Step s ∷ [], (refl, simplifies_once (nmodules_of ms) s (nmodule_of m) (nmodule_of k) (step_in_phase m k (nmodules_of ms) spare i a s old w first has found put) (step_rewrites m k (nmodules_of ms) spare i a s old w first has found put))));
+taken : (spare i : ℕ) (a : Applying) (s : Step) (by old : WExpr) (count : ℕ) (ms ks : List (RustModule.Module ℕ Ref)) → FirstDefines i (nmodules_of ms) → FirstHasSpare spare (nmodules_of ms)
+    → IsNext spare i a s (nmodules_of ms) → HasRun a.row (nexpr_of a.new) count (bare_expr by) → IsPut i a.place.items by old ms ks → IsTaken spare s count by old (nmodules_of ms) (nmodules_of ks)
+taken spare i a s by old count [] ks first has found run put = absurd put
+taken spare i a s by old count (m ∷ ms) [] first has found run put = absurd put
+taken spare i a s by old count (m ∷ ms) (k ∷ ks) (w, first) has found run (same, put) = record {
+  continues = λ es. (
+    ap nmodules_of same,
+    (
+      lines_of count s ++ entry.Step s ∷ [],
+      (
+        refl,
+        subst (λ fs. Simplifies (nmodules_of ms) fs (nmodule_of m) (nmodule_of k)) (lines_turned count s) (steps_simplify m k (nmodules_of ms) spare i a s by old count w first has found run put),
+      ),
+    ),
+  );
   keeps = subst (λ xs. KeepsHeaders (nmodule_of m ∷ nmodules_of ms) (nmodule_of k ∷ xs)) (sym (ap nmodules_of same)) (record {
-    words = words_kept m k (nmodules_of ms) spare i a s old w first has found put;
-    headers = declares_same m k (nmodules_of ms) spare i a s old w first has found put;
+    words = words_kept m k (nmodules_of ms) spare i a s by old count w first has found run put;
+    headers = declares_same m k (nmodules_of ms) spare i a s by old count w first has found run put;
+    places = places_same m k (nmodules_of ms) spare i a s by old count w first has found run put;
   });
-  left = spare_left m k (nmodules_of ms) spare i a s old w first has found put;
-  spare_then = spare_after m k (nmodules_of ms) spare i a s old w first has found put;
+  left = spare_left m k (nmodules_of ms) spare i a s by old count w first has found run put;
+  spare_then = spare_after m k (nmodules_of ms) spare i a s by old count w first has found run put;
 }
 
-pub taken_at : (spare i : ℕ) (a : Applying) (s : Step) (old : WExpr) (p : List ℕ) (ms ks : List (RustModule.Module ℕ Ref)) → p ≡ a.place.items → FirstDefines i (nmodules_of ms) → FirstHasSpare spare (nmodules_of ms)
-    → IsNext spare i a s (nmodules_of ms) → IsPut i p (expr_of a.new) old ms ks → IsTaken spare a s old (nmodules_of ms) (nmodules_of ks)
-taken_at spare i a s old p ms ks is first has found put = taken spare i a s old ms ks first has found (subst (λ q. IsPut i q (expr_of a.new) old ms ks) is put)
+pub taken_at : (spare i : ℕ) (a : Applying) (s : Step) (by old : WExpr) (count : ℕ) (p : List ℕ) (ms ks : List (RustModule.Module ℕ Ref)) → p ≡ a.place.items → FirstDefines i (nmodules_of ms)
+    → FirstHasSpare spare (nmodules_of ms) → IsNext spare i a s (nmodules_of ms) → HasRun a.row (nexpr_of a.new) count (bare_expr by) → IsPut i p by old ms ks
+    → IsTaken spare s count by old (nmodules_of ms) (nmodules_of ks)
+taken_at spare i a s by old count p ms ks is first has found run put = taken spare i a s by old count ms ks first has found run (subst (λ q. IsPut i q by old ms ks) is put)
 
 -- WHERE SOMETHING IS FOUND
 
@@ -74,24 +86,24 @@ decl_at (d ∷ ds) zero x h = record { decl = d; there = refl; is = same_Some _ 
 decl_at (d ∷ ds) (suc i) x h = let r = decl_at ds i x h in record { decl = r.decl; there = r.there; is = r.is }
 
 -- where a row makes something, an expression stands
-somewhere : (spare i : ℕ) (a : Applying) (s : Step) (m : RustModule.Module ℕ Ref) (xs : List NModule) → IsFound spare i a s (nmodule_of m) xs
-    → ((d : RustDecl.Decl ℕ Ref) → slice_get m.decls i ≡ Some d → exchanged_in_decl (expr_of a.new) (1 ∷ a.place.items) (decl_of d) ≡ None) → ⊥
-somewhere spare i a s m xs f nowhere =
+somewhere : (spare i : ℕ) (a : Applying) (s : Step) (by : WExpr) (m : RustModule.Module ℕ Ref) (xs : List NModule) → IsFound spare i a s (nmodule_of m) xs
+    → ((d : RustDecl.Decl ℕ Ref) → slice_get m.decls i ≡ Some d → exchanged_in_decl by (1 ∷ a.place.items) (decl_of d) ≡ None) → ⊥
+somewhere spare i a s by m xs f nowhere =
     let declared = decls_at (nmodule_of m ∷ xs) in
     let row = built_row declared a.row a.alternative in
     let q = a.place.items in
     let applies = what_is_found declared spare room f.from (outside declared) f.right a.row a.alternative q (nexpr_of a.new) f.found in
     let d = decl_at m.decls i f.decl f.there in
-    decl_put row (outside declared) (1 ∷ q) (decl_of d.decl) (expr_of a.new) (nexpr_of a.new)
+    decl_put row (outside declared) (1 ∷ q) (decl_of d.decl) by (nexpr_of a.new)
     (ap (from_some (at_place row q (outside declared))) (ap right_side d.is ∙ f.right_is) ∙ sym (asked_of_found row (outside declared) q f.right) ∙ ap (from_some (λ t. row t.0 t.1)) applies.there ∙ applies.makes)
     (nowhere d.decl d.there)
 
-not_nowhere : (spare i : ℕ) (a : Applying) (s : Step) (ms : List (RustModule.Module ℕ Ref)) → IsNext spare i a s (nmodules_of ms) → IsNowhere i a.place.items (expr_of a.new) ms → ⊥
-not_nowhere spare i a s [] found nowhere = found
-not_nowhere spare i a s (m ∷ ms) found nowhere = somewhere spare i a s m (nmodules_of ms) found nowhere
+not_nowhere : (spare i : ℕ) (a : Applying) (s : Step) (by : WExpr) (ms : List (RustModule.Module ℕ Ref)) → IsNext spare i a s (nmodules_of ms) → IsNowhere i a.place.items by ms → ⊥
+not_nowhere spare i a s by [] found nowhere = found
+not_nowhere spare i a s by (m ∷ ms) found nowhere = somewhere spare i a s by m (nmodules_of ms) found nowhere
 
-pub not_nowhere_at : (spare i : ℕ) (a : Applying) (s : Step) (p : List ℕ) (ms : List (RustModule.Module ℕ Ref)) → p ≡ a.place.items → IsNext spare i a s (nmodules_of ms) → IsNowhere i p (expr_of a.new) ms → ⊥
-not_nowhere_at spare i a s p ms is found nowhere = not_nowhere spare i a s ms found (subst (λ q. IsNowhere i q (expr_of a.new) ms) is nowhere)
+pub not_nowhere_at : (spare i : ℕ) (a : Applying) (s : Step) (by : WExpr) (p : List ℕ) (ms : List (RustModule.Module ℕ Ref)) → p ≡ a.place.items → IsNext spare i a s (nmodules_of ms) → IsNowhere i p by ms → ⊥
+not_nowhere_at spare i a s by p ms is found nowhere = not_nowhere spare i a s by ms found (subst (λ q. IsNowhere i q by ms) is nowhere)
 
 -- WHERE A WORD IS DEFINED
 

@@ -1,6 +1,7 @@
 mod Exchanged
 mod First
 mod InFirst
+mod InRuns
 mod Keeping
 pub mod Kept
 pub mod Logs
@@ -10,4 +11,5 @@ mod Next
 mod OneRound
 mod Quieted
 mod Taken
+mod Twice
 mod Words

@@ -1,5 +1,5 @@
 -- Logs that go on: nothing done is the empty log, and what is done after the other is in the log behind it.
-use Rattle.std.proofs.Common.{◌≡◌, true, List, [], ◌∷◌, ◌++◌, refl, sym, ap, ◌∙◌, subst, append-nil, append_assoc}
+use Rattle.std.proofs.Common.{◌≡◌, ◌+◌, ℕ, zero, suc, arith, true, List, [], ◌∷◌, ◌++◌, refl, sym, ap, ◌∙◌, subst, append-nil, append_assoc}
 use Rattle.fc_log.specs.Shapes.{phase_of_row}
 use Rattle.fc_log.specs.declared.log.Entry.{Entry}
 use Rattle.fc_log.specs.declared.log.Entry.TheVariants as entry
@@ -11,6 +11,7 @@ use Rattle.fc_model.specs.Nameless.{NModule}
 use Rattle.fc_row_at_place.specs.Rows.{is_built}
 use Rattle.fc_rows.specs.Replaying.{Replays, Rewrites, at_end, past_step}
 use Rattle.fc_simplify.specs.Phase.{Continues, Simplifies, no_step, takes_step}
+use Rattle.fc_simplify.specs.Steps.{lines_of}
 
 simplifies_both : (xs : List NModule) (es fs : List Entry) (n m k : NModule) → Simplifies xs es n m → Simplifies xs fs m k → Simplifies xs (es ++ fs) n k
 simplifies_both xs _ fs n _ k no_step second = second
@@ -56,3 +57,18 @@ continues_both (n ∷ xs) (m ∷ ys) (k ∷ zs) es fs gs (same, (hs, (more, step
     ),
   ),
 )
+
+-- LINES OF ONE STEP
+
+-- the first of them may stand behind the others
+pub lines_turned : (n : ℕ) (s : Step) → entry.Step s ∷ lines_of n s ≡ lines_of n s ++ entry.Step s ∷ []
+lines_turned zero s = refl
+lines_turned (suc n) s = ap (λ es. entry.Step s ∷ es) (lines_turned n s)
+
+-- one more behind lines
+lines_more : (es : List Entry) (n : ℕ) (s : Step) → (es ++ lines_of n s) ++ entry.Step s ∷ [] ≡ es ++ lines_of (n + 1) s
+lines_more es n s = append_assoc es (lines_of n s) (entry.Step s ∷ []) ∙ ap (λ fs. es ++ fs) (sym (lines_turned n s) ∙ ap (λ m. lines_of m s) {x = suc n} {y = n + 1} (omega arith))
+
+pub one_more : (es now after : List Entry) (n : ℕ) (s t : Step) → now ≡ es ++ lines_of n s → t ≡ s → after ≡ now ++ entry.Step t ∷ [] → after ≡ es ++ lines_of (n + 1) s
+one_more es now after n s t so_far same more =
+    more ∙ ap (λ fs. fs ++ entry.Step t ∷ []) so_far ∙ ap (λ z. (es ++ lines_of n s) ++ entry.Step z ∷ []) same ∙ lines_more es n s

@@ -12,14 +12,12 @@ use Rattle.fc_model.specs.Nameless.{NDecl, NExpr, NModule}
 use Rattle.fc_reaching.specs.Numbering.{number_in}
 use Rattle.fc_reaching.specs.Reaching.{decls_in}
 use Rattle.fc_outlines.specs.Headers.{SameHeaders}
-use Rattle.fc_type_table.specs.declared.table.TypeTable.{TypeTable}
-use Rattle.fc_lint_context.specs.declared.declared_types.DeclaredTypes.{DeclaredTypes}
+use Rattle.fc_definition_places.specs.Places.{place_in}
 use Rattle.fc_rows.specs.NormalForms.{IsQuiet}
 use Rattle.fc_rows.specs.Replaying.{Rewrites}
 use Rattle.fc_rows.specs.ResultLimits.{IsWithinLimits}
 use Rattle.fc_rows.specs.Surroundings.{outside}
 use Rattle.fc_limits_at_places.specs.Fitting.{nmodule_size}
-use Rattle.fc_row_at_place.specs.Sites.{AreHeaders}
 use Rattle.fc_search_laws.specs.Searching.{Quiet, searched}
 use Rattle.fc_apply.specs.Definitions.{right_side}
 
@@ -64,14 +62,11 @@ KeepsWords [] after = after ≡ []
 KeepsWords (n ∷ xs) [] = ⊥
 KeepsWords (n ∷ xs) (k ∷ ys) = (w : Word) → number_in k w ≡ number_in n w
 
--- and the same is declared, but for right sides
+-- and the same is declared, but for right sides, and each word is defined where it was
 pub record KeepsHeaders (before after : List NModule) : Type 0 where
   pub words : KeepsWords before after
   pub headers : SameHeaders (decls_at before) (decls_at after)
-
--- the types of what modules declare are read in a table, perhaps of other modules with the same headers
-abbrev pub HaveHeaders : TypeTable → DeclaredTypes → List NModule → Type 0
-HaveHeaders table declared ms = AreHeaders table declared (decls_at ms)
+  pub places : (m w : Word) → place_in after m w ≡ place_in before m w
 
 -- the declaration of a number is the first definition of its word
 abbrev pub FirstDefines : ℕ → List NModule → Type 0

@@ -1,7 +1,9 @@
 -- The steps that a log tells.
-use Rattle.std.specs.Prelude.{ℕ, ◌+◌, List, [], ◌∷◌, ◌++◌, Some, None}
+use Rattle.std.specs.Prelude.{ℕ, zero, suc, ◌+◌, List, [], ◌∷◌, ◌++◌, Some, None}
 use Rattle.fc_syntax.specs.Tree.{Word}
 use Rattle.fc_syntax.specs.declared.fault.Place.TheVariants as place
+use Rattle.fc_log.specs.declared.log.Entry.{Entry}
+use Rattle.fc_log.specs.declared.log.Entry.TheVariants as entry
 use Rattle.fc_log.specs.declared.log.Row.{Row}
 use Rattle.fc_log.specs.declared.log.Row.TheVariants as row
 use Rattle.fc_log.specs.declared.log.Step.{Step}
@@ -20,3 +22,8 @@ step_of w a = record { row = a.row; def = Some w; path = place.Parts (path_of a)
 
 abbrev pub dead_step : Step
 dead_step = record { row = row.DefDead; def = None; path = place.Nowhere; answer = None }
+
+-- so many lines of one step
+abbrev pub lines_of : ℕ → Step → List Entry
+lines_of zero s = []
+lines_of (suc n) s = entry.Step s ∷ lines_of n s

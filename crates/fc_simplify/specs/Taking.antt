@@ -1,10 +1,12 @@
 -- A row that is found in a definition, and what it made in its place.
-use Rattle.std.specs.Prelude.{◌≡◌, ⊤, ℕ, List, [], ◌∷◌, Option, Some, None, slice_get, slice_set}
+use Rattle.std.specs.Prelude.{◌≡◌, ◌≤◌, ⊤, ℕ, List, [], ◌∷◌, Option, Some, None, slice_get, slice_set}
 use Rattle.fc_syntax.specs.Tree.{Word}
 use Rattle.fc_syntax.specs.View.{decl_of}
 use Rattle.fc_syntax.specs.declared.module.Decl as RustDecl
 use Rattle.fc_syntax.specs.declared.module.Module as RustModule
 use Rattle.fc_syntax.specs.declared.ty.Ref.{Ref}
+use Rattle.fc_log.specs.declared.log.Row.{Row}
+use Rattle.fc_log.specs.declared.log.Row.TheVariants as row
 use Rattle.fc_log.specs.declared.log.Step.{Step}
 use Rattle.fc_model.specs.Kinding.{decls_at}
 use Rattle.fc_model.specs.Nameless.{NDecl, NData, NNew, NFamily, NAxiom, NDef, NWrap, NExpr, NModule}
@@ -13,6 +15,7 @@ use Rattle.fc_reaching.specs.Reaching.{decls_in}
 use Rattle.fc_rows.specs.Surroundings.{outside}
 use Rattle.fc_search_laws.specs.Searching.{searched}
 use Rattle.fc_apply.specs.Definitions.{exchanged_in_decl, right_side}
+use Rattle.fc_let_runs.specs.Runs.{IsRun}
 use Rattle.fc_row_search.specs.Spots.{applying_of}
 use Rattle.fc_row_search.specs.declared.spots.Applying.{Applying}
 use Rattle.fc_simplify.specs.Phase.{room}
@@ -42,6 +45,11 @@ pub record IsFound (spare i : ℕ) (a : Applying) (s : Step) (n : NModule) (xs :
 abbrev pub IsNext : ℕ → ℕ → Applying → Step → List NModule → Type 0
 IsNext spare i a s [] = ⊥
 IsNext spare i a s (n ∷ xs) = IsFound spare i a s n xs
+
+-- what a row made becomes another by so many lets of a run, where the row is let-atom; any row has a run of none
+pub record HasRun (r : Row) (first : NExpr) (count : ℕ) (new : NExpr) : Type 0 where
+  pub run : IsRun count first new
+  pub row_is : 1 ≤ count → r ≡ row.LetAtom
 
 -- an expression was put at a place of the right side of the declaration of a number of the first module, where another stood
 pub record IsExchanged (i : ℕ) (p : List ℕ) (by old : WExpr) (m k : RustModule.Module ℕ Ref) : Type 0 where

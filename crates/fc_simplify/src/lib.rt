@@ -2,7 +2,9 @@
 #![tactic(auto)]
 
 mod dropping;
+mod lines;
 mod rounds;
+mod runs;
 mod settling;
 mod steps;
 mod taking;

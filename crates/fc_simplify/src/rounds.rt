@@ -4,16 +4,19 @@ ghost use Rattle.fc_model.specs.NamelessView.{nmodules_of};
 ghost use Rattle.fc_outlines.specs.Outlines.{outlined_all};
 ghost use Rattle.fc_types.specs.ModuleViews.{modules_of};
 ghost use Rattle.fc_model.specs.Kinding.{decls_at};
+ghost use Rattle.fc_definition_places.specs.Places.{HasPlaces};
 ghost use Rattle.fc_apply.specs.Steps.{FirstFits};
 ghost use Rattle.fc_simplify.specs.Phase.{AllSettled, Continues, FirstHasSpare, FirstIsQuiet, FirstsAre};
 
 use crate::dropping::drop_unneeded;
 use crate::settling::settle_rounds;
+use fc_definition_places::DefinitionPlaces;
 use fc_lint_context::DeclaredTypes;
 use fc_log::Entry;
 use fc_nameless_measures::measures_of_module;
 use fc_outlines::outlines;
 use fc_reaching::first_definitions;
+use fc_row_at_place::Headers;
 use fc_syntax::{Limits, Memory, NModule, Seq};
 use fc_type_table::TypeTable;
 use fc_types::Declarations;
@@ -44,17 +47,19 @@ fn firsts_of(alloc: Global, modules: &[NModule]) -> Result<Vec<bool>, Memory>
     }
 }
 
-/// Takes steps in the definitions of the first of some modules until none applies in any of them, where the outlines of the modules declare this: its types are read into a table,
-/// which serves for all these steps, since they leave what is declared as it is, but for right sides.
+/// Takes steps in the definitions of the first of some modules until none applies in any of them, where the outlines of the modules declare this, and these are the places of their
+/// definitions: what is kept of them serves for all these steps, since they leave what is declared as it is, but for right sides.
 #[tactic(auto, using(crate::proofs::First::same_rules))]
 fn settle_among(
     alloc: Global,
     modules: &mut [NModule],
     declared: &Declarations<'_>,
+    places: &DefinitionPlaces<'_>,
     log: &mut Seq<Entry>,
 ) -> Result<(), Memory>
     requires fits { FirstFits (nmodules_of modules.old) }
     requires declared { modules_of declared.now ≡ decls_at (outlined_all (nmodules_of modules.old)) }
+    requires places { HasPlaces (outlined_all (nmodules_of modules.old)) places.now }
     ensures continues { Continues (nmodules_of modules.old) (nmodules_of modules.new) log.old log.new }
     ensures settled { OnOk result (AllSettled (nmodules_of modules.new)) }
 {
@@ -62,13 +67,17 @@ fn settle_among(
     let firsts = firsts_of(alloc, &*modules)?;
     let mut types = TypeTable::new(alloc, &*declared);
     let read = DeclaredTypes::new(alloc, &*declared, &mut types)?;
+    let headers = Headers {
+        declared: &read,
+        places: &*places,
+    };
     settle_rounds(
         alloc,
         modules,
         firsts.as_slice(),
         spare,
         &mut types,
-        &read,
+        &headers,
         log,
     )
 }
@@ -86,7 +95,8 @@ fn settle_definitions(
 {
     let outlined = outlines(alloc, &*modules)?;
     let declared = Declarations::new(alloc, outlined.as_slice())?;
-    settle_among(alloc, modules, &declared, log)
+    let places = DefinitionPlaces::new(alloc, outlined.as_slice())?;
+    settle_among(alloc, modules, &declared, &places, log)
 }
 
 /// Simplifies the first of some modules; the others are those that it imports, as their interfaces tell them. Rows of the rewrite table are taken, shrinking and commuting ones, until

@@ -2,11 +2,12 @@
 ghost use Rattle.std.specs.Prelude.{◌≡◌, IfOk, IsFalse, OnOk};
 ghost use Rattle.fc_model.specs.NamelessView.{nmodules_of};
 ghost use Rattle.fc_type_table.specs.TypeTables.{Grows};
-ghost use Rattle.fc_simplify.specs.Phase.{AllSettled, AreSettled, Continues, FirstDefines, FirstHasSpare, FirstsAre, HaveHeaders, IsSettled, KeepsHeaders};
+ghost use Rattle.fc_row_at_place.specs.Sites.{AreHeaders};
+ghost use Rattle.fc_simplify.specs.Phase.{AllSettled, AreSettled, Continues, FirstDefines, FirstHasSpare, FirstsAre, IsSettled, KeepsHeaders};
 
 use crate::taking::take_next;
-use fc_lint_context::DeclaredTypes;
 use fc_log::Entry;
+use fc_row_at_place::Headers;
 use fc_syntax::{Memory, NModule, Seq};
 use fc_type_table::TypeTable;
 use std::alloc::Global;
@@ -29,12 +30,12 @@ fn settle(
     number: usize,
     spare: u32,
     types: &mut TypeTable,
-    declared: &DeclaredTypes<'_>,
+    headers: &Headers<'_>,
     log: &mut Seq<Entry>,
 ) -> Result<Settled, Memory>
     requires first { FirstDefines number (nmodules_of modules.old) }
     requires spare { FirstHasSpare spare (nmodules_of modules.old) }
-    requires headers { HaveHeaders types.old declared.now (nmodules_of modules.old) }
+    requires headers { AreHeaders types.old headers.now (nmodules_of modules.old) }
     ensures continues { Continues (nmodules_of modules.old) (nmodules_of modules.new) log.old log.new }
     ensures keeps { KeepsHeaders (nmodules_of modules.old) (nmodules_of modules.new) }
     ensures grows { OnOk result (Grows types.old types.new) }
@@ -55,7 +56,7 @@ fn settle(
             from.as_slice(),
             settled.spare,
             types,
-            declared,
+            headers,
             log,
         )?;
         match went {
@@ -81,12 +82,12 @@ fn settle_all(
     firsts: &[bool],
     spare: u32,
     types: &mut TypeTable,
-    declared: &DeclaredTypes<'_>,
+    headers: &Headers<'_>,
     log: &mut Seq<Entry>,
 ) -> Result<Settled, Memory>
     requires firsts { FirstsAre firsts.now (nmodules_of modules.old) }
     requires spare { FirstHasSpare spare (nmodules_of modules.old) }
-    requires headers { HaveHeaders types.old declared.now (nmodules_of modules.old) }
+    requires headers { AreHeaders types.old headers.now (nmodules_of modules.old) }
     ensures continues { Continues (nmodules_of modules.old) (nmodules_of modules.new) log.old log.new }
     ensures keeps { OnOk result (KeepsHeaders (nmodules_of modules.old) (nmodules_of modules.new)) }
     ensures grows { OnOk result (Grows types.old types.new) }
@@ -100,7 +101,7 @@ fn settle_all(
     };
     for (number, first) in firsts.iter().enumerate() {
         if *first {
-            let one = settle(alloc, modules, number, all.spare, types, declared, log)?;
+            let one = settle(alloc, modules, number, all.spare, types, headers, log)?;
             all = Settled {
                 spare: one.spare,
                 stepped: all.stepped || one.stepped,
@@ -118,18 +119,18 @@ pub(crate) fn settle_rounds(
     firsts: &[bool],
     spare: u32,
     types: &mut TypeTable,
-    declared: &DeclaredTypes<'_>,
+    headers: &Headers<'_>,
     log: &mut Seq<Entry>,
 ) -> Result<(), Memory>
     requires firsts { FirstsAre firsts.now (nmodules_of modules.old) }
     requires spare { FirstHasSpare spare (nmodules_of modules.old) }
-    requires headers { HaveHeaders types.old declared.now (nmodules_of modules.old) }
+    requires headers { AreHeaders types.old headers.now (nmodules_of modules.old) }
     ensures continues { Continues (nmodules_of modules.old) (nmodules_of modules.new) log.old log.new }
     ensures settled { OnOk result (AllSettled (nmodules_of modules.new)) }
 {
     let mut spare = spare;
     for _ in 0..u64::MAX {
-        let settled = settle_all(alloc, modules, firsts, spare, types, declared, log)?;
+        let settled = settle_all(alloc, modules, firsts, spare, types, headers, log)?;
         if !settled.stepped {
             return Ok(());
         }

@@ -9,7 +9,7 @@ use fc_syntax::{Memory, Place, Seq, Text, part};
 use std::alloc::Global;
 
 /// Puts numbers behind others.
-fn add_all(numbers: &[u32], path: &mut Seq<u32>) -> Result<(), Memory>
+pub(crate) fn add_all(numbers: &[u32], path: &mut Seq<u32>) -> Result<(), Memory>
     ensures { OnOk result (path.new ≡ path.old ++ numbers.now) }
 {
     for number in numbers {

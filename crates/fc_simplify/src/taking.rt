@@ -1,20 +1,25 @@
 //! One step in a definition.
-ghost use Rattle.std.specs.Prelude.{◌≡◌, [], ◌∷◌, IfErr, IfOk, IfSome, None, OnOk};
+ghost use Rattle.std.specs.Prelude.{◌≡◌, [], ◌∷◌, ◌++◌, IfErr, IfOk, IfSome, None, OnErr, OnOk};
 ghost use Rattle.std.specs.Option.{option_map};
 ghost use Rattle.fc_syntax.specs.View.{decl_of, expr_of};
 ghost use Rattle.fc_model.specs.NamelessView.{ndecl_of, nexpr_of, nmodules_of};
 ghost use Rattle.fc_places.specs.Places.{answered};
 ghost use Rattle.fc_apply.specs.Definitions.{HasDecl, exchanged_in_decl, right_side as spec_right_side};
+ghost use Rattle.fc_log.specs.declared.log.Entry.TheVariants.{Step as stepped};
 ghost use Rattle.fc_type_table.specs.TypeTables.{Grows};
-ghost use Rattle.fc_simplify.specs.Phase.{Continues, FirstDefines, FirstHasSpare, HaveHeaders, IsSettled, KeepsHeaders};
+ghost use Rattle.fc_row_at_place.specs.Sites.{AreHeaders};
+ghost use Rattle.fc_simplify.specs.Phase.{Continues, FirstDefines, FirstHasSpare, IsSettled, KeepsHeaders};
+ghost use Rattle.fc_simplify.specs.Steps.{lines_of};
 ghost use Rattle.fc_simplify.specs.Taking.{IsNext, IsNowhere, IsPut, word_of};
 
+use crate::lines::with_steps;
+use crate::runs::with_run;
 use crate::steps::step_of;
-use fc_lint_context::DeclaredTypes;
 use fc_log::{Entry, Step};
 use fc_nameless_measures::measures_of_expr;
 use fc_numbers::sum;
 use fc_places::exchange;
+use fc_row_at_place::Headers;
 use fc_row_search::{Applying, Search, first_row_in};
 use fc_syntax::{Memory, NDecl, NExpr, NModule, Seq, Text};
 use fc_type_table::TypeTable;
@@ -54,10 +59,10 @@ fn next_step(
     from: &[u32],
     spare: u32,
     types: &mut TypeTable,
-    declared: &DeclaredTypes<'_>,
+    headers: &Headers<'_>,
 ) -> Result<Option<(Applying, Step)>, Memory>
     requires number { HasDecl number modules.now }
-    requires headers { HaveHeaders types.old declared.now (nmodules_of modules.now) }
+    requires headers { AreHeaders types.old headers.now (nmodules_of modules.now) }
     ensures some { IfOk result (λ o. IfSome o (λ f. IsNext spare number f.0 f.1 (nmodules_of modules.now))) }
     ensures none { from.now ≡ [] → IfOk result (λ o. o ≡ None → IsSettled spare number (nmodules_of modules.now)) }
     ensures grows { OnOk result (Grows types.old types.new) }
@@ -69,7 +74,7 @@ fn next_step(
     let search = Search {
         right,
         modules,
-        declared: &*declared,
+        headers: &*headers,
         spare,
     };
     match first_row_in(alloc, &search, from, ROOM, types)? {
@@ -108,9 +113,25 @@ fn put_in_first(
     put_in(first.decls.at_mut(number), place, by)
 }
 
+/// Puts a step into a log, and so many times more. Where memory runs out, the log is as before.
+fn put_lines(alloc: Global, step: Step, count: u32, log: &mut Seq<Entry>) -> Result<(), Memory>
+    ensures ok { OnOk result (log.new ≡ log.old ++ (lines_of count step ++ stepped step ∷ [])) }
+    ensures err { OnErr result (log.new ≡ log.old) }
+{
+    if count == 0 {
+        log.push(Entry::Step(step))?;
+        return Ok(());
+    }
+    let mut lines = with_steps(alloc, log.as_slice(), &step, count)?;
+    lines.push(Entry::Step(step))?;
+    *log = lines;
+    Ok(())
+}
+
 /// Takes the next row that applies in the definition of a number, from a place on, and answers where; none where none is found, and then nothing has changed. The step is in the log
-/// before what the row made is in its place, so that the lines of the log always replay to what stands. The table has the types of what is declared; where this does not fail, it has
-/// only grown. Fails as `first_row_in` does, and where a size has no 32 bits.
+/// before what the row made is in its place, so that the lines of the log always replay to what stands. Where a let-atom is taken, the lets of atoms that then stand there one in the
+/// other are taken with it, a line each, where that is better. The table has the types of what is declared; where this does not fail, it has only grown. Fails as `first_row_in` and
+/// `let_atoms` do, and where a size has no 32 bits.
 #[tactic(auto, using(crate::proofs::First::same_rules))]
 pub(crate) fn take_next(
     alloc: Global,
@@ -119,12 +140,12 @@ pub(crate) fn take_next(
     from: &[u32],
     spare: u32,
     types: &mut TypeTable,
-    declared: &DeclaredTypes<'_>,
+    headers: &Headers<'_>,
     log: &mut Seq<Entry>,
 ) -> Result<Option<Went>, Memory>
     requires first { FirstDefines number (nmodules_of modules.old) }
     requires spare { FirstHasSpare spare (nmodules_of modules.old) }
-    requires headers { HaveHeaders types.old declared.now (nmodules_of modules.old) }
+    requires headers { AreHeaders types.old headers.now (nmodules_of modules.old) }
     ensures continues { Continues (nmodules_of modules.old) (nmodules_of modules.new) log.old log.new }
     ensures keeps { KeepsHeaders (nmodules_of modules.old) (nmodules_of modules.new) }
     ensures grows { OnOk result (Grows types.old types.new) }
@@ -132,14 +153,20 @@ pub(crate) fn take_next(
     ensures unchanged { IfOk result (λ o. o ≡ None → modules.new ≡ modules.old) }
     ensures settled { from.now ≡ [] → IfOk result (λ o. o ≡ None → IsSettled spare number (nmodules_of modules.old)) }
 {
-    let Some((found, step)) = next_step(alloc, &*modules, number, from, spare, types, declared)?
+    let Some((found, step)) = next_step(alloc, &*modules, number, from, spare, types, headers)?
     else {
         return Ok(None);
     };
-    let Applying { place, new, .. } = found;
-    let made = measures_of_expr(&new)?;
-    log.push(Entry::Step(step))?;
-    let Ok(old) = put_in_first(modules, number, place.as_slice(), new) else {
+    let Applying {
+        row,
+        place,
+        new,
+        ..
+    } = found;
+    let run = with_run(alloc, row, new, log.len())?;
+    let made = measures_of_expr(&run.new)?;
+    put_lines(alloc, step, run.count, log)?;
+    let Ok(old) = put_in_first(modules, number, place.as_slice(), run.new) else {
         return Ok(None);
     };
     let was = measures_of_expr(&old)?;

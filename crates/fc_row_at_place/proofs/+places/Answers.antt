@@ -76,7 +76,7 @@ alternatives::row_past_branch-row_at-requires t c =
     let entered = subst (λ ks. IsEntered ns ks bs c.args.entered.now) (sym outer.ensures.scope) c.requires.entered_in in
     let valid = outer.ensures.valid ns at.over.valid c.requires.ty_in in (
       omega arith,
-      behind x _ refl (inner.ensures.declared ∙ outer.ensures.declared) _ refl types types at (Grows-refl types) (λ k. with_binders bs (with_value (nty_of c.args.branch.now.ty.now) k))
+      behind x _ refl refl (inner.ensures.declared ∙ outer.ensures.declared) _ refl types types at (Grows-refl types) (λ k. with_binders bs (with_value (nty_of c.args.branch.now.ty.now) k))
           (inner.ensures.valid ns bs entered valid)
           (inner.ensures.view ns bs entered valid ∙ ap (with_binders bs) (outer.ensures.view ns ∙ ap (λ u. with_value u (context_in types x.context.now)) c.requires.ty))
           (c.requires.own, at.counts)
@@ -96,7 +96,7 @@ binders::row_past_binders-row_at-requires t c =
     let at = c.requires.site in
     let inner = c.behind_binders-context in (
       omega arith,
-      behind x _ refl inner.ensures.declared _ refl types types at (Grows-refl types) (with_binders bs)
+      behind x _ refl refl inner.ensures.declared _ refl types types at (Grows-refl types) (with_binders bs)
           (inner.ensures.valid ns bs c.requires.entered_in at.over.valid)
           (inner.ensures.view ns bs c.requires.entered_in at.over.valid)
           (c.in_ok-own.ensures, at.counts)
@@ -114,7 +114,7 @@ groups::row_behind_bindings-row_at-requires t c =
     let here = sym c.as_slice.ensures in
     let inner = c.behind_binds-context in (
       omega arith,
-      behind x _ refl inner.ensures.declared _ refl first last c.requires grows (with_binds bs)
+      behind x _ refl refl inner.ensures.declared _ refl first last c.requires grows (with_binds bs)
           (inner.ensures.valid (nodes_of last) (stays first last x.context.now grows c.requires.over).valid (subst (λ ids. AreTypesAt (nodes_of last) ks ids) here c.in_ok-ids.ensures.valid))
           (inner.ensures.view (nodes_of last) bs (subst (λ ids. shown_all_at (nodes_of last) ks ids ≡ bind_types bs) here c.in_ok-ids.ensures.all))
           c.requires.counts
@@ -137,7 +137,7 @@ groups::row_behind_points-row_at-requires t c =
     let here = sym c.as_slice.ensures in
     let inner = c.behind_joins-context in (
       omega arith,
-      behind x _ refl inner.ensures.declared _ refl first last c.requires grows (with_joins ty js)
+      behind x _ refl refl inner.ensures.declared _ refl first last c.requires grows (with_joins ty js)
           (inner.ensures.valid (nodes_of last) (stays first last x.context.now grows c.requires.over).valid (subst (λ ps. AreJoinsAt (nodes_of last) ks ps) here c.in_ok-joins.ensures.valid))
           (inner.ensures.view (nodes_of last) ty js
           (subst (λ ps. shown_joins_at (nodes_of last) ks ps ≡ join_points ty js) here (c.in_ok-joins.ensures.all ∙ ap (λ u. join_points u js) c.in_ok-answer.ensures.view)))
@@ -190,7 +190,7 @@ groups::row_of_member-row_of_binding-requires t c =
     let here = sym c.as_slice.ensures in
     let inner = c.behind_binds-context in (
       omega arith,
-      behind x _ refl inner.ensures.declared _ refl first last c.requires grows (with_binds bs)
+      behind x _ refl refl inner.ensures.declared _ refl first last c.requires grows (with_binds bs)
           (inner.ensures.valid (nodes_of last) (stays first last x.context.now grows c.requires.over).valid (subst (λ ids. AreTypesAt (nodes_of last) ks ids) here c.in_ok-ids.ensures.valid))
           (inner.ensures.view (nodes_of last) bs (subst (λ ids. shown_all_at (nodes_of last) ks ids ≡ bind_types bs) here c.in_ok-ids.ensures.all))
           c.requires.counts
@@ -213,7 +213,7 @@ groups::row_of_recursive_point-row_of_point-requires t c =
     let here = sym c.as_slice.ensures in
     let inner = c.behind_joins-context in (
       omega arith,
-      behind x _ refl inner.ensures.declared _ refl first last c.requires grows (with_joins ty js)
+      behind x _ refl refl inner.ensures.declared _ refl first last c.requires grows (with_joins ty js)
           (inner.ensures.valid (nodes_of last) (stays first last x.context.now grows c.requires.over).valid (subst (λ ps. AreJoinsAt (nodes_of last) ks ps) here c.in_ok-joins.ensures.valid))
           (inner.ensures.view (nodes_of last) ty js
           (subst (λ ps. shown_joins_at (nodes_of last) ks ps ≡ join_points ty js) here (c.in_ok-joins.ensures.all ∙ ap (λ u. join_points u js) c.in_ok-answer.ensures.view)))

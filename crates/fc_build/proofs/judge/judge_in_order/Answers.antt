@@ -23,7 +23,7 @@ returns-in-Ok-clause-ready c =
     let forms : nmodules_of c.in-Ok.forms.items ≡ nameless_forms (filter_map (slice_get ms) c.args.order) = search rules in
     let in_order = picked ms c.args.order (build_order ms) c.requires.order in
     record {
-      ready = record { formed = c.requires.formed; lints = subst SetLints in_order says };
+      ready = record { formed = c.requires.formed; within = c.requires.within; lints = subst SetLints in_order says };
       order = c.requires.order;
       forms = subst (λ k. nmodules_of c.in-Ok.forms.items ≡ nameless_forms k) in_order forms;
     }

@@ -4,6 +4,7 @@ use Rattle.std.proofs.lemmas.List.Elements.{All-push}
 use Rattle.fc_syntax.specs.View.{module_of}
 use Rattle.fc_model.specs.Formed.{IsFormed}
 use Rattle.fc_load.specs.Answers.{IsAmong}
+use Rattle.fc_load.specs.Loading.{IsWithinReadLimits}
 use Rattle.fc_load.proofs.NextFile.{all_read, among_at, reached_next, read_next, refused_next}
 use Rattle.fc_load.proofs.loading.load.Goals as goal
 
@@ -26,6 +27,7 @@ loop-name-preserved g c =
       so_far = read_next (λ s. s.now) c.args.names.now c.loop-name.name-index _ _ _ _ _ _ _ _ c.loop-name-test.true c.loop-name.invariant.held modules c.loop-name.invariant.so_far c.in-Module.ensures.answer;
       count = rw (modules, length-append, c.loop-name.invariant.count);
       formed = rw modules (All-push IsFormed _ _ c.loop-name.invariant.formed c.in-Module.ensures.formed);
+      limits = rw modules (All-push IsWithinReadLimits _ _ c.loop-name.invariant.limits c.in-Module.ensures.limits);
     }
 
 pub returns-clause-answer : goal.returns-clause-answer

@@ -3,6 +3,7 @@ use Rattle.std.specs.List.{All}
 use Rattle.fc_syntax.specs.View.{module_of}
 use Rattle.fc_model.specs.Formed.{IsFormed}
 use Rattle.fc_load.specs.Amounts.{amount_of}
+use Rattle.fc_load.specs.Loading.{IsWithinReadLimits}
 use Rattle.fc_load.proofs.SoFar.{IsSoFar}
 use Rattle.fc_load.proofs.loading.load.Given as goal
 
@@ -14,4 +15,5 @@ invariant-loop-name g l = record {
   so_far : IfSome (g.F.Files.held l.initial.files) (λ m. IsSoFar m (amount_of l.read) (take l.name-index (map (λ s. s.now) l.names)) (map module_of l.modules.items));
   count : length (map module_of l.modules.items) ≡ l.name-index;
   formed : All IsFormed (map module_of l.modules.items);
+  limits : All IsWithinReadLimits (map module_of l.modules.items);
 }

@@ -10,7 +10,7 @@ named-requires c =
     let read = nmodule_of c.args.form in
     let left = nmodule_of c.in_ok-left.left in
     let written = nmodule_of c.in_ok-written.written in
-    let is = is_replay order before read left written c.in_ok-name.name c.in_ok-left.entries c.requires.built.formed c.in_ok-name.ensures c.in_ok-left.ensures c.in_ok-written.ensures.form in
+    let is = is_replay order before read left written c.in_ok-name.name c.in_ok-left.entries c.requires.built.formed c.requires.built.within c.in_ok-name.ensures c.in_ok-left.ensures c.in_ok-written.ensures.form in
     c.requires.built.writable _ written is.replay
 
 pub returns : goal.returns
@@ -20,7 +20,7 @@ returns c =
     let read = nmodule_of c.args.form in
     let left = nmodule_of c.in_ok-left.left in
     let written = nmodule_of c.in_ok-written.written in
-    let is = is_replay order before read left written c.in_ok-name.name c.in_ok-left.entries c.requires.built.formed c.in_ok-name.ensures c.in_ok-left.ensures c.in_ok-written.ensures.form in
+    let is = is_replay order before read left written c.in_ok-name.name c.in_ok-left.entries c.requires.built.formed c.requires.built.within c.in_ok-name.ensures c.in_ok-left.ensures c.in_ok-written.ensures.form in
     record {
       made = record {
         form = written;

@@ -8,7 +8,7 @@ use Rattle.fc_simplify.proofs.settling.settle.Goals as goal
 
 pub take_next-requires-clause-headers : goal.take_next-requires-clause-headers
 take_next-requires-clause-headers c =
-    headers_stay c.args.types.now c.loop.types c.args.declared.now (nmodules_of c.args.modules.now) (nmodules_of c.loop.modules) c.loop.invariant.grows c.loop.invariant.keeps c.requires.headers
+    headers_stay c.args.types.now c.loop.types c.args.headers.now (nmodules_of c.args.modules.now) (nmodules_of c.loop.modules) c.loop.invariant.grows c.loop.invariant.keeps c.requires.headers
 
 pub returns-in_err-went-clause-continues : goal.returns-in_err-went-clause-continues
 returns-in_err-went-clause-continues c =

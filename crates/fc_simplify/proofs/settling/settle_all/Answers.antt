@@ -13,7 +13,7 @@ settle-requires-clause-first c =
 
 pub settle-requires-clause-headers : goal.settle-requires-clause-headers
 settle-requires-clause-headers c =
-    headers_stay c.args.types.now c.loop-number.types c.args.declared.now (nmodules_of c.args.modules.now) (nmodules_of c.loop-number.modules) c.loop-number.invariant.grows
+    headers_stay c.args.types.now c.loop-number.types c.args.headers.now (nmodules_of c.args.modules.now) (nmodules_of c.loop-number.modules) c.loop-number.invariant.grows
     c.loop-number.invariant.keeps c.requires.headers
 
 pub returns-in_err-one-clause-continues : goal.returns-in_err-one-clause-continues

@@ -13,7 +13,7 @@ settle_all-requires-clause-firsts c = firsts_kept c.args.firsts.now (nmodules_of
 
 pub settle_all-requires-clause-headers : goal.settle_all-requires-clause-headers
 settle_all-requires-clause-headers c =
-    headers_stay c.args.types.now c.loop.types c.args.declared.now (nmodules_of c.args.modules.now) (nmodules_of c.loop.modules) c.loop.invariant.grows c.loop.invariant.keeps c.requires.headers
+    headers_stay c.args.types.now c.loop.types c.args.headers.now (nmodules_of c.args.modules.now) (nmodules_of c.loop.modules) c.loop.invariant.grows c.loop.invariant.keeps c.requires.headers
 
 pub returns-in_err-settled-clause-continues : goal.returns-in_err-settled-clause-continues
 returns-in_err-settled-clause-continues c =

@@ -20,67 +20,67 @@ pub returns-in_default-put_in_first-clause-continues : goal.returns-in_default-p
 returns-in_default-put_in_first-clause-continues c =
     let next : IsNext c.args.spare c.args.number c.in-Some.found c.in-Some.step (nmodules_of c.args.modules.now) = search rules in
     let place : c.as_slice.result.now ≡ c.in-Some.found.place.items = search rules in
-    absurd (not_nowhere_at c.args.spare c.args.number c.in-Some.found c.in-Some.step c.as_slice.result.now c.args.modules.now place next c.in_default-put_in_first.ensures.nowhere)
+    absurd (not_nowhere_at c.args.spare c.args.number c.in-Some.found c.in-Some.step (expr_of c.in_ok-run.run'.new) c.as_slice.result.now c.args.modules.now place next c.in_default-put_in_first.ensures.nowhere)
 
 pub returns-in_default-put_in_first-clause-keeps : goal.returns-in_default-put_in_first-clause-keeps
 returns-in_default-put_in_first-clause-keeps c =
     let next : IsNext c.args.spare c.args.number c.in-Some.found c.in-Some.step (nmodules_of c.args.modules.now) = search rules in
     let place : c.as_slice.result.now ≡ c.in-Some.found.place.items = search rules in
-    absurd (not_nowhere_at c.args.spare c.args.number c.in-Some.found c.in-Some.step c.as_slice.result.now c.args.modules.now place next c.in_default-put_in_first.ensures.nowhere)
+    absurd (not_nowhere_at c.args.spare c.args.number c.in-Some.found c.in-Some.step (expr_of c.in_ok-run.run'.new) c.as_slice.result.now c.args.modules.now place next c.in_default-put_in_first.ensures.nowhere)
 
 pub returns-in_default-put_in_first-clause-unchanged : goal.returns-in_default-put_in_first-clause-unchanged
 returns-in_default-put_in_first-clause-unchanged c = λ none.
     let next : IsNext c.args.spare c.args.number c.in-Some.found c.in-Some.step (nmodules_of c.args.modules.now) = search rules in
     let place : c.as_slice.result.now ≡ c.in-Some.found.place.items = search rules in
-    absurd (not_nowhere_at c.args.spare c.args.number c.in-Some.found c.in-Some.step c.as_slice.result.now c.args.modules.now place next c.in_default-put_in_first.ensures.nowhere)
+    absurd (not_nowhere_at c.args.spare c.args.number c.in-Some.found c.in-Some.step (expr_of c.in_ok-run.run'.new) c.as_slice.result.now c.args.modules.now place next c.in_default-put_in_first.ensures.nowhere)
 
 pub returns-in_default-put_in_first-clause-settled : goal.returns-in_default-put_in_first-clause-settled
 returns-in_default-put_in_first-clause-settled c = λ whole none.
     let next : IsNext c.args.spare c.args.number c.in-Some.found c.in-Some.step (nmodules_of c.args.modules.now) = search rules in
     let place : c.as_slice.result.now ≡ c.in-Some.found.place.items = search rules in
-    absurd (not_nowhere_at c.args.spare c.args.number c.in-Some.found c.in-Some.step c.as_slice.result.now c.args.modules.now place next c.in_default-put_in_first.ensures.nowhere)
+    absurd (not_nowhere_at c.args.spare c.args.number c.in-Some.found c.in-Some.step (expr_of c.in_ok-run.run'.new) c.as_slice.result.now c.args.modules.now place next c.in_default-put_in_first.ensures.nowhere)
 
 -- what was put is right
 pub returns-in_err-was-clause-continues : goal.returns-in_err-was-clause-continues
 returns-in_err-was-clause-continues c =
     let next : IsNext c.args.spare c.args.number c.in-Some.found c.in-Some.step (nmodules_of c.args.modules.now) = search rules in
     let place : c.as_slice.result.now ≡ c.in-Some.found.place.items = search rules in
-    let step = taken_at c.args.spare c.args.number c.in-Some.found c.in-Some.step (expr_of c.in-Ok.old) c.as_slice.result.now c.args.modules.now c.put_in_first.new.modules place c.requires.first c.requires.spare next c.in-Ok.ensures.put in
-    subst (Continues (nmodules_of c.args.modules.now) (nmodules_of c.put_in_first.new.modules) c.args.log.now) (sym c.in_ok-push.ensures.ok) (step.continues c.args.log.now)
+    let step = taken_at c.args.spare c.args.number c.in-Some.found c.in-Some.step (expr_of c.in_ok-run.run'.new) (expr_of c.in-Ok.old) c.in_ok-run.run'.count c.as_slice.result.now c.args.modules.now c.put_in_first.new.modules place c.requires.first c.requires.spare next c.in_ok-run.ensures c.in-Ok.ensures.put in
+    subst (Continues (nmodules_of c.args.modules.now) (nmodules_of c.put_in_first.new.modules) c.args.log.now) (sym c.in_ok-put_lines.ensures.ok) (step.continues c.args.log.now)
 
 pub returns-in_err-was-clause-keeps : goal.returns-in_err-was-clause-keeps
 returns-in_err-was-clause-keeps c =
     let next : IsNext c.args.spare c.args.number c.in-Some.found c.in-Some.step (nmodules_of c.args.modules.now) = search rules in
     let place : c.as_slice.result.now ≡ c.in-Some.found.place.items = search rules in
-    let step = taken_at c.args.spare c.args.number c.in-Some.found c.in-Some.step (expr_of c.in-Ok.old) c.as_slice.result.now c.args.modules.now c.put_in_first.new.modules place c.requires.first c.requires.spare next c.in-Ok.ensures.put in
+    let step = taken_at c.args.spare c.args.number c.in-Some.found c.in-Some.step (expr_of c.in_ok-run.run'.new) (expr_of c.in-Ok.old) c.in_ok-run.run'.count c.as_slice.result.now c.args.modules.now c.put_in_first.new.modules place c.requires.first c.requires.spare next c.in_ok-run.ensures c.in-Ok.ensures.put in
     step.keeps
 
 pub returns-in_err-spare-clause-continues : goal.returns-in_err-spare-clause-continues
 returns-in_err-spare-clause-continues c =
     let next : IsNext c.args.spare c.args.number c.in-Some.found c.in-Some.step (nmodules_of c.args.modules.now) = search rules in
     let place : c.as_slice.result.now ≡ c.in-Some.found.place.items = search rules in
-    let step = taken_at c.args.spare c.args.number c.in-Some.found c.in-Some.step (expr_of c.in-Ok.old) c.as_slice.result.now c.args.modules.now c.put_in_first.new.modules place c.requires.first c.requires.spare next c.in-Ok.ensures.put in
-    subst (Continues (nmodules_of c.args.modules.now) (nmodules_of c.put_in_first.new.modules) c.args.log.now) (sym c.in_ok-push.ensures.ok) (step.continues c.args.log.now)
+    let step = taken_at c.args.spare c.args.number c.in-Some.found c.in-Some.step (expr_of c.in_ok-run.run'.new) (expr_of c.in-Ok.old) c.in_ok-run.run'.count c.as_slice.result.now c.args.modules.now c.put_in_first.new.modules place c.requires.first c.requires.spare next c.in_ok-run.ensures c.in-Ok.ensures.put in
+    subst (Continues (nmodules_of c.args.modules.now) (nmodules_of c.put_in_first.new.modules) c.args.log.now) (sym c.in_ok-put_lines.ensures.ok) (step.continues c.args.log.now)
 
 pub returns-in_err-spare-clause-keeps : goal.returns-in_err-spare-clause-keeps
 returns-in_err-spare-clause-keeps c =
     let next : IsNext c.args.spare c.args.number c.in-Some.found c.in-Some.step (nmodules_of c.args.modules.now) = search rules in
     let place : c.as_slice.result.now ≡ c.in-Some.found.place.items = search rules in
-    let step = taken_at c.args.spare c.args.number c.in-Some.found c.in-Some.step (expr_of c.in-Ok.old) c.as_slice.result.now c.args.modules.now c.put_in_first.new.modules place c.requires.first c.requires.spare next c.in-Ok.ensures.put in
+    let step = taken_at c.args.spare c.args.number c.in-Some.found c.in-Some.step (expr_of c.in_ok-run.run'.new) (expr_of c.in-Ok.old) c.in_ok-run.run'.count c.as_slice.result.now c.args.modules.now c.put_in_first.new.modules place c.requires.first c.requires.spare next c.in_ok-run.ensures c.in-Ok.ensures.put in
     step.keeps
 
 pub returns-clause-continues : goal.returns-clause-continues
 returns-clause-continues c =
     let next : IsNext c.args.spare c.args.number c.in-Some.found c.in-Some.step (nmodules_of c.args.modules.now) = search rules in
     let place : c.as_slice.result.now ≡ c.in-Some.found.place.items = search rules in
-    let step = taken_at c.args.spare c.args.number c.in-Some.found c.in-Some.step (expr_of c.in-Ok.old) c.as_slice.result.now c.args.modules.now c.put_in_first.new.modules place c.requires.first c.requires.spare next c.in-Ok.ensures.put in
-    subst (Continues (nmodules_of c.args.modules.now) (nmodules_of c.put_in_first.new.modules) c.args.log.now) (sym c.in_ok-push.ensures.ok) (step.continues c.args.log.now)
+    let step = taken_at c.args.spare c.args.number c.in-Some.found c.in-Some.step (expr_of c.in_ok-run.run'.new) (expr_of c.in-Ok.old) c.in_ok-run.run'.count c.as_slice.result.now c.args.modules.now c.put_in_first.new.modules place c.requires.first c.requires.spare next c.in_ok-run.ensures c.in-Ok.ensures.put in
+    subst (Continues (nmodules_of c.args.modules.now) (nmodules_of c.put_in_first.new.modules) c.args.log.now) (sym c.in_ok-put_lines.ensures.ok) (step.continues c.args.log.now)
 
 pub returns-clause-keeps : goal.returns-clause-keeps
 returns-clause-keeps c =
     let next : IsNext c.args.spare c.args.number c.in-Some.found c.in-Some.step (nmodules_of c.args.modules.now) = search rules in
     let place : c.as_slice.result.now ≡ c.in-Some.found.place.items = search rules in
-    let step = taken_at c.args.spare c.args.number c.in-Some.found c.in-Some.step (expr_of c.in-Ok.old) c.as_slice.result.now c.args.modules.now c.put_in_first.new.modules place c.requires.first c.requires.spare next c.in-Ok.ensures.put in
+    let step = taken_at c.args.spare c.args.number c.in-Some.found c.in-Some.step (expr_of c.in_ok-run.run'.new) (expr_of c.in-Ok.old) c.in_ok-run.run'.count c.as_slice.result.now c.args.modules.now c.put_in_first.new.modules place c.requires.first c.requires.spare next c.in_ok-run.ensures c.in-Ok.ensures.put in
     step.keeps
 
 -- sizes are those that were measured
@@ -88,9 +88,9 @@ pub overflow_sub-spare : goal.overflow_sub-spare
 overflow_sub-spare c =
     let next : IsNext c.args.spare c.args.number c.in-Some.found c.in-Some.step (nmodules_of c.args.modules.now) = search rules in
     let place : c.as_slice.result.now ≡ c.in-Some.found.place.items = search rules in
-    let step = taken_at c.args.spare c.args.number c.in-Some.found c.in-Some.step (expr_of c.in-Ok.old) c.as_slice.result.now c.args.modules.now c.put_in_first.new.modules place c.requires.first c.requires.spare next c.in-Ok.ensures.put in
+    let step = taken_at c.args.spare c.args.number c.in-Some.found c.in-Some.step (expr_of c.in_ok-run.run'.new) (expr_of c.in-Ok.old) c.in_ok-run.run'.count c.as_slice.result.now c.args.modules.now c.put_in_first.new.modules place c.requires.first c.requires.spare next c.in_ok-run.ensures c.in-Ok.ensures.put in
     let was : c.in_ok-was.was'.size ≡ nexpr_size (bare_expr (expr_of c.in-Ok.old)) = c.in_ok-was.ensures.size ∙ (expr_same (expr_of c.in-Ok.old)).0 in
-    let made : c.in_ok-made.made.size ≡ nexpr_size (nexpr_of c.in-Some.found.new) = c.in_ok-made.ensures.size ∙ (expr_same (expr_of c.in-Some.found.new)).0 in
+    let made : c.in_ok-made.made.size ≡ nexpr_size (nexpr_of c.in_ok-run.run'.new) = c.in_ok-made.ensures.size ∙ (expr_same (expr_of c.in_ok-run.run'.new)).0 in
     let sum : c.in_ok-spare.field-0 ≡ c.args.spare + c.in_ok-was.was'.size = search rules in
     omega (arith, step.left, was, made, sum)
 
@@ -98,8 +98,8 @@ pub returns-clause-spare : goal.returns-clause-spare
 returns-clause-spare c =
     let next : IsNext c.args.spare c.args.number c.in-Some.found c.in-Some.step (nmodules_of c.args.modules.now) = search rules in
     let place : c.as_slice.result.now ≡ c.in-Some.found.place.items = search rules in
-    let step = taken_at c.args.spare c.args.number c.in-Some.found c.in-Some.step (expr_of c.in-Ok.old) c.as_slice.result.now c.args.modules.now c.put_in_first.new.modules place c.requires.first c.requires.spare next c.in-Ok.ensures.put in
+    let step = taken_at c.args.spare c.args.number c.in-Some.found c.in-Some.step (expr_of c.in_ok-run.run'.new) (expr_of c.in-Ok.old) c.in_ok-run.run'.count c.as_slice.result.now c.args.modules.now c.put_in_first.new.modules place c.requires.first c.requires.spare next c.in_ok-run.ensures c.in-Ok.ensures.put in
     let was : c.in_ok-was.was'.size ≡ nexpr_size (bare_expr (expr_of c.in-Ok.old)) = c.in_ok-was.ensures.size ∙ (expr_same (expr_of c.in-Ok.old)).0 in
-    let made : c.in_ok-made.made.size ≡ nexpr_size (nexpr_of c.in-Some.found.new) = c.in_ok-made.ensures.size ∙ (expr_same (expr_of c.in-Some.found.new)).0 in
+    let made : c.in_ok-made.made.size ≡ nexpr_size (nexpr_of c.in_ok-run.run'.new) = c.in_ok-made.ensures.size ∙ (expr_same (expr_of c.in_ok-run.run'.new)).0 in
     let sum : c.in_ok-spare.field-0 ≡ c.args.spare + c.in_ok-was.was'.size = search rules in
     step.spare_then (c.in_ok-spare.field-0 - c.in_ok-made.made.size) (omega (arith, step.left, was, made, sum))

@@ -1,3 +1,0 @@
-pub mod KeptWords
-mod LowerWords
-mod Lists

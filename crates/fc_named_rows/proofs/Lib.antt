@@ -1,0 +1,2 @@
+pub mod FormsSoFar
+pub mod OfTheFirst

@@ -1,0 +1,2 @@
+pub mod AsLarge
+pub mod WithinLimits
