@@ -5,7 +5,7 @@ and node of the definition in which the step is taken, since a step copies what 
 a body of many variables, where each binds the variable of the one before; the same, where the body uses all of them; definitions of 450 lets that are used once, of a case of a constructor
 below 450 lets that stay, and of a lambda of 225 arguments; definitions that nothing needs, in a chain; a group of recursive binds, to which no row applies; definitions each with an applied
 lambda, with a cast between equal types, with a case of a name that is known, and with one of a name of which nothing is known; a case whose alternatives are dead; definitions, and binds of a
-group, each of which is known as soon as the one behind it is, so that all of them are searched for each step; and binds each of which is known as soon as the one before it is, for
+group, each of which is known as soon as the one behind it is, so that all binds are searched for each step; and binds each of which is known as soon as the one before it is, for
 comparison. It takes some minutes. Run it from anywhere, on a machine where the program is built (`./coreopt build examples/Shapes.fc`), or with another program as its only word."""
 import os
 import re

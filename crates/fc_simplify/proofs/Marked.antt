@@ -1,5 +1,5 @@
 -- Definitions that are marked, one after the other.
-use Rattle.std.proofs.Common.{◌≡◌, ◌+◌, ◌<◌, ◌≤◌, ℕ, zero, suc, Bool, true, false, nat_eq, List, [], ◌∷◌, length, Some, refl, sym, ap, ◌∙◌, arith, subst}
+use Rattle.std.proofs.Common.{◌≡◌, ◌+◌, ◌<◌, ◌≤◌, ℕ, zero, suc, Bool, true, false, nat_eq, List, [], ◌∷◌, ◌++◌, length, Some, refl, sym, ap, ◌∙◌, arith, subst}
 use Rattle.std.specs.Prelude.{slice_get, slice_index_or}
 use Rattle.std.proofs.lemmas.Option.{none-some, same_Some}
 use Rattle.fc_syntax.specs.declared.module.Module as RustModule
@@ -25,6 +25,20 @@ mark_below (m ∷ marks) (suc i) b is = omega (arith, mark_below marks i b is)
 -- what is marked is the first definition of a word, also where words were kept
 pub defines_first : (ms ks : List NModule) (marks : List Bool) (i : ℕ) → FirstsAre marks ms → KeepsWords ms ks → i < length marks → slice_index_or marks i false ≡ true → FirstDefines i ks
 defines_first ms ks marks i are keeps below is = first_kept i ms ks keeps ((are i).0 (mark_is marks i true below is))
+
+-- so is what stands among marks as marked
+pub first_among : (ms ks : List NModule) (marks : List Bool) (i : ℕ) → FirstsAre marks ms → KeepsWords ms ks → slice_get marks i ≡ Some true → FirstDefines i ks
+first_among ms ks marks i are keeps is = first_kept i ms ks keeps ((are i).0 is)
+
+-- a list with one item more is not empty
+pub never_empty : (xs : List ℕ) (x : ℕ) → xs ++ x ∷ [] ≡ [] → ⊥
+never_empty [] x is = cc
+never_empty (y ∷ xs) x is = cc
+
+-- and one of no length is
+pub none_of : (xs : List ℕ) → length xs ≡ 0 → xs ≡ []
+none_of [] is = refl
+none_of (x ∷ xs) is = absurd (omega (arith, is))
 
 -- ONE MORE
 

@@ -8,5 +8,6 @@ mod runs;
 mod settling;
 mod steps;
 mod taking;
+mod waiting;
 
 pub use rounds::simplify;

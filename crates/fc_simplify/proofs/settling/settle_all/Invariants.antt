@@ -1,4 +1,4 @@
-use Rattle.std.proofs.Common.{◌≡◌, ◌<◌, ℕ, IsFalse, true, Some}
+use Rattle.std.proofs.Common.{◌≡◌, ◌<◌, ℕ, [], true, Some}
 use Rattle.std.specs.Prelude.{slice_get}
 use Rattle.fc_model.specs.NamelessView.{nmodules_of}
 use Rattle.fc_type_table.specs.TypeTables.{Grows}
@@ -11,7 +11,7 @@ invariant-loop-number l = record {
   continues : Continues (nmodules_of l.fn.modules) (nmodules_of l.modules) l.fn.log l.log;
   keeps : KeepsHeaders (nmodules_of l.fn.modules) (nmodules_of l.modules);
   grows : Grows l.fn.types l.types;
-  spare : FirstHasSpare l.all.spare (nmodules_of l.modules);
-  unchanged : IsFalse l.all.stepped → (l.modules ≡ l.fn.modules) × (l.all.spare ≡ l.spare);
-  settled : IsFalse l.all.stepped → (i : ℕ) → i < l.number → slice_get l.firsts i ≡ Some true → IsSettled l.spare i (nmodules_of l.fn.modules);
+  spare : FirstHasSpare l.left (nmodules_of l.modules);
+  unchanged : l.changed.items ≡ [] → (l.modules ≡ l.fn.modules) × (l.left ≡ l.spare);
+  settled : l.changed.items ≡ [] → (i : ℕ) → i < l.number → slice_get l.firsts i ≡ Some true → IsSettled l.spare i (nmodules_of l.fn.modules);
 }
